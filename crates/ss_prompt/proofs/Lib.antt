@@ -6,3 +6,7 @@ pub mod Refusals
 pub mod Batches
 pub mod Kepts
 pub mod Besides
+pub mod SameRuns
+pub mod Lents
+pub mod SourceLines
+pub mod Others

@@ -39,9 +39,13 @@ display_said s x = display_text s.displays (asked x)
 abbrev pub display_next : PromptState → Question → PromptState
 display_next s x = with_displays s (displays_with s.displays x)
 
+-- that no question is answered at stops any more, and how many were
+abbrev pub cleared_text : List Question → List ℕ
+cleared_text displays = codes "DISPLAYS CLEARED: " ++ decimal (length displays) ++ 10 ∷ []
+
 -- what UNDISPLAY answers
 abbrev pub undisplay_said : PromptState → List ℕ
-undisplay_said s = codes "DISPLAYS CLEARED: " ++ decimal (length s.displays) ++ 10 ∷ []
+undisplay_said s = cleared_text s.displays
 
 -- the state behind it
 abbrev pub undisplay_next : PromptState → PromptState

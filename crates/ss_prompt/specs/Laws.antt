@@ -1,5 +1,5 @@
 -- Laws of the prompt, in other words than those of its definitions.
-use Rattle.std.specs.Prelude.{ℕ, ◌≡◌, List, [], ◌∷◌, ◌++◌, map, ⊤}
+use Rattle.std.specs.Prelude.{ℕ, ◌≡◌, false, List, [], ◌∷◌, ◌++◌, map, ⊤, None}
 use Rattle.ss_debug.specs.declared.commands.Command.{Command}
 use Rattle.ss_debug.specs.declared.commands.Command.TheVariants.{Bad}
 use Rattle.ss_debug.specs.CommandLines.{command_lines}
@@ -9,7 +9,9 @@ use Rattle.ss_debug.specs.Turn.{DebuggerState, answer, debugger_state_after, deb
 use Rattle.ss_console.specs.Dialogue.{answered, state_after_all}
 use Rattle.ss_console.specs.Lines.{lines, kept}
 use Rattle.ss_console.specs.Laws.{answers}
+use Rattle.ss_prompt.specs.declared.commands.PromptCommand.{PromptCommand}
 use Rattle.ss_prompt.specs.declared.commands.PromptCommand.TheVariants.{Plain}
+use Rattle.ss_prompt.specs.Points.{is_movement, point_of}
 use Rattle.ss_prompt.specs.Reading.{prompt_command_of}
 use Rattle.ss_prompt.specs.PromptState.{PromptState}
 use Rattle.ss_prompt.specs.Prompting.{prompt_answer, prompt_state_after, prompting}
@@ -68,3 +70,15 @@ abbrev pub PlainTextsAnswerTheBatch : Type 0
 PlainTextsAnswerTheBatch =
     (s : PromptState) (text : List ℕ) → ArePlain (command_lines text) →
     AnswersFirst s.input s.debugger (obeyed_lines (command_lines text)) (answers prompting s (map kept (lines text)))
+
+-- a command that names no line of the model leaves the break lines as they are
+abbrev pub OthersLeaveTheBreakLines : Type 0
+OthersLeaveTheBreakLines =
+    (s : PromptState) (command : PromptCommand) → point_of s.input.program command ≡ None →
+    (prompt_state_after s command).debugger.breaks ≡ s.debugger.breaks
+
+-- one that is no movement leaves the debugger at its position
+abbrev pub OthersStandStill : Type 0
+OthersStandStill =
+    (s : PromptState) (command : PromptCommand) → is_movement command ≡ false →
+    (prompt_state_after s command).debugger.position ≡ s.debugger.position

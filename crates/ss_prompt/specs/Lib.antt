@@ -17,5 +17,6 @@ pub mod Breaks
 pub mod Displays
 pub mod Histories
 pub mod Help
+pub mod Points
 pub mod Prompting
 pub mod Laws

@@ -7,7 +7,7 @@ use Rattle.ss_debug.specs.Answer.{state_line}
 use Rattle.ss_debug.specs.Move.{line_at}
 use Rattle.ss_debug.specs.Turn.{DebuggerState}
 use Rattle.ss_debug.specs.View.{DebuggerView, debugger_state_of}
-use Rattle.ss_prompt.specs.Source.{marked_line}
+use Rattle.ss_prompt.specs.Source.{source_lines, marked_line}
 use Rattle.ss_prompt.specs.Names.{warnings_told}
 use Rattle.ss_faults.specs.Sentence.{fault_text}
 
@@ -33,6 +33,27 @@ prompt_state_of d model lines displays = record {
   debugger = debugger_state_of d;
   displays = displays;
 }
+
+-- what the prompt keeps beside a debugger
+pub record PromptDeskView : Type 0 where
+  -- the bytes of the model
+  pub model : List ℕ
+  -- the lines of the model
+  pub lines : List (List ℕ)
+  -- the questions that are answered at each stop
+  pub displays : List Question
+
+-- the same desk, with other questions
+abbrev pub with_questions : PromptDeskView → List Question → PromptDeskView
+with_questions k displays = record { model = k.model; lines = k.lines; displays = displays }
+
+-- what a debugger and a desk stand for
+abbrev pub state_at : DebuggerView → PromptDeskView → PromptState
+state_at d k = prompt_state_of d k.model k.lines k.displays
+
+-- what a debugger that is lent stands for, in the run of a model, with these questions
+abbrev pub lent_state : DebuggerView → List ℕ → List Question → PromptState
+lent_state d model displays = prompt_state_of d model (source_lines model) displays
 
 -- the same, with the debugger in another state
 abbrev pub with_debugger : PromptState → DebuggerState → PromptState
@@ -68,8 +89,8 @@ abbrev pub place_text : PromptState → List ℕ
 place_text s =
     fault_told s.input s.debugger.position ++ source_line s ++ answers_to s.input s.debugger.position s.displays
 
--- what is told at a terminal before the first line: that HELP tells the commands, what the model is warned of, and where
--- the debugger stands
+-- what is told at a terminal before the first line: that HELP tells the commands, what the model is warned of, and
+-- where the debugger stands
 abbrev pub greeting : PromptState → List ℕ
 greeting s =
     codes "HELP TELLS THE COMMANDS.\n" ++ warnings_told s.input.program s.model

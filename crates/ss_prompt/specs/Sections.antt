@@ -31,6 +31,11 @@ last_line p n = spot_line (spot_at p n (length (places_of (slice_get p.sections 
 abbrev pub command_on : (ℕ → Command) → ℕ → Command
 command_on make line = if nat_le line LAST_BREAK_LINE then make line else Bad
 
+-- a line, if BREAK and CLEAR take it
+abbrev pub taken_line : Option ℕ → Option ℕ
+taken_line None = None
+taken_line (Some line) = if nat_le line LAST_BREAK_LINE then Some line else None
+
 -- the line of the first place of the section of this name
 abbrev pub line_of_section : ProgramTable → List ℕ → Option ℕ
 line_of_section p name = option_map (first_line p) (section_named p name)

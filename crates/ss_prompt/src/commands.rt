@@ -1,6 +1,11 @@
 //! What a line of the prompt says.
+ghost use Rattle.std.specs.Prelude.{◌≡◌};
+ghost use Rattle.ss_prompt.specs.Sections.{line_of_section, taken_line};
+
+use crate::sections::{LAST_BREAK_LINE, line_of_section};
 use crate::sight::Sight;
 use ss_debug::{Command, Name};
+use ss_program::Program;
 use ss_trace::{Movement, Question};
 
 /// A command of the prompt (docs/PROMPT.md).
@@ -40,4 +45,42 @@ pub enum PromptCommand {
     Warnings,
     /// HELP: the commands, or those that begin with this word.
     Help(Option<Name>),
+}
+
+impl PromptCommand {
+    ghost use Rattle.ss_prompt.specs.Points.{is_movement, point_of};
+
+    /// Whether it moves the debugger to another state of the run.
+    pub fn is_movement(&self) -> bool
+        ensures { result ≡ is_movement self.now }
+    {
+        matches!(
+            self,
+            PromptCommand::Plain(Command::Move(_)) | PromptCommand::Travel(_)
+        )
+    }
+
+    /// The line that it makes a break line, or no break line any more, where it does one of these.
+    pub fn point(&self, program: &Program) -> Option<u32>
+        ensures { result ≡ point_of program.now self.now }
+    {
+        match self {
+            PromptCommand::Plain(Command::Break(line)) => Some(*line),
+            PromptCommand::Plain(Command::Clear(line)) => Some(*line),
+            PromptCommand::BreakSection(name) => point_in(program, name.as_slice()),
+            PromptCommand::ClearSection(name) => point_in(program, name.as_slice()),
+            _ => None,
+        }
+    }
+}
+
+/// The line of the first place of the section of this name, if BREAK and CLEAR take it.
+fn point_in(program: &Program, name: &[u8]) -> Option<u32>
+    ensures { result ≡ taken_line (line_of_section program.now name.now) }
+{
+    let line = line_of_section(program, name)?;
+    if line > LAST_BREAK_LINE as usize {
+        return None;
+    }
+    Some(line as u32)
 }

@@ -1,9 +1,10 @@
 //! Questions that are answered at each stop.
-ghost use Rattle.std.specs.Prelude.{◌≡◌, ◌++◌, ◌∷◌, [], length, codes, decimal, OnOk, OnErr, IfOk};
+ghost use Rattle.std.specs.Prelude.{◌≡◌, ◌++◌, [], OnOk, OnErr, IfOk};
 ghost use Rattle.ss_machine.specs.Moment.{position};
 ghost use Rattle.ss_trace.specs.Question.{asked};
 ghost use Rattle.ss_prompt.specs.PromptState.{answers_to};
 ghost use Rattle.ss_prompt.specs.Displays.{is_among, displays_with, display_text, display_set};
+ghost use Rattle.ss_prompt.specs.Displays.{cleared_text};
 
 use itoa::Buffer;
 use ss_debug::Debugger;
@@ -76,8 +77,8 @@ pub(crate) fn undisplay(
     answer: &mut Vec<u8>,
 ) -> Result<(), AllocError>
     ensures displays { OnOk result (displays.new.items ≡ []) }
-    ensures said { OnOk result (answer.new.items ≡ answer.old.items
-        ++ codes "DISPLAYS CLEARED: " ++ decimal (length displays.old.items) ++ 10 ∷ []) }
+    ensures said { OnOk result (answer.new.items
+        ≡ answer.old.items ++ cleared_text displays.old.items) }
     ensures memory { OnErr result (displays.new.items ≡ displays.old.items) }
 {
     let mut buffer = Buffer::new();

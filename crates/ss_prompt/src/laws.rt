@@ -1,6 +1,7 @@
 //! Laws on the definitions. Each function does nothing, and its contract says the law.
 ghost use Rattle.ss_prompt.specs.Laws.{PlainLinesStay, PlainAnswersComeFirst};
 ghost use Rattle.ss_prompt.specs.Laws.{PlainLinesAnswerTheBatch, PlainLinesLeadAsTheBatch};
+ghost use Rattle.ss_prompt.specs.Laws.{OthersLeaveTheBreakLines, OthersStandStill};
 ghost use Rattle.ss_prompt.specs.Laws.{LinesAreThoseOfTheBatch, KeptLinesSayTheSame, PlainTextsAnswerTheBatch};
 
 /// A line that is a command of docs/DEBUGGER.md is that command at the prompt.
@@ -26,4 +27,11 @@ pub fn plain_texts_answer_the_batch()
     ensures lines { LinesAreThoseOfTheBatch }
     ensures kept { KeptLinesSayTheSame }
     ensures answers { PlainTextsAnswerTheBatch }
+{}
+
+/// A command that is no movement leaves the debugger at its position, and one that names no line of
+/// the model leaves the break lines as they are.
+pub fn other_commands_leave_the_debugger()
+    ensures breaks { OthersLeaveTheBreakLines }
+    ensures position { OthersStandStill }
 {}

@@ -6,10 +6,12 @@ mod break_list;
 mod commands;
 mod completions;
 mod cuts;
+mod desk;
 mod displays;
 mod help;
 mod histories;
 mod laws;
+mod lent;
 mod line;
 mod listing;
 mod names;
@@ -26,10 +28,11 @@ mod stops;
 pub use commands::PromptCommand;
 pub use completions::push_completions;
 pub use laws::{
-    plain_answers_come_first, plain_lines_answer_the_batch, plain_lines_stay,
-    plain_texts_answer_the_batch,
+    other_commands_leave_the_debugger, plain_answers_come_first, plain_lines_answer_the_batch,
+    plain_lines_stay, plain_texts_answer_the_batch,
 };
+pub use lent::answer_command;
 pub use prompt::Prompt;
 pub use read::prompt_command;
 pub use sight::Sight;
-pub use source::push_marked_line;
+pub use source::{push_marked_line, source_lines};

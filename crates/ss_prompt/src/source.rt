@@ -1,9 +1,34 @@
 //! The lines of the model.
-ghost use Rattle.std.specs.Prelude.{◌≡◌, ◌++◌, map, OnOk};
-ghost use Rattle.ss_prompt.specs.Source.{line_text, marked_line};
+ghost use Rattle.std.specs.Prelude.{◌≡◌, ◌++◌, map, OnOk, IfOk};
+ghost use Rattle.ss_prompt.specs.Source.{without_return, source_lines, line_text, marked_line};
 
 use itoa::Buffer;
-use std::alloc::AllocError;
+use ss_debug::split_line;
+use std::alloc::{AllocError, Global};
+
+/// A line without the carriage return at its end.
+fn without_return(line: &[u8]) -> &[u8]
+    ensures { result.now ≡ without_return line.now }
+{
+    if !line.is_empty() && line[line.len() - 1] == b'\r' {
+        return &line[..line.len() - 1];
+    }
+    line
+}
+
+/// The lines of a model, so that each is found at once.
+pub fn source_lines<'a>(alloc: Global, model: &'a [u8]) -> Result<Vec<&'a [u8]>, AllocError>
+    ensures { IfOk result (λ lines. map (λ line. line.now) lines.items ≡ source_lines model.now) }
+{
+    let mut lines = Vec::new(alloc);
+    let mut rest = model;
+    while !rest.is_empty() {
+        let (line, more) = split_line(rest);
+        lines.push(without_return(line))?;
+        rest = more;
+    }
+    Ok(lines)
+}
 
 /// Line `number` of the model, the first of which is line 1; nothing where there is none.
 fn line_text<'a>(lines: &[&'a [u8]], number: usize) -> &'a [u8]

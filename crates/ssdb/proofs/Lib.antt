@@ -1,2 +1,1 @@
-pub mod SourceLines
 pub mod Openings

@@ -12,7 +12,7 @@ use Rattle.ssdb.specs.declared.end.PromptFault.{PromptFault}
 use Rattle.ssdb.specs.declared.end.PromptFault.TheVariants.{Refused, Cut, Memory}
 use Rattle.ssdb.specs.Refused.{IsRefusalWritten}
 use Rattle.ssdb.specs.Seen.{Seen, seen}
-use Rattle.ssdb.specs.Source.{source_lines}
+use Rattle.ss_prompt.specs.Source.{source_lines}
 use Rattle.ssdb.specs.Opening.{greeted, end_of_status, IsStart, EndsWell, HoldFails, HoldsFrom, StopsFrom}
 use Rattle.ssdb.specs.Opening.{GreetingFails, IsHeld, IsStopped}
 
@@ -28,8 +28,11 @@ pub starts : (model data_text : List ℕ) (d : DebuggerView) (lines : List (List
     from ≡ prompt_state_of d model lines [] → IsOutcome model (accepted d.machine.input.program) →
     d.machine.input ≡ input_with d.machine.input.program data_text →
     debugger_state_of d ≡ initial_debugger_state → lines ≡ source_lines model → IsStart model data_text from
-starts model data_text d lines from e o i s l = rw e
-    (d.machine.input.program, o, same_state model lines (source_lines model) d.machine.input _ (debugger_state_of d) _ l i s)
+starts model data_text d lines from e o i s l = rw e (
+  d.machine.input.program,
+  o,
+  same_state model lines (source_lines model) d.machine.input _ (debugger_state_of d) _ l i s,
+)
 
 -- the parts of a dialogue
 pub holds : (from to : PromptState) (c : Seen) (told : Option (List Event)) (end : PromptEnd) →

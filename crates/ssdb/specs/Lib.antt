@@ -1,4 +1,3 @@
-pub mod Source
 pub mod Seen
 pub mod Refused
 pub mod Completion

@@ -18,7 +18,7 @@ use Rattle.ssdb.specs.declared.end.PromptFault.{PromptFault}
 use Rattle.ssdb.specs.declared.end.PromptFault.TheVariants.{Cut, Memory}
 use Rattle.ssdb.specs.Refused.{IsRefusalWritten}
 use Rattle.ssdb.specs.Seen.{Seen}
-use Rattle.ssdb.specs.Source.{source_lines}
+use Rattle.ss_prompt.specs.Source.{source_lines}
 
 -- what is told before the first line: at a terminal a greeting
 abbrev pub greeted : Bool → PromptState → List ℕ

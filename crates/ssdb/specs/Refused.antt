@@ -16,7 +16,7 @@ use Rattle.ss_names.specs.Subjects.{breach_text}
 use Rattle.ss_prompt.specs.Source.{marked_line}
 use Rattle.ssdb.specs.declared.end.PromptFault.{PromptFault}
 use Rattle.ssdb.specs.declared.end.PromptFault.TheVariants.{Refused, Cut, Memory}
-use Rattle.ssdb.specs.Source.{source_lines}
+use Rattle.ss_prompt.specs.Source.{source_lines}
 use Rattle.ssdb.specs.Seen.{Seen}
 
 -- whether a sentence has a blank for a word of the model: a brace (123)

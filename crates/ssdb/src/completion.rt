@@ -5,9 +5,8 @@ ghost use Rattle.ssdb.specs.Seen.{seen};
 
 use crate::end::{PromptEnd, PromptFault};
 use crate::refused::refuse;
-use crate::source::source_lines;
 use ss_console::{Console, Cut, put_all};
-use ss_prompt::push_completions;
+use ss_prompt::{push_completions, source_lines};
 use ss_session::{drop_program, load_program};
 use std::alloc::Global;
 

@@ -9,7 +9,6 @@ mod completion;
 mod end;
 mod opening;
 mod refused;
-mod source;
 mod words;
 
 use clap::Error;

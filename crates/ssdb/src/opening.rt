@@ -11,11 +11,10 @@ ghost use Rattle.ssdb.specs.Seen.{seen};
 
 use crate::end::{PromptEnd, PromptFault};
 use crate::refused::refuse;
-use crate::source::source_lines;
 use ss_console::{Console, Cut, LINE_LIMIT, converse, put_all};
 use ss_links::SetBoard;
 use ss_machine::Status;
-use ss_prompt::Prompt;
+use ss_prompt::{Prompt, source_lines};
 use ss_session::open_debugger;
 use std::alloc::Global;
 
@@ -117,7 +116,7 @@ fn greet_and_hold<S: SetBoard, C: Console>(
         Ok(()) => hold(alloc, &mut prompt, line, console),
         Err(fault) => Err(fault),
     };
-    drop(prompt);
+    prompt.close();
     ended
 }
 

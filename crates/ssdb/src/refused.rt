@@ -4,7 +4,7 @@ ghost use Rattle.ss_sentences.specs.Wording.{rule_sentence};
 ghost use Rattle.ss_session.specs.Load.{IsLoadFault};
 ghost use Rattle.ssdb.specs.Refused.{has_blank, rule_line, refused_model_text, IsTextTold, IsTold};
 ghost use Rattle.ssdb.specs.Refused.{IsRefusalWritten};
-ghost use Rattle.ssdb.specs.Source.{source_lines};
+ghost use Rattle.ss_prompt.specs.Source.{source_lines};
 ghost use Rattle.ssdb.specs.Seen.{seen};
 
 use crate::end::PromptFault;

@@ -1,6 +1,6 @@
 use Rattle.std.proofs.Common.{◌≡◌, ◌++◌, length, map}
-use Rattle.ssdb.specs.Source.{source_lines}
-use Rattle.ssdb.proofs.source.source_lines.Given as goal
+use Rattle.ss_prompt.specs.Source.{source_lines}
+use Rattle.ss_prompt.proofs.source.source_lines.Given as goal
 
 abbrev pub invariant-loop-rest : goal.invariant-loop-rest
 invariant-loop-rest l =

@@ -1,7 +1,7 @@
 use Rattle.std.proofs.Common.{◌<◌, length, map, rules, ◌∙◌, ap}
 use Rattle.std.proofs.lemmas.List.{map_push}
-use Rattle.ssdb.proofs.SourceLines.{line_taken, all_taken}
-use Rattle.ssdb.proofs.source.source_lines.Goals as goal
+use Rattle.ss_prompt.proofs.SourceLines.{line_taken, all_taken}
+use Rattle.ss_prompt.proofs.source.source_lines.Goals as goal
 
 pub loop-rest-preserved : goal.loop-rest-preserved
 loop-rest-preserved c =

@@ -1,0 +1,110 @@
+-- What commands leave as it is.
+use Rattle.std.proofs.Common.{◌≡◌, ℕ, Bool, true, false, nat_le, Option, Some, None, refl}
+use Rattle.ss_debug.specs.Turn.{debugger_state_after}
+use Rattle.ss_debug.specs.declared.commands.Command.{Command}
+use Rattle.ss_debug.specs.declared.commands.Command.TheVariants as plain
+use Rattle.ss_prompt.specs.declared.commands.PromptCommand.{PromptCommand}
+use Rattle.ss_prompt.specs.declared.commands.PromptCommand.TheVariants as prompt
+use Rattle.ss_prompt.specs.declared.sections.TheConstants.{LAST_BREAK_LINE}
+use Rattle.ss_prompt.specs.Laws.{OthersLeaveTheBreakLines, OthersStandStill}
+use Rattle.ss_prompt.specs.Points.{is_movement, point_of}
+use Rattle.ss_prompt.specs.Prompting.{prompt_state_after}
+use Rattle.ss_prompt.specs.PromptState.{PromptState}
+use Rattle.ss_prompt.specs.Sections.{command_on, taken_line, line_of_section, on_line_next}
+
+-- ---- the break lines
+
+plain_breaks : (s : PromptState) (command : Command) → point_of s.input.program (prompt.Plain command) ≡ None →
+    (debugger_state_after s.input s.debugger command).breaks ≡ s.debugger.breaks
+unfolding debugger_state_after
+plain_breaks s plain.Blank h = refl
+plain_breaks s plain.Bad h = refl
+plain_breaks s (plain.Move movement) h = refl
+plain_breaks s (plain.Break line) h = absurd (cc)
+plain_breaks s (plain.Clear line) h = absurd (cc)
+plain_breaks s (plain.Forget count) h = refl
+plain_breaks s (plain.Show question) h = refl
+plain_breaks s plain.Quit h = refl
+
+-- BREAK or CLEAR of a line that they don't take
+untaken : (s : PromptState) (make : ℕ → Command) (line : ℕ) (taken : Bool) → nat_le line LAST_BREAK_LINE ≡ taken →
+    taken_line (Some line) ≡ None →
+    (debugger_state_after s.input s.debugger (command_on make line)).breaks ≡ s.debugger.breaks
+unfolding debugger_state_after
+untaken s make line true e h = let some : Some line ≡ None = rw e at h in absurd (cc)
+untaken s make line false e h = rw e refl
+
+on_line : (s : PromptState) (make : ℕ → Command) (line : Option ℕ) → taken_line line ≡ None →
+    (on_line_next s make line).debugger.breaks ≡ s.debugger.breaks
+on_line s make None h = refl
+on_line s make (Some line) h = untaken s make line (nat_le line LAST_BREAK_LINE) refl h
+
+pub breaks : OthersLeaveTheBreakLines
+unfolding prompt_state_after
+breaks s (prompt.Plain command) h = plain_breaks s command h
+breaks s (prompt.Travel movement) h = refl
+breaks s (prompt.Lines line) h = refl
+breaks s (prompt.SectionLines name) h = refl
+breaks s (prompt.BreakSection name) h = on_line s plain.Break (line_of_section s.input.program name) h
+breaks s (prompt.ClearSection name) h = on_line s plain.Clear (line_of_section s.input.program name) h
+breaks s prompt.Breaks h = refl
+breaks s (prompt.Ask question) h = refl
+breaks s (prompt.See sight) h = refl
+breaks s prompt.Changed h = refl
+breaks s (prompt.Why question) h = refl
+breaks s (prompt.History question rows) h = refl
+breaks s (prompt.Display question) h = refl
+breaks s prompt.Undisplay h = refl
+breaks s (prompt.Names name) h = refl
+breaks s prompt.Warnings h = refl
+breaks s (prompt.Help word) h = refl
+
+-- ---- the position
+
+plain_position : (s : PromptState) (command : Command) → is_movement (prompt.Plain command) ≡ false →
+    (debugger_state_after s.input s.debugger command).position ≡ s.debugger.position
+unfolding debugger_state_after
+plain_position s plain.Blank h = refl
+plain_position s plain.Bad h = refl
+plain_position s (plain.Move movement) h = absurd (cc)
+plain_position s (plain.Break line) h = refl
+plain_position s (plain.Clear line) h = refl
+plain_position s (plain.Forget count) h = refl
+plain_position s (plain.Show question) h = refl
+plain_position s plain.Quit h = refl
+
+line_position : (s : PromptState) (make : ℕ → Command) (line : ℕ) (taken : Bool) →
+    nat_le line LAST_BREAK_LINE ≡ taken →
+    ((l : ℕ) → (debugger_state_after s.input s.debugger (make l)).position ≡ s.debugger.position) →
+    (debugger_state_after s.input s.debugger (command_on make line)).position ≡ s.debugger.position
+unfolding debugger_state_after
+line_position s make line true e h = rw e (h line)
+line_position s make line false e h = rw e refl
+
+stands_on : (s : PromptState) (make : ℕ → Command) (line : Option ℕ) →
+    ((l : ℕ) → (debugger_state_after s.input s.debugger (make l)).position ≡ s.debugger.position) →
+    (on_line_next s make line).debugger.position ≡ s.debugger.position
+stands_on s make None h = refl
+stands_on s make (Some line) h = line_position s make line (nat_le line LAST_BREAK_LINE) refl h
+
+pub position : OthersStandStill
+unfolding prompt_state_after
+position s (prompt.Plain command) h = plain_position s command h
+position s (prompt.Travel movement) h = absurd (cc)
+position s (prompt.Lines line) h = refl
+position s (prompt.SectionLines name) h = refl
+position s (prompt.BreakSection name) h =
+    stands_on s plain.Break (line_of_section s.input.program name) (λ l. plain_position s (plain.Break l) refl)
+position s (prompt.ClearSection name) h =
+    stands_on s plain.Clear (line_of_section s.input.program name) (λ l. plain_position s (plain.Clear l) refl)
+position s prompt.Breaks h = refl
+position s (prompt.Ask question) h = refl
+position s (prompt.See sight) h = refl
+position s prompt.Changed h = refl
+position s (prompt.Why question) h = refl
+position s (prompt.History question rows) h = refl
+position s (prompt.Display question) h = refl
+position s prompt.Undisplay h = refl
+position s (prompt.Names name) h = refl
+position s prompt.Warnings h = refl
+position s (prompt.Help word) h = refl

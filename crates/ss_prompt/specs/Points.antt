@@ -1,0 +1,21 @@
+-- Which commands move the debugger, and of which line they make a break line or none.
+use Rattle.std.specs.Prelude.{ℕ, Bool, true, false, Option, Some, None}
+use Rattle.ss_program.specs.Program.{ProgramTable}
+use Rattle.ss_debug.specs.declared.commands.Command.TheVariants.{Move, Break, Clear}
+use Rattle.ss_prompt.specs.declared.commands.PromptCommand.{PromptCommand}
+use Rattle.ss_prompt.specs.declared.commands.PromptCommand.TheVariants.{Plain, Travel, BreakSection, ClearSection}
+use Rattle.ss_prompt.specs.Sections.{line_of_section, taken_line}
+
+-- whether a command moves the debugger to another state of the run
+abbrev pub is_movement : PromptCommand → Bool
+is_movement (Plain (Move m)) = true
+is_movement (Travel m) = true
+is_movement _ = false
+
+-- the line that a command makes a break line, or no break line any more
+abbrev pub point_of : ProgramTable → PromptCommand → Option ℕ
+point_of p (Plain (Break line)) = Some line
+point_of p (Plain (Clear line)) = Some line
+point_of p (BreakSection name) = taken_line (line_of_section p name)
+point_of p (ClearSection name) = taken_line (line_of_section p name)
+point_of p _ = None

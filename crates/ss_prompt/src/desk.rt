@@ -1,0 +1,399 @@
+//! What the prompt keeps beside a debugger: with a debugger that is lent it obeys commands.
+ghost use Rattle.std.specs.Prelude.{◌≡◌, ◌++◌, [], map, OnOk, OnErr, IfOk, IsOk, true};
+ghost use Rattle.ss_console.specs.Going.{go_of};
+ghost use Rattle.ss_machine.specs.Moment.{position};
+ghost use Rattle.ss_debug.specs.Answer.{state_line};
+ghost use Rattle.ss_debug.specs.Turn.{is_quit as is_plain_quit};
+ghost use Rattle.ss_trace.specs.Question.{asked};
+ghost use Rattle.ss_prompt.specs.PromptState.{state_at, with_questions, fault_told, source_line};
+ghost use Rattle.ss_prompt.specs.PromptState.{place_text, greeting};
+ghost use Rattle.ss_prompt.specs.Stops.{changes_told, stop_text, changed_said, HasLookedBeside};
+ghost use Rattle.ss_prompt.specs.Plain.{plain_next, plain_said, IsPlainRefused};
+ghost use Rattle.ss_prompt.specs.Travel.{travel_next, travel_said, IsTravelRefused};
+ghost use Rattle.ss_prompt.specs.Sights.{sight_said};
+ghost use Rattle.ss_prompt.specs.Histories.{why_said, history_said, HasLookedBack};
+ghost use Rattle.ss_prompt.specs.Names.{warnings_told};
+ghost use Rattle.ss_prompt.specs.Displays.{displays_with, display_text, cleared_text};
+ghost use Rattle.ss_prompt.specs.Prompting.{prompt_answer, prompt_state_after, IsRefused, is_quit};
+
+mod model;
+
+use crate::commands::PromptCommand;
+use crate::displays::{display, push_answers, undisplay};
+use crate::help::push_help;
+use crate::names::push_all_warnings;
+use crate::sections::present_line;
+use crate::seeing::push_sight;
+use crate::sight::Sight;
+use crate::source::push_marked_line;
+use crate::stops::{goes_back, travels_back};
+use ss_changes::{push_changed, push_stop_changes, push_stop_changes_ahead};
+use ss_console::Go;
+use ss_debug::{Command, Debugger, Question as PlainQuestion, obey};
+use ss_faults::push_fault_sentence;
+use ss_links::SetBoard;
+use ss_trace::{Movement, Question, make_movement, push_answer, push_history, push_why};
+use std::alloc::{AllocError, Global};
+use std::marker::Model;
+use std::mem::swap;
+
+/// What the prompt keeps beside a debugger: the model, the lines of that, and the questions that are
+/// answered at each stop.
+#[derive(Drop)]
+pub(crate) struct PromptDesk<'a> {
+    model: &'a [u8],
+    lines: Vec<&'a [u8]>,
+    displays: Vec<Question>,
+    alloc: Global,
+}
+
+impl<'a> Model for PromptDesk<'a> {
+    ghost use Rattle.std.specs.Prelude.{map};
+    ghost use Rattle.ss_prompt.specs.PromptState.{PromptDeskView};
+
+    ghost Value = { PromptDeskView };
+
+    ghost view = { λ k. record {
+      model = k.model.now;
+      lines = map (λ l. l.now) k.lines.items;
+      displays = k.displays.items;
+    } };
+}
+
+/// Appends the state line.
+fn push_place<S: SetBoard>(debugger: &Debugger<S>, text: &mut Vec<u8>) -> Result<(), AllocError>
+    ensures { OnOk result (text.new.items ≡ text.old.items
+        ++ state_line debugger.now.machine.input (position debugger.now.machine)) }
+{
+    let place = debugger.answer_to(&PlainQuestion::Where)?;
+    text.extend_from_slice(&place)
+}
+
+impl<'a> PromptDesk<'a> {
+    /// The desk for a model with these lines; no question is answered at stops.
+    pub fn new(alloc: Global, model: &'a [u8], lines: Vec<&'a [u8]>) -> Self
+        ensures { result ≡ record {
+          model = model.now;
+          lines = map (λ l. l.now) lines.entry.items;
+          displays = [];
+        } }
+    {
+        PromptDesk {
+            model,
+            lines,
+            displays: Vec::new(alloc),
+            alloc,
+        }
+    }
+
+    /// Takes other questions that are answered at each stop, and gives its own for them.
+    pub fn swap_displays(&mut self, displays: &mut Vec<Question>)
+        ensures taken { self.new ≡ with_questions self.old displays.old.items }
+        ensures given { displays.new.items ≡ self.old.displays }
+    {
+        swap(&mut self.displays, displays);
+    }
+
+    /// Appends what the fault means, where the state is faulted, and the line of the model.
+    fn push_source<S: SetBoard>(
+        &self,
+        debugger: &Debugger<S>,
+        answer: &mut Vec<u8>,
+    ) -> Result<(), AllocError>
+        ensures { OnOk result (answer.new.items ≡ answer.old.items
+            ++ fault_told debugger.now.machine.input (position debugger.now.machine)
+            ++ source_line (state_at debugger.now self.now)) }
+    {
+        let machine = debugger.machine();
+        machine.known();
+        push_fault_sentence(self.alloc, machine, answer)?;
+        push_marked_line(answer, &self.lines, b"> ", present_line(machine))
+    }
+
+    /// Appends what is told of where the debugger stands.
+    fn push_place_text<S: SetBoard>(
+        &self,
+        debugger: &Debugger<S>,
+        text: &mut Vec<u8>,
+    ) -> Result<(), AllocError>
+        ensures { OnOk result (text.new.items
+            ≡ text.old.items ++ place_text (state_at debugger.now self.now)) }
+    {
+        self.push_source(debugger, text)?;
+        push_answers(debugger, &self.displays, text)
+    }
+
+    /// Appends what the last step changed; where a movement went back, what the next one will.
+    #[tactic(auto, using(crate::proofs::Besides::beside), unfolding(crate::specs::Stops::HasLookedBeside))]
+    fn push_changes<S: SetBoard>(
+        &self,
+        debugger: &mut Debugger<S>,
+        is_back: bool,
+        answer: &mut Vec<u8>,
+    ) -> Result<(), AllocError>
+        ensures place { OnOk result (state_at debugger.new self.now ≡ state_at debugger.old self.now) }
+        ensures said { OnOk result (answer.new.items
+            ≡ answer.old.items ++ changes_told is_back (state_at debugger.old self.now)) }
+        ensures memory { OnErr result
+            (HasLookedBeside (state_at debugger.old self.now) (state_at debugger.new self.now)) }
+    {
+        if is_back {
+            push_stop_changes_ahead(self.alloc, debugger, answer)
+        } else {
+            push_stop_changes(self.alloc, debugger, answer)
+        }
+    }
+
+    /// Appends what is told where a movement stops, that went back or not.
+    #[tactic(auto, unfolding(crate::specs::Stops::HasLookedBeside))]
+    fn push_stop<S: SetBoard>(
+        &self,
+        debugger: &mut Debugger<S>,
+        is_back: bool,
+        answer: &mut Vec<u8>,
+    ) -> Result<(), AllocError>
+        ensures place { OnOk result (state_at debugger.new self.now ≡ state_at debugger.old self.now) }
+        ensures said { OnOk result (answer.new.items
+            ≡ answer.old.items ++ stop_text is_back (state_at debugger.old self.now)) }
+        ensures memory { OnErr result
+            (HasLookedBeside (state_at debugger.old self.now) (state_at debugger.new self.now)) }
+    {
+        self.push_source(debugger, answer)?;
+        self.push_changes(debugger, is_back, answer)?;
+        push_answers(debugger, &self.displays, answer)
+    }
+
+    /// Appends what the model is warned of.
+    fn push_warnings<S: SetBoard>(
+        &self,
+        debugger: &Debugger<S>,
+        text: &mut Vec<u8>,
+    ) -> Result<(), AllocError>
+        ensures { OnOk result (text.new.items ≡ text.old.items
+            ++ warnings_told debugger.now.machine.input.program self.now.model) }
+    {
+        push_all_warnings(self.alloc, self.model, debugger.machine().program(), text)
+    }
+
+    /// Appends what is told at a terminal before the first line is read: that HELP tells the
+    /// commands, what the model is warned of, and where the debugger stands. After `AllocError` a
+    /// part of it may stand there.
+    pub fn push_greeting<S: SetBoard>(
+        &self,
+        debugger: &Debugger<S>,
+        text: &mut Vec<u8>,
+    ) -> Result<(), AllocError>
+        ensures { OnOk result (text.new.items
+            ≡ text.old.items ++ greeting (state_at debugger.now self.now)) }
+    {
+        text.extend_from_slice(b"HELP TELLS THE COMMANDS.\n")?;
+        self.push_warnings(debugger, text)?;
+        push_place(debugger, text)?;
+        self.push_place_text(debugger, text)
+    }
+
+    /// A command of docs/DEBUGGER.md.
+    #[tactic(auto, unfolding(crate::proofs::Unfoldings::refusals))]
+    fn obey_plain<S: SetBoard>(
+        &self,
+        debugger: &mut Debugger<S>,
+        command: Command,
+        answer: &mut Vec<u8>,
+    ) -> Result<Go, AllocError>
+        ensures place { OnOk result (state_at debugger.new self.now
+            ≡ plain_next (state_at debugger.old self.now) command) }
+        ensures said { OnOk result (answer.new.items
+            ≡ answer.old.items ++ plain_said (state_at debugger.old self.now) command) }
+        ensures go { IfOk result (λ go. go ≡ go_of (is_plain_quit command)) }
+        ensures quit { is_plain_quit command ≡ true → IsOk result }
+        ensures memory { OnErr result (IsPlainRefused (state_at debugger.old self.now) command
+            (state_at debugger.new self.now)) }
+    {
+        match command {
+            Command::Move(movement) => {
+                obey(debugger, Command::Move(movement), answer)?;
+                self.push_stop(debugger, goes_back(movement), answer)?;
+                Ok(Go::On)
+            }
+            other => match obey(debugger, other, answer)? {
+                ss_debug::Go::On => Ok(Go::On),
+                ss_debug::Go::Quit => Ok(Go::Quit),
+            },
+        }
+    }
+
+    /// A movement beside those of docs/DEBUGGER.md.
+    #[tactic(auto, unfolding(crate::proofs::Unfoldings::refusals))]
+    fn travel<S: SetBoard>(
+        &self,
+        debugger: &mut Debugger<S>,
+        movement: Movement,
+        answer: &mut Vec<u8>,
+    ) -> Result<(), AllocError>
+        ensures place { OnOk result (state_at debugger.new self.now
+            ≡ travel_next (state_at debugger.old self.now) movement) }
+        ensures said { OnOk result (answer.new.items
+            ≡ answer.old.items ++ travel_said (state_at debugger.old self.now) movement) }
+        ensures memory { OnErr result (IsTravelRefused (state_at debugger.old self.now) movement
+            (state_at debugger.new self.now)) }
+    {
+        let is_back = travels_back(&movement, debugger.machine().position());
+        make_movement(debugger, movement, answer)?;
+        self.push_stop(debugger, is_back, answer)
+    }
+
+    /// SHOW of what else is seen.
+    fn see<S: SetBoard>(
+        &self,
+        debugger: &Debugger<S>,
+        sight: Sight,
+        answer: &mut Vec<u8>,
+    ) -> Result<(), AllocError>
+        ensures { OnOk result (answer.new.items ≡ answer.old.items
+            ++ sight_said sight debugger.now.machine.input (position debugger.now.machine)) }
+    {
+        push_sight(self.alloc, answer, debugger.machine(), sight)
+    }
+
+    /// SHOW CHANGED.
+    #[tactic(auto, using(crate::proofs::Besides::behind), unfolding(crate::specs::Stops::HasLookedBeside))]
+    fn changed<S: SetBoard>(
+        &self,
+        debugger: &mut Debugger<S>,
+        answer: &mut Vec<u8>,
+    ) -> Result<(), AllocError>
+        ensures place { OnOk result (state_at debugger.new self.now ≡ state_at debugger.old self.now) }
+        ensures said { OnOk result (answer.new.items
+            ≡ answer.old.items ++ changed_said (state_at debugger.old self.now)) }
+        ensures memory { OnErr result
+            (HasLookedBeside (state_at debugger.old self.now) (state_at debugger.new self.now)) }
+    {
+        push_changed(self.alloc, debugger, answer)
+    }
+
+    /// WHY.
+    #[tactic(auto, unfolding(crate::specs::Histories::HasLookedBack))]
+    fn why<S: SetBoard>(
+        &self,
+        debugger: &mut Debugger<S>,
+        question: &Question,
+        answer: &mut Vec<u8>,
+    ) -> Result<(), AllocError>
+        ensures place { OnOk result (state_at debugger.new self.now ≡ state_at debugger.old self.now) }
+        ensures said { OnOk result (answer.new.items
+            ≡ answer.old.items ++ why_said (state_at debugger.old self.now) question.now) }
+        ensures memory { OnErr result
+            (HasLookedBack (state_at debugger.old self.now) (state_at debugger.new self.now)) }
+    {
+        debugger.machine().known();
+        let mut change = Vec::new(self.alloc);
+        if let Some(line) = push_why(debugger, question, answer, &mut change)? {
+            push_marked_line(answer, &self.lines, b"> ", line)?;
+        }
+        answer.extend_from_slice(&change)
+    }
+
+    /// HISTORY.
+    #[tactic(auto, unfolding(crate::specs::Histories::HasLookedBack))]
+    fn history<S: SetBoard>(
+        &self,
+        debugger: &mut Debugger<S>,
+        question: &Question,
+        rows: u64,
+        answer: &mut Vec<u8>,
+    ) -> Result<(), AllocError>
+        ensures place { OnOk result (state_at debugger.new self.now ≡ state_at debugger.old self.now) }
+        ensures said { OnOk result (answer.new.items
+            ≡ answer.old.items ++ history_said (state_at debugger.old self.now) question.now rows) }
+        ensures memory { OnErr result
+            (HasLookedBack (state_at debugger.old self.now) (state_at debugger.new self.now)) }
+    {
+        push_history(debugger, question, rows, answer)
+    }
+
+    /// DISPLAY.
+    fn display(&mut self, question: Question, answer: &mut Vec<u8>) -> Result<(), AllocError>
+        ensures place { OnOk result (self.new
+            ≡ with_questions self.old (displays_with self.old.displays question)) }
+        ensures said { OnOk result (answer.new.items
+            ≡ answer.old.items ++ display_text self.old.displays (asked question)) }
+        ensures memory { OnErr result (self.new ≡ self.old) }
+    {
+        display(self.alloc, &mut self.displays, question, answer)
+    }
+
+    /// UNDISPLAY.
+    fn undisplay(&mut self, answer: &mut Vec<u8>) -> Result<(), AllocError>
+        ensures place { OnOk result (self.new ≡ with_questions self.old []) }
+        ensures said { OnOk result (answer.new.items
+            ≡ answer.old.items ++ cleared_text self.old.displays) }
+        ensures memory { OnErr result (self.new ≡ self.old) }
+    {
+        undisplay(&mut self.displays, answer)
+    }
+
+    /// Does what a command says, and appends its whole answer.
+    #[tactic(auto, unfolding(crate::proofs::Unfoldings::commands))]
+    fn follow<S: SetBoard>(
+        &mut self,
+        debugger: &mut Debugger<S>,
+        command: PromptCommand,
+        answer: &mut Vec<u8>,
+    ) -> Result<Go, AllocError>
+        ensures place { OnOk result (state_at debugger.new self.new
+            ≡ prompt_state_after (state_at debugger.old self.old) command) }
+        ensures said { OnOk result (answer.new.items
+            ≡ answer.old.items ++ prompt_answer (state_at debugger.old self.old) command) }
+        ensures go { IfOk result (λ go. go ≡ go_of (is_quit command)) }
+        ensures quit { is_quit command ≡ true → IsOk result }
+        ensures memory { OnErr result (IsRefused (state_at debugger.old self.old) command
+            (state_at debugger.new self.new)) }
+    {
+        match command {
+            PromptCommand::Plain(command) => return self.obey_plain(debugger, command, answer),
+            PromptCommand::Travel(movement) => self.travel(debugger, movement, answer)?,
+            PromptCommand::Lines(line) => self.list(debugger, line, answer)?,
+            PromptCommand::SectionLines(name) => self.list_section(debugger, &name, answer)?,
+            PromptCommand::BreakSection(name) => self.break_section(debugger, &name, answer)?,
+            PromptCommand::ClearSection(name) => self.clear_section(debugger, &name, answer)?,
+            PromptCommand::Breaks => self.breaks(debugger, answer)?,
+            PromptCommand::Ask(question) => push_answer(debugger, &question, answer)?,
+            PromptCommand::See(sight) => self.see(debugger, sight, answer)?,
+            PromptCommand::Changed => self.changed(debugger, answer)?,
+            PromptCommand::Why(question) => self.why(debugger, &question, answer)?,
+            PromptCommand::History(question, rows) => {
+                self.history(debugger, &question, rows, answer)?
+            }
+            PromptCommand::Display(question) => self.display(question, answer)?,
+            PromptCommand::Undisplay => self.undisplay(answer)?,
+            PromptCommand::Names(name) => self.names(name, answer)?,
+            PromptCommand::Warnings => self.warnings(debugger, answer)?,
+            PromptCommand::Help(word) => push_help(answer, word)?,
+        }
+        Ok(Go::On)
+    }
+
+    /// Does what a command of docs/PROMPT.md says with a debugger that is lent, and appends its whole
+    /// answer. `AllocError` where memory was refused: then nothing of the answer counts, and the
+    /// debugger may stand at another state of the same run. QUIT wants no memory.
+    pub fn obey<S: SetBoard>(
+        &mut self,
+        debugger: &mut Debugger<S>,
+        command: PromptCommand,
+        answer: &mut Vec<u8>,
+    ) -> Result<Go, AllocError>
+        ensures input { debugger.new.machine.input ≡ debugger.old.machine.input }
+        ensures model { self.new.model ≡ self.old.model }
+        ensures lines { self.new.lines ≡ self.old.lines }
+        ensures place { OnOk result (state_at debugger.new self.new
+            ≡ prompt_state_after (state_at debugger.old self.old) command) }
+        ensures said { OnOk result (answer.new.items
+            ≡ answer.old.items ++ prompt_answer (state_at debugger.old self.old) command) }
+        ensures go { IfOk result (λ go. go ≡ go_of (is_quit command)) }
+        ensures quit { is_quit command ≡ true → IsOk result }
+        ensures memory { OnErr result (IsRefused (state_at debugger.old self.old) command
+            (state_at debugger.new self.new)) }
+    {
+        self.follow(debugger, command, answer)
+    }
+}

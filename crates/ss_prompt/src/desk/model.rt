@@ -1,0 +1,180 @@
+//! What is told of the model, and break lines at its sections.
+ghost use Rattle.std.specs.Prelude.{◌≡◌, ◌++◌, OnOk, OnErr};
+ghost use Rattle.ss_debug.specs.Turn.{answer as plain_answer, debugger_state_after};
+ghost use Rattle.ss_debug.specs.View.{debugger_state_of};
+ghost use Rattle.ss_debug.specs.declared.commands.Command.TheVariants as plain;
+ghost use Rattle.ss_prompt.specs.Breaks.{breaks_said};
+ghost use Rattle.ss_prompt.specs.Listing.{lines_said, section_lines_said};
+ghost use Rattle.ss_prompt.specs.Names.{names_said, warnings_said};
+ghost use Rattle.ss_prompt.specs.PromptState.{state_at};
+ghost use Rattle.ss_prompt.specs.Sections.{command_on, on_section_said, on_section_next};
+
+use crate::break_list::push_break_lines;
+use crate::desk::PromptDesk;
+use crate::listing::{push_lines_about, push_lines_to};
+use crate::names::{push_names_said, push_warnings_said};
+use crate::sections::{
+    LAST_BREAK_LINE, find_section, head_line, last_line, line_of_section, present_line,
+    push_no_section,
+};
+use ss_debug::{Command, Debugger, Name, obey};
+use ss_links::SetBoard;
+use std::alloc::AllocError;
+
+/// BREAK of a line, if BREAK takes it.
+#[tactic(auto, unfolding(ss_debug::specs::AfterRefusal::IsStateAfterRefusal))]
+fn break_line<S: SetBoard>(
+    debugger: &mut Debugger<S>,
+    line: usize,
+    answer: &mut Vec<u8>,
+) -> Result<(), AllocError>
+    ensures input { debugger.new.machine.input ≡ debugger.old.machine.input }
+    ensures place { OnOk result (debugger_state_of debugger.new
+        ≡ debugger_state_after debugger.old.machine.input (debugger_state_of debugger.old)
+        (command_on plain.Break line)) }
+    ensures said { OnOk result (answer.new.items
+        ≡ answer.old.items ++ plain_answer debugger.old.machine.input
+        (debugger_state_of debugger.old) (command_on plain.Break line)) }
+    ensures memory { OnErr result (debugger_state_of debugger.new ≡ debugger_state_of debugger.old) }
+{
+    if line > LAST_BREAK_LINE as usize {
+        obey(debugger, Command::Bad, answer)?;
+    } else {
+        obey(debugger, Command::Break(line as u32), answer)?;
+    }
+    Ok(())
+}
+
+/// CLEAR of a line, if CLEAR takes it.
+#[tactic(auto, unfolding(ss_debug::specs::AfterRefusal::IsStateAfterRefusal))]
+fn clear_line<S: SetBoard>(
+    debugger: &mut Debugger<S>,
+    line: usize,
+    answer: &mut Vec<u8>,
+) -> Result<(), AllocError>
+    ensures input { debugger.new.machine.input ≡ debugger.old.machine.input }
+    ensures place { OnOk result (debugger_state_of debugger.new
+        ≡ debugger_state_after debugger.old.machine.input (debugger_state_of debugger.old)
+        (command_on plain.Clear line)) }
+    ensures said { OnOk result (answer.new.items
+        ≡ answer.old.items ++ plain_answer debugger.old.machine.input
+        (debugger_state_of debugger.old) (command_on plain.Clear line)) }
+    ensures memory { OnErr result (debugger_state_of debugger.new ≡ debugger_state_of debugger.old) }
+{
+    if line > LAST_BREAK_LINE as usize {
+        obey(debugger, Command::Bad, answer)?;
+    } else {
+        obey(debugger, Command::Clear(line as u32), answer)?;
+    }
+    Ok(())
+}
+
+impl<'a> PromptDesk<'a> {
+    /// LIST, with a line or without.
+    pub(super) fn list<S: SetBoard>(
+        &self,
+        debugger: &Debugger<S>,
+        line: Option<u32>,
+        answer: &mut Vec<u8>,
+    ) -> Result<(), AllocError>
+        ensures { OnOk result (answer.new.items
+            ≡ answer.old.items ++ lines_said (state_at debugger.now self.now) line) }
+    {
+        let present = present_line(debugger.machine());
+        match line {
+            Some(line) => push_lines_about(answer, &self.lines, present, line as usize),
+            None => push_lines_about(answer, &self.lines, present, present),
+        }
+    }
+
+    /// LIST of the section of this name.
+    pub(super) fn list_section<S: SetBoard>(
+        &self,
+        debugger: &Debugger<S>,
+        name: &Name,
+        answer: &mut Vec<u8>,
+    ) -> Result<(), AllocError>
+        ensures { OnOk result (answer.new.items ≡ answer.old.items
+            ++ section_lines_said (state_at debugger.now self.now) name.now) }
+    {
+        let machine = debugger.machine();
+        let program = machine.program();
+        let Some(section) = find_section(program, name.as_slice()) else {
+            return push_no_section(answer, name.as_slice());
+        };
+        let from = head_line(program, section);
+        let to = last_line(program, section);
+        push_lines_to(answer, &self.lines, present_line(machine), from, to)
+    }
+
+    /// BREAK of the section of this name.
+    pub(super) fn break_section<S: SetBoard>(
+        &self,
+        debugger: &mut Debugger<S>,
+        name: &Name,
+        answer: &mut Vec<u8>,
+    ) -> Result<(), AllocError>
+        ensures place { OnOk result (state_at debugger.new self.now
+            ≡ on_section_next (state_at debugger.old self.now) plain.Break name.now) }
+        ensures said { OnOk result (answer.new.items ≡ answer.old.items
+            ++ on_section_said (state_at debugger.old self.now) plain.Break name.now) }
+        ensures memory { OnErr result (state_at debugger.new self.now ≡ state_at debugger.old self.now) }
+    {
+        match line_of_section(debugger.machine().program(), name.as_slice()) {
+            Some(line) => break_line(debugger, line, answer),
+            None => push_no_section(answer, name.as_slice()),
+        }
+    }
+
+    /// CLEAR of the section of this name.
+    pub(super) fn clear_section<S: SetBoard>(
+        &self,
+        debugger: &mut Debugger<S>,
+        name: &Name,
+        answer: &mut Vec<u8>,
+    ) -> Result<(), AllocError>
+        ensures place { OnOk result (state_at debugger.new self.now
+            ≡ on_section_next (state_at debugger.old self.now) plain.Clear name.now) }
+        ensures said { OnOk result (answer.new.items ≡ answer.old.items
+            ++ on_section_said (state_at debugger.old self.now) plain.Clear name.now) }
+        ensures memory { OnErr result (state_at debugger.new self.now ≡ state_at debugger.old self.now) }
+    {
+        match line_of_section(debugger.machine().program(), name.as_slice()) {
+            Some(line) => clear_line(debugger, line, answer),
+            None => push_no_section(answer, name.as_slice()),
+        }
+    }
+
+    /// BREAKS.
+    pub(super) fn breaks<S: SetBoard>(
+        &self,
+        debugger: &Debugger<S>,
+        answer: &mut Vec<u8>,
+    ) -> Result<(), AllocError>
+        ensures { OnOk result (answer.new.items
+            ≡ answer.old.items ++ breaks_said (state_at debugger.now self.now)) }
+    {
+        let breaks = debugger.break_lines(self.alloc)?;
+        push_break_lines(answer, &self.lines, &breaks)
+    }
+
+    /// NAMES, with a name or without.
+    pub(super) fn names(&self, name: Option<Name>, answer: &mut Vec<u8>) -> Result<(), AllocError>
+        ensures { OnOk result (answer.new.items
+            ≡ answer.old.items ++ names_said self.now.model name) }
+    {
+        push_names_said(self.alloc, self.model, name, answer)
+    }
+
+    /// WARNINGS.
+    pub(super) fn warnings<S: SetBoard>(
+        &self,
+        debugger: &Debugger<S>,
+        answer: &mut Vec<u8>,
+    ) -> Result<(), AllocError>
+        ensures { OnOk result (answer.new.items ≡ answer.old.items
+            ++ warnings_said debugger.now.machine.input.program self.now.model) }
+    {
+        push_warnings_said(self.alloc, self.model, debugger.machine().program(), answer)
+    }
+}

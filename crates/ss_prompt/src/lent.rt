@@ -1,0 +1,71 @@
+//! A command is obeyed with a debugger that is lent.
+ghost use Rattle.std.specs.Prelude.{◌≡◌, ◌⊎◌, ◌++◌, map, OnOk, OnErr, IfOk};
+ghost use Rattle.ss_console.specs.Going.{go_of};
+ghost use Rattle.ss_prompt.specs.PromptState.{lent_state};
+ghost use Rattle.ss_prompt.specs.Prompting.{prompt_answer, prompt_state_after, IsRefused, is_quit};
+ghost use Rattle.ss_prompt.specs.Source.{source_lines};
+
+use crate::commands::PromptCommand;
+use crate::desk::PromptDesk;
+use crate::source::source_lines;
+use ss_console::Go;
+use ss_debug::Debugger;
+use ss_links::SetBoard;
+use ss_trace::Question;
+use std::alloc::{AllocError, Global};
+
+/// Does what a command says, in the run of a model with these lines.
+fn answer_with<'a, S: SetBoard>(
+    alloc: Global,
+    debugger: &mut Debugger<S>,
+    model: &'a [u8],
+    lines: Vec<&'a [u8]>,
+    displays: &mut Vec<Question>,
+    command: PromptCommand,
+    answer: &mut Vec<u8>,
+) -> Result<Go, AllocError>
+    requires { map (λ l. l.now) lines.items ≡ source_lines model.now }
+    ensures input { debugger.new.machine.input ≡ debugger.old.machine.input }
+    ensures place { OnOk result (lent_state debugger.new model.now displays.new.items
+        ≡ prompt_state_after (lent_state debugger.old model.now displays.old.items) command) }
+    ensures said { OnOk result (answer.new.items ≡ answer.old.items
+        ++ prompt_answer (lent_state debugger.old model.now displays.old.items) command) }
+    ensures go { IfOk result (λ go. go ≡ go_of (is_quit command)) }
+    ensures memory { OnErr result (IsRefused
+        (lent_state debugger.old model.now displays.old.items) command
+        (lent_state debugger.new model.now displays.new.items)) }
+{
+    let mut desk = PromptDesk::new(alloc, model, lines);
+    desk.swap_displays(displays);
+    let obeyed = desk.obey(debugger, command, answer);
+    desk.swap_displays(displays);
+    obeyed
+}
+
+/// Does what a command of docs/PROMPT.md says with a debugger that is lent, in the run of a model,
+/// and appends its whole answer. The questions are those that are answered at each stop.
+///
+/// `AllocError` where memory was refused: then nothing of the answer counts, and the debugger stands
+/// where a prompt leaves it, in the same run.
+pub fn answer_command<S: SetBoard>(
+    alloc: Global,
+    debugger: &mut Debugger<S>,
+    model: &[u8],
+    displays: &mut Vec<Question>,
+    command: PromptCommand,
+    answer: &mut Vec<u8>,
+) -> Result<Go, AllocError>
+    ensures input { debugger.new.machine.input ≡ debugger.old.machine.input }
+    ensures place { OnOk result (lent_state debugger.new model.now displays.new.items
+        ≡ prompt_state_after (lent_state debugger.old model.now displays.old.items) command) }
+    ensures said { OnOk result (answer.new.items ≡ answer.old.items
+        ++ prompt_answer (lent_state debugger.old model.now displays.old.items) command) }
+    ensures go { IfOk result (λ go. go ≡ go_of (is_quit command)) }
+    ensures memory { OnErr result ((lent_state debugger.new model.now displays.new.items
+        ≡ lent_state debugger.old model.now displays.old.items)
+        ⊎ IsRefused (lent_state debugger.old model.now displays.old.items) command
+        (lent_state debugger.new model.now displays.new.items)) }
+{
+    let lines = source_lines(alloc, model)?;
+    answer_with(alloc, debugger, model, lines, displays, command, answer)
+}
