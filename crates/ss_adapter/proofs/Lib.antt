@@ -1,3 +1,4 @@
 pub mod Nearest
 pub mod Least
 pub mod Returns
+pub mod Consoles

@@ -44,7 +44,16 @@ pub record IsLaunched (model text path : List ℕ) (stops : Stops) (d : Debugger
   -- the debugger stands at its start
   pub start : debugger_state_of d ≡ initial_debugger_state
   -- nothing is set or told
-  pub desk : k ≡ record { path = path; set = []; sections = []; watched = []; told = 0; stops = stops }
+  pub desk : k ≡ record {
+    path = path;
+    model = model;
+    displays = [];
+    set = [];
+    sections = [];
+    watched = [];
+    told = 0;
+    stops = stops;
+  }
 
 -- the line of a refused model
 abbrev pub fault_line : LoadFault → List ℕ

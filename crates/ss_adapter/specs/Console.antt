@@ -1,8 +1,11 @@
--- What a line of the console changes of the break points that an editor shows: it becomes a break line, or is none any
--- more.
+-- The console: what is shown of a line of the model that becomes a break line, or is none any more; what is said of a
+-- movement.
 use Rattle.std.specs.Prelude.{ℕ, ◌+◌, Bool, true, false, List, [], ◌∷◌, ◌++◌, codes, nat_eq, Option, Some, None}
+use Rattle.std.specs.List.{before_first}
 use Rattle.ss_program.specs.Program.{ProgramTable}
+use Rattle.ss_trace.specs.declared.question.Question.{Question}
 use Rattle.ss_debug.specs.BreakLines.{without_line}
+use Rattle.ss_debug.specs.CommandLines.{separates, line_separators}
 use Rattle.ss_messages.specs.Messages.{Sent, event}
 use Rattle.ss_messages.specs.Shown.{new_point_body, removed_point_body}
 use Rattle.ss_adapter.specs.declared.desk.TheConstants.{WATCH_LIMIT}
@@ -40,9 +43,28 @@ sections_behind sections line _ _ = sections
 abbrev pub desk_with : DeskView → ℕ → Bool → Bool → DeskView
 desk_with k line new old = record {
   path = k.path;
+  model = k.model;
+  displays = k.displays;
   set = lines_behind k.set line new old;
   sections = sections_behind k.sections line new old;
   watched = k.watched;
   told = k.told;
   stops = k.stops;
 }
+
+-- the desk with other questions that are answered at each stop
+abbrev pub desk_showing : DeskView → List Question → DeskView
+desk_showing k displays = record {
+  path = k.path;
+  model = k.model;
+  displays = displays;
+  set = k.set;
+  sections = k.sections;
+  watched = k.watched;
+  told = k.told;
+  stops = k.stops;
+}
+
+-- the first line of an answer
+abbrev pub first_line : List ℕ → List ℕ
+first_line answer = before_first (separates line_separators) answer ++ 10 ∷ []

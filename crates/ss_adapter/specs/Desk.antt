@@ -1,11 +1,16 @@
 -- What the adapter keeps beside the debugger.
 use Rattle.std.specs.Prelude.{ℕ, List}
+use Rattle.ss_trace.specs.declared.question.Question.{Question}
 use Rattle.ss_messages.specs.declared.request.Stops.{Stops}
 
 -- what the adapter keeps beside the debugger
 pub record DeskView : Type 0 where
   -- the path of the model
   pub path : List ℕ
+  -- the bytes of the model
+  pub model : List ℕ
+  -- the questions that are answered at each stop of the console
+  pub displays : List Question
   -- the break lines that requests set by lines
   pub set : List ℕ
   -- those that they set by sections

@@ -1,18 +1,21 @@
 -- One turn of the adapter: what a request is answered with, and where it leads.
 use Rattle.std.specs.Prelude.{ℕ, ◌+◌, max, Bool, true, List, [], ◌∷◌, ◌++◌, codes, drop, length, take, nat_lt, nat_eq}
-use Rattle.std.specs.Prelude.{Option, Some, None, slice_get, if◌then◌else◌}
+use Rattle.std.specs.Prelude.{false, Option, Some, None, slice_get, if◌then◌else◌}
 use Rattle.ss_program.specs.Program.{ProgramTable}
 use Rattle.ss_machine.specs.State.{State}
 use Rattle.ss_machine.specs.Run.{Input, run}
-use Rattle.ss_debug.specs.declared.commands.Command.{Command as Line}
-use Rattle.ss_debug.specs.declared.commands.Command.TheVariants.{Move, Break, Clear}
 use Rattle.ss_debug.specs.BreakLines.{is_break_line}
-use Rattle.ss_debug.specs.Command.{command_of}
 use Rattle.ss_debug.specs.Answer.{state_line}
-use Rattle.ss_debug.specs.Turn.{DebuggerState, debugger_state_after, debugger_state_with, answer}
+use Rattle.ss_debug.specs.Turn.{DebuggerState, debugger_state_with}
 use Rattle.ss_debug.specs.View.{DebuggerView, debugger_state_of}
 use Rattle.ss_trace.specs.declared.question.Question.{Question}
 use Rattle.ss_trace.specs.Question.{answer_at}
+use Rattle.ss_prompt.specs.declared.commands.PromptCommand.{PromptCommand}
+use Rattle.ss_prompt.specs.PromptState.{PromptState}
+use Rattle.ss_prompt.specs.Points.{is_movement, point_of}
+use Rattle.ss_prompt.specs.Prompting.{prompt_answer, prompt_state_after}
+use Rattle.ss_prompt.specs.Reading.{prompt_command_of}
+use Rattle.ss_prompt.specs.Source.{source_lines}
 use Rattle.ss_messages.specs.declared.request.Command.{Command}
 use Rattle.ss_messages.specs.declared.request.Command.TheVariants.{Initialize, Launch, ConfigurationDone}
 use Rattle.ss_messages.specs.declared.request.Command.TheVariants.{SetBreakpoints, SetFunctionBreakpoints}
@@ -30,14 +33,13 @@ use Rattle.ss_scopes.specs.Variables.{scopes_text, variables_text}
 use Rattle.ss_adapter.specs.declared.fixed.TheConstants.{CAPABILITIES, THREADS, NO_EXIT}
 use Rattle.ss_adapter.specs.declared.setting.TheConstants.{POINT_LIMIT}
 use Rattle.ss_adapter.specs.declared.going.Going.{Going}
-use Rattle.ss_adapter.specs.declared.going.Going.TheVariants.{Standing}
 use Rattle.ss_adapter.specs.declared.turns.Further.{Further}
 use Rattle.ss_adapter.specs.declared.turns.Further.TheVariants as further
 use Rattle.ss_adapter.specs.declared.reach.Way.TheVariants.{Forward}
 use Rattle.ss_adapter.specs.Going.{going_of, run_going, state_behind, going_answer, watched_by}
 use Rattle.ss_adapter.specs.Looking.{reason_at, hit_at, is_over, exception_by, question_of}
 use Rattle.ss_adapter.specs.Completions.{completions}
-use Rattle.ss_adapter.specs.Console.{point_told, desk_with}
+use Rattle.ss_adapter.specs.Console.{point_told, desk_with, desk_showing, first_line}
 use Rattle.ss_adapter.specs.Places.{Setting, setting_of, section_setting_of}
 use Rattle.ss_adapter.specs.Watch.{watching_of, info_of}
 use Rattle.ss_adapter.specs.Desk.{DeskView}
@@ -61,6 +63,8 @@ report_at t d = (run t d.position).report
 abbrev pub told_with : DeskView → List ℕ → DeskView
 told_with k report = record {
   path = k.path;
+  model = k.model;
+  displays = k.displays;
   set = k.set;
   sections = k.sections;
   watched = k.watched;
@@ -135,22 +139,43 @@ running s = run_going s.input s.debugger s.desk.watched Forward
 abbrev pub here : Input → ℕ → List ℕ → List Sent
 here t p reason = reply (codes "{}") ∷ stopped reason (without_last (state_line t p)) None ∷ []
 
--- whether a line of the model is a break line behind a line of the console
-abbrev pub is_break_behind : AdapterState → Line → ℕ → Bool
-is_break_behind s line l = is_break_line (debugger_state_after s.input s.debugger line).breaks l
+-- the console is a prompt over the debugger
+abbrev pub at_console : AdapterState → PromptState
+at_console s = record {
+  model = s.desk.model;
+  lines = source_lines s.desk.model;
+  input = s.input;
+  debugger = s.debugger;
+  displays = s.desk.displays;
+}
 
--- a line of the console that names a line of the model: its answer, and whether that has become a break line
-abbrev pub pointed : AdapterState → Line → ℕ → List Sent
-pointed s line l =
-    reply (result_body (answer s.input s.debugger line))
-    ∷ point_told s.input.program s.desk.path l (is_break_behind s line l) (is_break_line s.debugger.breaks l)
+-- what the prompt answers to a command
+abbrev pub console_answer : AdapterState → PromptCommand → List ℕ
+console_answer s c = prompt_answer (at_console s) c
 
--- a line of the console: its answer, and, behind a movement, where it stopped
-abbrev pub obeyed : AdapterState → Line → List Sent
-obeyed s (Move m) = gone s (result_body (answer s.input s.debugger (Move m))) (Standing m)
-obeyed s (Break l) = pointed s (Break l) l
-obeyed s (Clear l) = pointed s (Clear l) l
-obeyed s line = reply (result_body (answer s.input s.debugger line)) ∷ []
+-- where it leads the prompt
+abbrev pub console_after : AdapterState → PromptCommand → PromptState
+console_after s c = prompt_state_after (at_console s) c
+
+-- whether line l of the model is a break line there
+abbrev pub is_break_behind : AdapterState → PromptCommand → ℕ → Bool
+is_break_behind s c l = is_break_line (console_after s c).debugger.breaks l
+
+-- whether line l has become a break line by a command, or is none any more
+abbrev pub point_behind : AdapterState → PromptCommand → Option ℕ → List Sent
+point_behind s c None = []
+point_behind s c (Some l) =
+    point_told s.input.program s.desk.path l (is_break_behind s c l) (is_break_line s.debugger.breaks l)
+
+-- what follows a command: behind a movement where it stopped, else whether a line has become a break line
+abbrev pub behind_command : AdapterState → PromptCommand → Bool → List Sent
+behind_command s c true =
+    behind_movement s.input s.desk (console_after s c).debugger (first_line (console_answer s c)) None
+behind_command s c false = point_behind s c (point_of s.input.program c)
+
+-- a command of the console: what the prompt answers, and what follows it
+abbrev pub obeyed : AdapterState → PromptCommand → List Sent
+obeyed s c = reply (result_body (console_answer s c)) ∷ behind_command s c (is_movement c)
 
 -- a question that is answered
 abbrev pub asked : Input → ℕ → Option Question → List Sent
@@ -226,7 +251,7 @@ told_of s (SetBreakpoints lines) = reply (list_body (codes "breakpoints") (setti
 told_of s (SetFunctionBreakpoints names) = reply (list_body (codes "breakpoints") (sections_in s names).text) ∷ []
 told_of s (SetDataBreakpoints ids) = reply (list_body (codes "breakpoints") (watching_of ids).text) ∷ []
 told_of s ConfigurationDone = configuring s
-told_of s (Obey text) = obeyed s (command_of text)
+told_of s (Obey text) = obeyed s (prompt_command_of text)
 told_of s other = looked s other
 
 -- what a request is answered with: where it asks for a movement, what follows that
@@ -240,22 +265,24 @@ answers s command = answers_by s command (going_of s.input s.debugger s.desk.wat
 
 -- ---- where a request leads
 
--- behind a line of the console, with this desk
-abbrev pub behind_with : AdapterState → Line → DeskView → AdapterState
-behind_with s line k =
-    record { input = s.input; debugger = debugger_state_after s.input s.debugger line; desk = k }
+-- where the prompt is behind a command, with this desk but for the questions that are answered at each stop
+abbrev pub left_at : AdapterState → PromptState → DeskView → AdapterState
+left_at s after k =
+    record { input = s.input; debugger = after.debugger; desk = desk_showing k after.displays }
 
--- behind one that names a line of the model
-abbrev pub behind_point : AdapterState → Line → ℕ → AdapterState
-behind_point s line l =
-    behind_with s line (desk_with s.desk l (is_break_behind s line l) (is_break_line s.debugger.breaks l))
+-- the desk behind a command that is no movement
+abbrev pub desk_behind : AdapterState → PromptCommand → Option ℕ → DeskView
+desk_behind s c None = s.desk
+desk_behind s c (Some l) = desk_with s.desk l (is_break_behind s c l) (is_break_line s.debugger.breaks l)
 
--- behind a line of the console
-abbrev pub behind_line : AdapterState → Line → AdapterState
-behind_line s (Move m) = moved s (debugger_state_after s.input s.debugger (Move m))
-behind_line s (Break l) = behind_point s (Break l) l
-behind_line s (Clear l) = behind_point s (Clear l) l
-behind_line s line = behind_with s line s.desk
+-- the desk behind a command
+abbrev pub desk_after : AdapterState → PromptCommand → Bool → DeskView
+desk_after s c true = told_with s.desk (report_at s.input (console_after s c).debugger)
+desk_after s c false = desk_behind s c (point_of s.input.program c)
+
+-- behind a command of the console
+abbrev pub behind_line : AdapterState → PromptCommand → AdapterState
+behind_line s c = left_at s (console_after s c) (desk_after s c (is_movement c))
 
 -- behind break lines
 abbrev pub behind_setting : AdapterState → Setting → AdapterState
@@ -264,6 +291,8 @@ behind_setting s setting = record {
   debugger = debugger_state_with s.debugger setting.breaks;
   desk = record {
     path = s.desk.path;
+    model = s.desk.model;
+    displays = s.desk.displays;
     set = setting.set;
     sections = s.desk.sections;
     watched = s.desk.watched;
@@ -279,6 +308,8 @@ behind_sections s setting = record {
   debugger = debugger_state_with s.debugger setting.breaks;
   desk = record {
     path = s.desk.path;
+    model = s.desk.model;
+    displays = s.desk.displays;
     set = s.desk.set;
     sections = setting.set;
     watched = s.desk.watched;
@@ -294,6 +325,8 @@ behind_watching s watched = record {
   debugger = s.debugger;
   desk = record {
     path = s.desk.path;
+    model = s.desk.model;
+    displays = s.desk.displays;
     set = s.desk.set;
     sections = s.desk.sections;
     watched = watched;
@@ -309,6 +342,8 @@ configured s = record {
   debugger = s.debugger;
   desk = record {
     path = s.desk.path;
+    model = s.desk.model;
+    displays = s.desk.displays;
     set = s.desk.set;
     sections = s.desk.sections;
     watched = s.desk.watched;
@@ -328,7 +363,7 @@ left_by s (SetBreakpoints lines) = behind_setting s (setting_in s lines)
 left_by s (SetFunctionBreakpoints names) = behind_sections s (sections_in s names)
 left_by s (SetDataBreakpoints ids) = behind_watching s (watching_of ids).watched
 left_by s ConfigurationDone = behind_configuring s
-left_by s (Obey text) = behind_line s (command_of text)
+left_by s (Obey text) = behind_line s (prompt_command_of text)
 left_by s other = s
 
 -- behind a request that asks for a movement, or none

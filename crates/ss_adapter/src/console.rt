@@ -1,22 +1,23 @@
-//! The console: a line of the debugger is obeyed.
-ghost use Rattle.std.specs.Prelude.{◌≡◌, ◌+◌, ◌-◌, ◌^◌, ◌<◌, ◌∷◌, [], IfOk, OnOk};
+//! The console: a line is answered as at the prompt.
+ghost use Rattle.std.specs.Prelude.{◌≡◌, ◌+◌, ◌-◌, ◌^◌, ◌<◌, ◌∷◌, [], true, false, IfOk, OnOk};
 ghost use Rattle.ss_debug.specs.BreakLines.{is_break_line, without_line};
 ghost use Rattle.ss_debug.specs.View.{debugger_state_of};
-ghost use Rattle.ss_debug.specs.Turn.{debugger_state_after, answer};
-ghost use Rattle.ss_debug.specs.declared.commands.Command.TheVariants.{Move};
+ghost use Rattle.ss_prompt.specs.Reading.{prompt_command_of};
 ghost use Rattle.ss_messages.specs.Bodies.{result_body};
 ghost use Rattle.ss_messages.specs.Messages.{posted_all, reply};
-ghost use Rattle.ss_adapter.specs.Console.{has_place, point_told, desk_with};
-ghost use Rattle.ss_adapter.specs.Turn.{adapter_state_of, pointed, behind_point, obeyed, behind_line};
+ghost use Rattle.ss_adapter.specs.Console.{has_place, point_told, first_line};
+ghost use Rattle.ss_adapter.specs.Console.{desk_with, desk_showing};
+ghost use Rattle.ss_adapter.specs.Turn.{adapter_state_of, console_answer, console_after};
+ghost use Rattle.ss_adapter.specs.Turn.{behind_command, left_at, desk_after, obeyed, behind_line};
 
 use crate::breaks::next_line;
 use crate::desk::{Desk, WATCH_LIMIT};
-use crate::going::{Going, make};
 use crate::telling::tell_movement;
-use ss_debug::{Command, Debugger, Movement, obey};
+use ss_debug::{Debugger, split_line};
 use ss_links::SetBoard;
 use ss_messages::{Post, Request, new_point_body, removed_point_body, result_body};
 use ss_program::Program;
+use ss_prompt::{PromptCommand, answer_command, prompt_command};
 use std::alloc::{AllocError, Global};
 
 /// Whether a line is a break line.
@@ -91,100 +92,129 @@ fn tell_point(
     post.event(request, b"breakpoint", &body)
 }
 
-/// Makes a movement that a line says, whose answer is the result.
-#[tactic(auto, unfolding(ss_messages::specs::Messages::posted_all))]
-fn go_by_line<S: SetBoard>(
+/// The first line of an answer.
+fn first_line(alloc: Global, answer: &[u8]) -> Result<Vec<u8>, AllocError>
+    ensures { IfOk result (λ line. line.items ≡ first_line answer.now) }
+{
+    let (first, _) = split_line(answer);
+    let mut line = first.to_vec(alloc)?;
+    line.push(b'\n')?;
+    Ok(line)
+}
+
+/// Obeys a command as the prompt does, and answers with what that says.
+#[tactic(auto, using(crate::proofs::Consoles::led, crate::proofs::Consoles::shown), unfolding(ss_messages::specs::Messages::posted_all))]
+fn say<S: SetBoard>(
     debugger: &mut Debugger<S>,
     desk: &mut Desk,
     request: &Request,
     post: &mut Post,
-    movement: Movement,
+    command: PromptCommand,
+    answer: &mut Vec<u8>,
+) -> Result<(), AllocError>
+    requires sent { post.old.sent < 2 ^ 64 - 1 }
+    requires none { answer.old.items ≡ [] }
+    ensures input { debugger.new.machine.input ≡ debugger.old.machine.input }
+    ensures sent { OnOk result (post.new ≡ posted_all request.now post.old (reply (result_body
+        (console_answer (adapter_state_of debugger.old desk.old) command)) ∷ [])) }
+    ensures count { OnOk result (post.new.sent ≡ post.old.sent + 1) }
+    ensures said { OnOk result (answer.new.items
+        ≡ console_answer (adapter_state_of debugger.old desk.old) command) }
+    ensures debugger { OnOk result (debugger_state_of debugger.new
+        ≡ (console_after (adapter_state_of debugger.old desk.old) command).debugger) }
+    ensures desk { OnOk result (desk.new ≡ desk_showing desk.old
+        (console_after (adapter_state_of debugger.old desk.old) command).displays) }
+{
+    let alloc = post.alloc();
+    answer_command(
+        alloc,
+        debugger,
+        &desk.model,
+        &mut desk.displays,
+        command,
+        answer,
+    )?;
+    let body = result_body(alloc, answer)?;
+    post.reply(request, &body)
+}
+
+/// Obeys a command that is a movement, and tells where it stopped.
+#[tactic(auto, unfolding(ss_messages::specs::Messages::posted_all))]
+fn obey_movement<S: SetBoard>(
+    debugger: &mut Debugger<S>,
+    desk: &mut Desk,
+    request: &Request,
+    post: &mut Post,
+    command: PromptCommand,
 ) -> Result<(), AllocError>
     requires { post.old.sent + 3 < 2 ^ 64 - 1 }
     ensures input { debugger.new.machine.input ≡ debugger.old.machine.input }
     ensures sent { OnOk result (post.new ≡ posted_all request.now post.old
-        (obeyed (adapter_state_of debugger.old desk.old) (Move movement))) }
+        (reply (result_body (console_answer (adapter_state_of debugger.old desk.old) command))
+        ∷ behind_command (adapter_state_of debugger.old desk.old) command true)) }
     ensures state { OnOk result (adapter_state_of debugger.new desk.new
-        ≡ behind_line (adapter_state_of debugger.old desk.old) (Move movement)) }
-{
-    let mut said = Vec::new(post.alloc());
-    make(debugger, Going::Standing(movement), &mut said)?;
-    let body = result_body(post.alloc(), &said)?;
-    post.reply(request, &body)?;
-    tell_movement(debugger, desk, request, post, &said, None)
-}
-
-/// Obeys a line that is no movement, and answers with what the debugger says.
-#[tactic(auto, unfolding(ss_messages::specs::Messages::posted_all))]
-fn say<S: SetBoard>(
-    debugger: &mut Debugger<S>,
-    request: &Request,
-    post: &mut Post,
-    line: Command,
-) -> Result<(), AllocError>
-    requires { post.old.sent < 2 ^ 64 - 1 }
-    ensures input { debugger.new.machine.input ≡ debugger.old.machine.input }
-    ensures sent { OnOk result (post.new ≡ posted_all request.now post.old
-        (reply (result_body (answer debugger.old.machine.input (debugger_state_of debugger.old)
-        line)) ∷ [])) }
-    ensures count { OnOk result (post.new.sent ≡ post.old.sent + 1) }
-    ensures state { OnOk result (debugger_state_of debugger.new ≡ debugger_state_after
-        debugger.old.machine.input (debugger_state_of debugger.old) line) }
+        ≡ left_at (adapter_state_of debugger.old desk.old)
+        (console_after (adapter_state_of debugger.old desk.old) command)
+        (desk_after (adapter_state_of debugger.old desk.old) command true)) }
 {
     let mut answer = Vec::new(post.alloc());
-    obey(debugger, line, &mut answer)?;
-    let body = result_body(post.alloc(), &answer)?;
-    post.reply(request, &body)
+    say(debugger, desk, request, post, command, &mut answer)?;
+    let line = first_line(post.alloc(), &answer)?;
+    tell_movement(debugger, desk, request, post, &line, None)
 }
 
-/// Obeys a line that names a line of the model, and tells whether that has become a break line.
+/// Obeys a command that is no movement, and tells of the line that it makes a break line, or no
+/// break line any more, if it does.
 #[tactic(auto, unfolding(ss_messages::specs::Messages::posted_all))]
-fn say_point<S: SetBoard>(
+fn obey_standing<S: SetBoard>(
     debugger: &mut Debugger<S>,
     desk: &mut Desk,
     request: &Request,
     post: &mut Post,
-    line: Command,
-    named: u32,
+    command: PromptCommand,
 ) -> Result<(), AllocError>
     requires { post.old.sent + 1 < 2 ^ 64 - 1 }
     ensures input { debugger.new.machine.input ≡ debugger.old.machine.input }
     ensures sent { OnOk result (post.new ≡ posted_all request.now post.old
-        (pointed (adapter_state_of debugger.old desk.old) line named)) }
+        (reply (result_body (console_answer (adapter_state_of debugger.old desk.old) command))
+        ∷ behind_command (adapter_state_of debugger.old desk.old) command false)) }
     ensures state { OnOk result (adapter_state_of debugger.new desk.new
-        ≡ behind_point (adapter_state_of debugger.old desk.old) line named) }
+        ≡ left_at (adapter_state_of debugger.old desk.old)
+        (console_after (adapter_state_of debugger.old desk.old) command)
+        (desk_after (adapter_state_of debugger.old desk.old) command false)) }
 {
-    let was_set = is_break(post.alloc(), debugger, named)?;
-    say(debugger, request, post, line)?;
-    let is_set = is_break(post.alloc(), debugger, named)?;
-    note_break(desk, named, is_set, was_set)?;
+    let alloc = post.alloc();
+    let mut answer = Vec::new(alloc);
+    let Some(line) = command.point(debugger.machine().program()) else {
+        return say(debugger, desk, request, post, command, &mut answer);
+    };
+    let was_set = is_break(alloc, debugger, line)?;
+    say(debugger, desk, request, post, command, &mut answer)?;
+    let is_set = is_break(alloc, debugger, line)?;
+    note_break(desk, line, is_set, was_set)?;
     let program = debugger.machine().program();
-    tell_point(program, &desk.path, request, post, named, is_set, was_set)
+    tell_point(program, &desk.path, request, post, line, is_set, was_set)
 }
 
-/// Obeys a line of the debugger.
+/// Answers a line as the prompt does.
 pub fn obey_line<S: SetBoard>(
     debugger: &mut Debugger<S>,
     desk: &mut Desk,
     request: &Request,
     post: &mut Post,
-    line: Command,
+    line: &[u8],
 ) -> Result<(), AllocError>
     requires { post.old.sent + 3 < 2 ^ 64 - 1 }
     ensures input { debugger.new.machine.input ≡ debugger.old.machine.input }
     ensures sent { OnOk result (post.new ≡ posted_all request.now post.old
-        (obeyed (adapter_state_of debugger.old desk.old) line)) }
+        (obeyed (adapter_state_of debugger.old desk.old) (prompt_command_of line.now))) }
     ensures state { OnOk result (adapter_state_of debugger.new desk.new
-        ≡ behind_line (adapter_state_of debugger.old desk.old) line) }
+        ≡ behind_line (adapter_state_of debugger.old desk.old) (prompt_command_of line.now)) }
 {
-    match line {
-        Command::Move(movement) => go_by_line(debugger, desk, request, post, movement),
-        Command::Break(named) => {
-            say_point(debugger, desk, request, post, Command::Break(named), named)
-        }
-        Command::Clear(named) => {
-            say_point(debugger, desk, request, post, Command::Clear(named), named)
-        }
-        other => say(debugger, request, post, other),
+    let command = prompt_command(line);
+    if command.is_movement() {
+        obey_movement(debugger, desk, request, post, command)
+    } else {
+        obey_standing(debugger, desk, request, post, command)
     }
 }

@@ -2,6 +2,7 @@
 ghost use Rattle.std.specs.Prelude.{◌≡◌, []};
 
 use ss_messages::{Stops, Text};
+use ss_trace::Question;
 use std::alloc::Global;
 use std::marker::Model;
 
@@ -13,6 +14,10 @@ pub const WATCH_LIMIT: usize = 8;
 pub struct Desk {
     /// The path of the model.
     pub(crate) path: Vec<u8>,
+    /// The bytes of the model.
+    pub(crate) model: Vec<u8>,
+    /// The questions that are answered at each stop of the console.
+    pub(crate) displays: Vec<Question>,
     /// The break lines that requests set by lines.
     pub(crate) set: Vec<u32>,
     /// Those that they set by sections.
@@ -32,6 +37,8 @@ impl Model for Desk {
 
     ghost view = { λ k. record {
       path = k.path.items;
+      model = k.model.items;
+      displays = k.displays.items;
       set = k.set.items;
       sections = k.sections.items;
       watched = k.watched.items;
@@ -42,9 +49,11 @@ impl Model for Desk {
 
 impl Desk {
     /// Nothing is set or told yet.
-    pub fn new(alloc: Global, path: Vec<u8>, stops: Stops) -> Self
+    pub fn new(alloc: Global, path: Vec<u8>, model: Vec<u8>, stops: Stops) -> Self
         ensures { result ≡ record {
           path = path.items;
+          model = model.items;
+          displays = [];
           set = [];
           sections = [];
           watched = [];
@@ -54,6 +63,8 @@ impl Desk {
     {
         Desk {
             path,
+            model,
+            displays: Vec::new(alloc),
             set: Vec::new(alloc),
             sections: Vec::new(alloc),
             watched: Vec::new(alloc),

@@ -65,10 +65,11 @@ pub fn launch(
         (λ run. IsLaunched model.now text.now path.now stops run.0 run.1
         × (post.new ≡ posted_all request.now post.old launched))) }
 {
-    let desk = Desk::new(post.alloc(), path.to_vec(post.alloc())?, stops);
+    let alloc = post.alloc();
+    let desk = Desk::new(alloc, path.to_vec(alloc)?, model.to_vec(alloc)?, stops);
     let mut accepted = post.copied()?;
     accept(request, &mut accepted)?;
-    match open_debugger(post.alloc(), model, text) {
+    match open_debugger(alloc, model, text) {
         Ok(debugger) => {
             *post = accepted;
             Ok(Some((debugger, desk)))

@@ -9,7 +9,7 @@ use crate::desk::Desk;
 use crate::going::asked_movement;
 use crate::moving::{configure, go};
 use crate::setting::{set_breaks, set_section_breaks, set_watch};
-use ss_debug::{Debugger, command};
+use ss_debug::Debugger;
 use ss_links::SetBoard;
 use ss_messages::{Command, Post, Request};
 use std::alloc::AllocError;
@@ -49,7 +49,7 @@ fn answer_standing<S: SetBoard>(
             set_watch(debugger, desk, request, post, ids.as_slice())
         }
         Command::ConfigurationDone => configure(debugger, desk, request, post),
-        Command::Obey(text) => obey_line(debugger, desk, request, post, command(text.as_slice())),
+        Command::Obey(text) => obey_line(debugger, desk, request, post, text.as_slice()),
         _ => look(debugger, desk, request, post),
     }
 }

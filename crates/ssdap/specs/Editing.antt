@@ -53,7 +53,16 @@ IsStart path model text stops s =
     × (s ≡ record {
       input = input_with program text;
       debugger = initial_debugger_state;
-      desk = record { path = path; set = []; sections = []; watched = []; told = 0; stops = stops };
+      desk = record {
+        path = path;
+        model = model;
+        displays = [];
+        set = [];
+        sections = [];
+        watched = [];
+        told = 0;
+        stops = stops;
+      };
     })
 
 -- what launch leads to, by what stands at the path of the model and at that of the data
