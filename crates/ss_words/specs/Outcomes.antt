@@ -1,6 +1,6 @@
--- What a call gave beside what the definition gives: answers as defined, and a fault that changes nothing. The contracts
--- of calls that change something and may fault (of the store and of the agenda) are one line each over these: `says` is
--- what holds of what the call gave, what the definition gives, and the value before and behind the call.
+-- What a call gave beside what the definition gives: answers as defined, and a fault that changes nothing. The
+-- contracts of calls that change something and may fault (of the store and of the agenda) are one line each over these:
+-- `says` is what holds of what the call gave, what the definition gives, and the value before and behind the call.
 use Rattle.std.specs.Prelude.{◌≡◌, Result, Ok, Err}
 use Rattle.ss_words.specs.declared.fault.RunFault.{RunFault}
 use Rattle.ss_words.specs.declared.fault.StepFault.{StepFault}

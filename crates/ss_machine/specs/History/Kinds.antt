@@ -1,7 +1,8 @@
 -- Private: the kinds of changes, and the numbers that tell them.
 use Rattle.std.specs.Prelude.{ℕ, ◌/◌, ◌%◌, ◌==◌, if◌then◌else◌}
 use Rattle.ss_machine.specs.declared.history.kinds.ChangeKind.{ChangeKind}
-use Rattle.ss_machine.specs.declared.history.kinds.ChangeKind.TheVariants.{Value, Control, Loop, Entity, Set, Time, Entry, Text}
+use Rattle.ss_machine.specs.declared.history.kinds.ChangeKind.TheVariants.{Value, Control, Loop, Entity}
+use Rattle.ss_machine.specs.declared.history.kinds.ChangeKind.TheVariants.{Set, Time, Entry, Text}
 use Rattle.ss_machine.specs.declared.history.kinds.ValueChangeKind.{ValueChangeKind}
 use Rattle.ss_machine.specs.declared.history.kinds.ValueChangeKind.TheVariants as values
 use Rattle.ss_machine.specs.declared.history.kinds.ControlChangeKind.{ControlChangeKind}
