@@ -20,7 +20,7 @@ use Rattle.ss_store.specs.Tables.{Tables, no_set, set_of}
 use Rattle.ss_store.specs.WellStore.{AreMembers, IsWellStore}
 use Rattle.ss_store.proofs.Core.{some_eq}
 use Rattle.ss_store.proofs.Agree.{map_get}
-use Rattle.ss_store.proofs.Walked.{has-seat_behind}
+use Rattle.ss_store.proofs.ReadingAnswers.{has-seat_behind}
 use Rattle.ss_debug.specs.Entities.{further_members, members_behind}
 
 -- ---- the list of an owner is one of the set's lists

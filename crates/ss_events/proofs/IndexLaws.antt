@@ -10,9 +10,9 @@ use Rattle.ss_links.specs.Board.{Board, IsSound, list_at, list_of, head_of, afte
 use Rattle.ss_links.specs.Seats.{has, times_in, last_of, list_without, put_at}
 use Rattle.ss_links.proofs.SeatLaws.{without-between}
 use Rattle.ss_links.proofs.BoardLaws.{once-list_at, lists-unlinked}
-use Rattle.ss_index.specs.Filing.{passed, rest, filed, IsDivided, EachSeat}
-use Rattle.ss_index.proofs.FilingLaws.{filed-put_at}
-use Rattle.ss_index.proofs.OrderLaws.{filed-first}
+use Rattle.ss_index.specs.Filing.{seats_passed, rest, seats_filed, IsDivided, EachSeat}
+use Rattle.ss_index.proofs.FilingLaws.{seats_filed-put_at}
+use Rattle.ss_index.proofs.OrderLaws.{seats_filed-first}
 use Rattle.ss_events.specs.declared.pending_notice.PendingNotice.{PendingNotice}
 use Rattle.ss_events.specs.declared.pending_notice.Row.{Row}
 use Rattle.ss_events.specs.Agenda.{Pending, pending_at, is_before, of_class}
@@ -42,14 +42,14 @@ Each-both P Q (e ∷ es) h k = ((h.0, k.0), Each-both P Q es h.1 k.1)
 abbrev Agrees : (ℕ → Bool) → (Pending → Pending → Bool) → Pending → List ℕ → List Pending → Type 0
 Agrees p lt e ns es = Each (λ f. p (seat_in ns f.notice) ≡ lt e f) es
 
-pub passed-seats : (ns : List ℕ) (p : ℕ → Bool) (lt : Pending → Pending → Bool) (e : Pending) (es : List Pending) →
-    Agrees p lt e ns es → passed p (seats_of ns es) ≡ seats_of ns (notices_passed lt e es)
-passed-seats ns p lt e [] a = refl
-passed-seats ns p lt e (f ∷ fs) a = rw a.0 (elim (lt e f)
-    as (λ t. cond t [] (seat_in ns f.notice ∷ passed p (seats_of ns fs)) ≡ seats_of ns (cond t [] (f ∷ notices_passed lt
+pub seats_passed-seats : (ns : List ℕ) (p : ℕ → Bool) (lt : Pending → Pending → Bool) (e : Pending) (es : List Pending) →
+    Agrees p lt e ns es → seats_passed p (seats_of ns es) ≡ seats_of ns (notices_passed lt e es)
+seats_passed-seats ns p lt e [] a = refl
+seats_passed-seats ns p lt e (f ∷ fs) a = rw a.0 (elim (lt e f)
+    as (λ t. cond t [] (seat_in ns f.notice ∷ seats_passed p (seats_of ns fs)) ≡ seats_of ns (cond t [] (f ∷ notices_passed lt
     e fs))) [
       | true ↦ refl
-      | false ↦ ap (λ (l : List ℕ). seat_in ns f.notice ∷ l) (passed-seats ns p lt e fs a.1)
+      | false ↦ ap (λ (l : List ℕ). seat_in ns f.notice ∷ l) (seats_passed-seats ns p lt e fs a.1)
     ])
 
 all-behind : (ns : List ℕ) (p : ℕ → Bool) (lt : Pending → Pending → Bool) (e : Pending) (es : List Pending) →
@@ -69,12 +69,12 @@ divided-seats P ns p lt o e (f ∷ fs) k q s a = rw a.0 (elim (lt e f)
     ] refl)
 
 -- between those that come before it and those that it comes before is where a seat is filed
-filed-seats : (ns : List ℕ) (p : ℕ → Bool) (x : ℕ) (lt : Pending → Pending → Bool) (e : Pending) (a b : List Pending) →
+seats_filed-seats : (ns : List ℕ) (p : ℕ → Bool) (x : ℕ) (lt : Pending → Pending → Bool) (e : Pending) (a b : List Pending) →
     Agrees p lt e ns a → Agrees p lt e ns b → Each (λ f. lt e f ≡ false) a → AreBehind lt e b →
-    seats_of ns a ++ x ∷ seats_of ns b ≡ filed p x (seats_of ns a ++ seats_of ns b)
-filed-seats ns p x lt e [] b a c n h = sym (filed-first p x (seats_of ns b) (all-behind ns p lt e b c h))
-filed-seats ns p x lt e (f ∷ fs) b a c n h =
-    rw (a.0, n.0) (ap (λ (l : List ℕ). seat_in ns f.notice ∷ l) (filed-seats ns p x lt e fs b a.1 c n.1 h))
+    seats_of ns a ++ x ∷ seats_of ns b ≡ seats_filed p x (seats_of ns a ++ seats_of ns b)
+seats_filed-seats ns p x lt e [] b a c n h = sym (seats_filed-first p x (seats_of ns b) (all-behind ns p lt e b c h))
+seats_filed-seats ns p x lt e (f ∷ fs) b a c n h =
+    rw (a.0, n.0) (ap (λ (l : List ℕ). seat_in ns f.notice ∷ l) (seats_filed-seats ns p x lt e fs b a.1 c n.1 h))
 
 -- what holds of the seat of each notice holds of each of their seats
 each-seat : (P : ℕ → Type 0) (ns : List ℕ) (es : List Pending) → Each (λ f. P (seat_in ns f.notice)) es →
@@ -149,7 +149,7 @@ pub record IsRanked (rules : List Rule) (es : List Pending) (ns : List ℕ) (e :
   -- they are divided
   pub divided : IsDivided (comes_before rules es ns e) l
   -- the seat before the place
-  pub before : last_of (passed (comes_before rules es ns e) l) ≡ o
+  pub before : last_of (seats_passed (comes_before rules es ns e) l) ≡ o
 
 ranked-class : (rows : List Row) (s : AgendaState) (b : Board) (e : Pending) (l : List ℕ) → IsAgenda rows s b →
     IsOfClass s.rules e → l ≡ class_seats s e.class → IsRanked s.rules s.agenda.pending s.notices e l (rank_place s
@@ -166,7 +166,7 @@ ranked-class rows s b e l k own h =
           rows s b e e.class k own));
       divided = divided-seats (IsKeyed s.rules) s.notices (behind_in s e) (is_before s.rules) (IsOrder-is_before s.rules
           t.ranked) e es own keyed sorted agrees;
-      before = ap last_of (passed-seats s.notices (behind_in s e) (is_before s.rules) e es agrees);
+      before = ap last_of (seats_passed-seats s.notices (behind_in s e) (is_before s.rules) e es agrees);
     })
 
 -- the head of a class within the indexes
@@ -204,12 +204,12 @@ place-is s t e h o v d q = rw (d, q, v) refl
 
 -- an index in which a seat is put is the list of the board on which it is linked
 pub index-put : (ls : List (List ℕ)) (b c : Board) (p : ℕ → Bool) (h x y : ℕ) (l m : List ℕ) (o : Option ℕ) →
-    ls ≡ b.lists → IsSound b → h < length ls → l ≡ get_or ls h l → o ≡ last_of (passed p l) →
-    c ≡ after_relink b x (place_at h o) → m ≡ filed p y l → y ≡ x → set ls h m ≡ c.lists
+    ls ≡ b.lists → IsSound b → h < length ls → l ≡ get_or ls h l → o ≡ last_of (seats_passed p l) →
+    c ≡ after_relink b x (place_at h o) → m ≡ seats_filed p y l → y ≡ x → set ls h m ≡ c.lists
 index-put ls b c p h x y l m o e sound within i q r f u =
     let at : list_at b.lists h ≡ l = rw e at (get_or_default ls h [] l within ∙ sym i) in
     let once : (z : ℕ) → times_in l z ≤ 1 = λ z. rw at at (once-list_at b sound h z) in
-    let filed_at : m ≡ put_at l o x = f ∙ (ap (λ (z : ℕ). filed p z l) u ∙ (filed-put_at p x l once ∙ ap (λ (w : Option
+    let filed_at : m ≡ put_at l o x = f ∙ (ap (λ (z : ℕ). seats_filed p z l) u ∙ (seats_filed-put_at p x l once ∙ ap (λ (w : Option
     ℕ). put_at l w x) (sym q))) in
     let lists : c.lists ≡ set b.lists h (put_at (list_at b.lists h) o x) = ap (λ (d : Board). d.lists) r in
     ap (set ls h) filed_at ∙ (ap (λ (k : List (List ℕ)). set k h (put_at l o x)) e ∙ (ap (λ (k : List ℕ). set b.lists h
@@ -257,7 +257,7 @@ pub record IsRemovable (rules : List Rule) (es : List Pending) (ns : List ℕ) (
     -- they are divided
     pub divided : IsDivided (comes_before rules es ns e) (list_without l x)
     -- the seat stands where it would be put among them
-    pub placed : l ≡ filed (comes_before rules es ns e) x (list_without l x)
+    pub placed : l ≡ seats_filed (comes_before rules es ns e) x (list_without l x)
 
 removable : (rows : List Row) (s : AgendaState) (b : Board) (n : ℕ) (y : PendingNotice) (x : ℕ) (l : List ℕ) →
     IsAgenda rows s b → pending_at s.agenda.pending n ≡ Some (notice_of n y) → x ≡ seat_in s.notices n →
@@ -300,8 +300,8 @@ removable rows s b n y x l k h i j =
       known = rw (others, ← seats_of-append s.notices r.front r.rear) (each-seat (IsComparable s.rules s.agenda.pending
           s.notices z) s.notices (r.front ++ r.rear) parts);
       divided = rw others (divided-parts s.notices p lt z r.front r.rear agrees_front agrees_rear not_behind are_behind);
-      placed = whole ∙ (filed-seats s.notices p x lt z r.front r.rear agrees_front agrees_rear not_behind are_behind ∙ ap
-          (filed p x) (sym others));
+      placed = whole ∙ (seats_filed-seats s.notices p x lt z r.front r.rear agrees_front agrees_rear not_behind are_behind ∙ ap
+          (seats_filed p x) (sym others));
     }
 
 -- the head of a pending notice's seat

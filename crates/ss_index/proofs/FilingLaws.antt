@@ -5,7 +5,7 @@ use Rattle.std.proofs.lemmas.Bool.Decides.{nat_tests}
 use Rattle.std.specs.List.{list_all}
 use Rattle.ss_links.specs.Seats.{has, times_in, last_of, put_at, list_without as without}
 use Rattle.ss_links.proofs.SeatLaws.{without-absent, once-head, once-tail, has-last_of}
-use Rattle.ss_index.specs.Filing.{passed, rest, filed, is_at}
+use Rattle.ss_index.specs.Filing.{seats_passed, rest, seats_filed, is_at}
 
 pub last_of-middle : (l : List ℕ) (y : ℕ) (r : List ℕ) → last_of (l ++ y ∷ r) ≡ Some (unwrap_or (last_of r) y)
 last_of-middle [] y r = refl
@@ -26,10 +26,10 @@ list_all-middle p [] y r = refl
 list_all-middle p (z ∷ l) y r = grind (arith, nat_tests, list_all-middle p l y r)
 
 -- a seat that is behind ends what is passed
-pub passed-behind : (p : ℕ → Bool) (l : List ℕ) (y : ℕ) (r : List ℕ) → p y ≡ true
-    → passed p (l ++ y ∷ r) ≡ passed p l
-passed-behind p [] y r h = grind (arith, nat_tests)
-passed-behind p (z ∷ l) y r h = grind (arith, nat_tests, passed-behind p l y r)
+pub seats_passed-behind : (p : ℕ → Bool) (l : List ℕ) (y : ℕ) (r : List ℕ) → p y ≡ true
+    → seats_passed p (l ++ y ∷ r) ≡ seats_passed p l
+seats_passed-behind p [] y r h = grind (arith, nat_tests)
+seats_passed-behind p (z ∷ l) y r h = grind (arith, nat_tests, seats_passed-behind p l y r)
 
 pub rest-behind : (p : ℕ → Bool) (l : List ℕ) (y : ℕ) (r : List ℕ) → p y ≡ true
     → rest p (l ++ y ∷ r) ≡ rest p l ++ y ∷ r
@@ -37,10 +37,10 @@ rest-behind p [] y r h = grind (arith, nat_tests)
 rest-behind p (z ∷ l) y r h = grind (arith, nat_tests, rest-behind p l y r)
 
 -- in a divided list no seat in front of one that is not behind is behind
-pub passed-front : (p : ℕ → Bool) (l : List ℕ) (y : ℕ) (r : List ℕ) → p y ≡ false
-    → list_all p (rest p (l ++ y ∷ r)) ≡ true → passed p (l ++ y ∷ r) ≡ l ++ y ∷ passed p r
-passed-front p [] y r h d = grind (arith, nat_tests)
-passed-front p (z ∷ l) y r h d = grind (arith, nat_tests, passed-front p l y r, list_all-middle p l y r)
+pub seats_passed-front : (p : ℕ → Bool) (l : List ℕ) (y : ℕ) (r : List ℕ) → p y ≡ false
+    → list_all p (rest p (l ++ y ∷ r)) ≡ true → seats_passed p (l ++ y ∷ r) ≡ l ++ y ∷ seats_passed p r
+seats_passed-front p [] y r h d = grind (arith, nat_tests)
+seats_passed-front p (z ∷ l) y r h d = grind (arith, nat_tests, seats_passed-front p l y r, list_all-middle p l y r)
 
 pub rest-front : (p : ℕ → Bool) (l : List ℕ) (y : ℕ) (r : List ℕ) → p y ≡ false
     → list_all p (rest p (l ++ y ∷ r)) ≡ true → rest p (l ++ y ∷ r) ≡ rest p r
@@ -84,51 +84,51 @@ has-right_of_is_at p x (z ∷ l) r a =
     grind (arith, nat_tests, has-right_of_is_at p x l r, has-middle l x r x)
 
 -- a seat filed in a divided list in which it does not stand is at its place
-pub is_at-filed : (p : ℕ → Bool) (x : ℕ) (l : List ℕ) → has l x ≡ false → list_all p (rest p l) ≡ true
-    → is_at p x (filed p x l) ≡ true
-is_at-filed p x [] h d = grind (arith, nat_tests)
-is_at-filed p x (z ∷ l) h d = grind (arith, nat_tests, is_at-filed p x l)
+pub is_at-seats_filed : (p : ℕ → Bool) (x : ℕ) (l : List ℕ) → has l x ≡ false → list_all p (rest p l) ≡ true
+    → is_at p x (seats_filed p x l) ≡ true
+is_at-seats_filed p x [] h d = grind (arith, nat_tests)
+is_at-seats_filed p x (z ∷ l) h d = grind (arith, nat_tests, is_at-seats_filed p x l)
 
 -- a seat filed and taken out leaves the list as it was
-pub without-filed : (p : ℕ → Bool) (x : ℕ) (l : List ℕ) → has l x ≡ false → without (filed p x l) x ≡ l
-without-filed p x [] h = grind (arith, nat_tests)
-without-filed p x (y ∷ l) h = grind (arith, nat_tests, without-filed p x l, without-absent l x)
+pub without-seats_filed : (p : ℕ → Bool) (x : ℕ) (l : List ℕ) → has l x ≡ false → without (seats_filed p x l) x ≡ l
+without-seats_filed p x [] h = grind (arith, nat_tests)
+without-seats_filed p x (y ∷ l) h = grind (arith, nat_tests, without-seats_filed p x l, without-absent l x)
 
-pub has-filed : (p : ℕ → Bool) (x y : ℕ) (l : List ℕ) → has (filed p x l) y ≡ ((x == y) || has l y)
-has-filed p x y [] = refl
-has-filed p x y (z ∷ l) = grind (arith, nat_tests, has-filed p x y l)
+pub has-seats_filed : (p : ℕ → Bool) (x y : ℕ) (l : List ℕ) → has (seats_filed p x l) y ≡ ((x == y) || has l y)
+has-seats_filed p x y [] = refl
+has-seats_filed p x y (z ∷ l) = grind (arith, nat_tests, has-seats_filed p x y l)
 
 -- what is passed stands in the list
-pub has-passed : (p : ℕ → Bool) (l : List ℕ) (y : ℕ) → has (passed p l) y ≡ true → has l y ≡ true
-has-passed p [] y h = absurd (cc)
-has-passed p (z ∷ l) y h = grind (arith, nat_tests, has-passed p l y)
+pub has-seats_passed : (p : ℕ → Bool) (l : List ℕ) (y : ℕ) → has (seats_passed p l) y ≡ true → has l y ≡ true
+has-seats_passed p [] y h = absurd (cc)
+has-seats_passed p (z ∷ l) y h = grind (arith, nat_tests, has-seats_passed p l y)
 
 -- behind the last one passed, or first: at a list's first seat, by what is passed behind it
-put_at-none : (p : ℕ → Bool) (x y : ℕ) (l : List ℕ) → p y ≡ false → last_of (passed p l) ≡ None
-    → filed p x l ≡ put_at l (last_of (passed p l)) x
-    → filed p x (y ∷ l) ≡ put_at (y ∷ l) (last_of (passed p (y ∷ l))) x
+put_at-none : (p : ℕ → Bool) (x y : ℕ) (l : List ℕ) → p y ≡ false → last_of (seats_passed p l) ≡ None
+    → seats_filed p x l ≡ put_at l (last_of (seats_passed p l)) x
+    → seats_filed p x (y ∷ l) ≡ put_at (y ∷ l) (last_of (seats_passed p (y ∷ l))) x
 put_at-none p x y l b e h = grind (arith, nat_tests)
 
-put_at-some : (p : ℕ → Bool) (x y q : ℕ) (l : List ℕ) → p y ≡ false → has l y ≡ false → last_of (passed p l) ≡ Some q
-    → has l q ≡ true → filed p x l ≡ put_at l (last_of (passed p l)) x
-    → filed p x (y ∷ l) ≡ put_at (y ∷ l) (last_of (passed p (y ∷ l))) x
+put_at-some : (p : ℕ → Bool) (x y q : ℕ) (l : List ℕ) → p y ≡ false → has l y ≡ false → last_of (seats_passed p l) ≡ Some q
+    → has l q ≡ true → seats_filed p x l ≡ put_at l (last_of (seats_passed p l)) x
+    → seats_filed p x (y ∷ l) ≡ put_at (y ∷ l) (last_of (seats_passed p (y ∷ l))) x
 put_at-some p x y q l b a e i h = grind (arith, nat_tests)
 
 put_at-front : (p : ℕ → Bool) (x y : ℕ) (l : List ℕ) → p y ≡ true
-    → filed p x (y ∷ l) ≡ put_at (y ∷ l) (last_of (passed p (y ∷ l))) x
+    → seats_filed p x (y ∷ l) ≡ put_at (y ∷ l) (last_of (seats_passed p (y ∷ l))) x
 put_at-front p x y l b = grind arith
 
-pub filed-put_at : (p : ℕ → Bool) (x : ℕ) (l : List ℕ) → ((y : ℕ) → times_in l y ≤ 1)
-    → filed p x l ≡ put_at l (last_of (passed p l)) x
-filed-put_at p x [] once = refl
-filed-put_at p x (y ∷ l) once =
-    let h = filed-put_at p x l (once-tail y l once) in
-    elim (p y) as (λ t. p y ≡ t → filed p x (y ∷ l) ≡ put_at (y ∷ l) (last_of (passed p (y ∷ l))) x) [
+pub seats_filed-put_at : (p : ℕ → Bool) (x : ℕ) (l : List ℕ) → ((y : ℕ) → times_in l y ≤ 1)
+    → seats_filed p x l ≡ put_at l (last_of (seats_passed p l)) x
+seats_filed-put_at p x [] once = refl
+seats_filed-put_at p x (y ∷ l) once =
+    let h = seats_filed-put_at p x l (once-tail y l once) in
+    elim (p y) as (λ t. p y ≡ t → seats_filed p x (y ∷ l) ≡ put_at (y ∷ l) (last_of (seats_passed p (y ∷ l))) x) [
       | true ↦ λ b. put_at-front p x y l b
-      | false ↦ λ b. elim (last_of (passed p l)) as (λ o. last_of (passed p l) ≡ o
-          → filed p x (y ∷ l) ≡ put_at (y ∷ l) (last_of (passed p (y ∷ l))) x) [
+      | false ↦ λ b. elim (last_of (seats_passed p l)) as (λ o. last_of (seats_passed p l) ≡ o
+          → seats_filed p x (y ∷ l) ≡ put_at (y ∷ l) (last_of (seats_passed p (y ∷ l))) x) [
             | None ↦ λ e. put_at-none p x y l b e h
             | Some q ↦ λ e. put_at-some p x y q l b (once-head y l once) e
-                (has-passed p l q (has-last_of (passed p l) q e)) h
+                (has-seats_passed p l q (has-last_of (seats_passed p l) q e)) h
           ] refl
     ] refl

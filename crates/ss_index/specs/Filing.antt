@@ -4,9 +4,9 @@ use Rattle.std.specs.List.{list_all}
 use Rattle.ss_links.specs.Seats.{has}
 
 -- the seats up to the first one that is behind
-abbrev pub passed : (ℕ → Bool) → List ℕ → List ℕ
-passed behind [] = []
-passed behind (y ∷ ys) = if behind y then [] else y ∷ passed behind ys
+abbrev pub seats_passed : (ℕ → Bool) → List ℕ → List ℕ
+seats_passed behind [] = []
+seats_passed behind (y ∷ ys) = if behind y then [] else y ∷ seats_passed behind ys
 
 -- the seats from the first one on that is behind
 abbrev pub rest : (ℕ → Bool) → List ℕ → List ℕ
@@ -14,8 +14,8 @@ rest behind [] = []
 rest behind (y ∷ ys) = if behind y then y ∷ ys else rest behind ys
 
 -- the list with a seat filed
-abbrev pub filed : (ℕ → Bool) → ℕ → List ℕ → List ℕ
-filed behind x l = passed behind l ++ x ∷ rest behind l
+abbrev pub seats_filed : (ℕ → Bool) → ℕ → List ℕ → List ℕ
+seats_filed behind x l = seats_passed behind l ++ x ∷ rest behind l
 
 -- from the first seat on that is behind, all are
 abbrev pub IsDivided : (ℕ → Bool) → List ℕ → Type 0

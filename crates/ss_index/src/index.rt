@@ -1,7 +1,7 @@
 ghost use Rattle.std.specs.Prelude.{◌≡◌, ◌++◌, [], ◌∷◌};
 ghost use Rattle.std.specs.Option.{option_to_list};
 ghost use Rattle.ss_links.specs.Seats.{first_of, last_of, list_without};
-ghost use Rattle.ss_index.specs.Filing.{passed, filed, IsDivided, EachSeat};
+ghost use Rattle.ss_index.specs.Filing.{seats_passed, seats_filed, IsDivided, EachSeat};
 
 use crate::node::SeatNode;
 use crate::order::Order;
@@ -48,8 +48,8 @@ impl SeatIndex {
     pub fn put<O: Order>(&mut self, node: SeatNode, order: &O) -> Option<u32>
         requires known { EachSeat (O.knows order.now) self.old }
         requires divided { IsDivided (O.behind order.now) self.old }
-        ensures seats { self.new ≡ filed (O.behind order.now) node self.old }
-        ensures before { result ≡ last_of (passed (O.behind order.now) self.old) }
+        ensures seats { self.new ≡ seats_filed (O.behind order.now) node self.old }
+        ensures before { result ≡ last_of (seats_passed (O.behind order.now) self.old) }
     {
         let (front, rest) = split(mem::replace(&mut self.root, Tree::Leaf), order);
         let before = last(&front);
@@ -82,7 +82,7 @@ impl SeatIndex {
     pub fn take<O: Order>(&mut self, seat: u32, order: &O) -> SeatNode
         requires known { EachSeat (O.knows order.now) (list_without self.old seat) }
         requires divided { IsDivided (O.behind order.now) (list_without self.old seat) }
-        requires placed { self.old ≡ filed (O.behind order.now) seat (list_without self.old seat) }
+        requires placed { self.old ≡ seats_filed (O.behind order.now) seat (list_without self.old seat) }
         ensures seats { self.new ≡ list_without self.old seat }
         ensures node { result ≡ seat }
     {

@@ -2,7 +2,7 @@
 ghost use Rattle.std.specs.Prelude.{◌≡◌, ◌++◌, IsTrue};
 ghost use Rattle.std.specs.Option.{option_to_list};
 ghost use Rattle.ss_links.specs.Seats.{first_of, last_of, list_without};
-ghost use Rattle.ss_index.specs.Filing.{passed, rest, IsDivided, EachSeat, is_at};
+ghost use Rattle.ss_index.specs.Filing.{seats_passed, rest, IsDivided, EachSeat, is_at};
 ghost use Rattle.ss_index.specs.Trees.{inorder};
 
 use crate::node::SeatNode;
@@ -88,7 +88,7 @@ pub(crate) fn merge(front: Tree, rest: Tree) -> Tree
 pub(crate) fn split<O: Order>(tree: Tree, order: &O) -> (Tree, Tree)
     requires known { EachSeat (O.knows order.now) (inorder tree) }
     requires divided { IsDivided (O.behind order.now) (inorder tree) }
-    ensures front { inorder result.0 ≡ passed (O.behind order.now) (inorder tree) }
+    ensures front { inorder result.0 ≡ seats_passed (O.behind order.now) (inorder tree) }
     ensures rest { inorder result.1 ≡ rest (O.behind order.now) (inorder tree) }
 {
     match tree {

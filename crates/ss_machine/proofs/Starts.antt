@@ -45,7 +45,7 @@ use Rattle.ss_program.specs.declared.variable.Variable.TheVariants.{Global}
 use Rattle.ss_machine.specs.Storing.{IsScheduling}
 use Rattle.ss_machine.specs.Well.{IsInBounds, IsDue}
 use Rattle.ss_machine.proofs.Ranges.{Got, after_got, anything}
-use Rattle.ss_machine.proofs.Evaluated.{values_counted}
+use Rattle.ss_machine.proofs.ValueCounts.{values_counted}
 use Rattle.ss_machine.proofs.Sounds.{event_within}
 use Rattle.ss_machine.proofs.Staying.{named_positive}
 use Rattle.ss_machine.proofs.Dues.{least_of_each, least_due}

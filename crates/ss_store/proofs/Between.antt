@@ -16,7 +16,7 @@ use Rattle.ss_store.specs.Store.{changed_reference, with_owned}
 use Rattle.ss_store.specs.Filing.{ranks_behind, filed_by}
 use Rattle.ss_store.specs.Places.{NonePasses, FirstPasses, IsRulePlace, FiledBetween}
 use Rattle.ss_store.specs.Places.{OtherListsStay}
-use Rattle.ss_store.proofs.Relist.{is_or_not}
+use Rattle.ss_store.proofs.OneListChanges.{is_or_not}
 use Rattle.ss_store.proofs.More.{index_other}
 
 append_nil : {A : Type 0} (xs : List A) → xs ≡ xs ++ []

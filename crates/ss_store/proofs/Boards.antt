@@ -7,7 +7,7 @@ use Rattle.ss_links.specs.Board.{Board, IsSound, list_at, head_of, with_list}
 use Rattle.ss_links.specs.Seats.{has, put_behind, put_before, list_without}
 use Rattle.ss_links.proofs.BoardLaws.{head_of-list_at, list_at-map}
 use Rattle.ss_store.proofs.Core.{some_eq}
-use Rattle.ss_store.proofs.Relist.{Relisted, is_or_not}
+use Rattle.ss_store.proofs.OneListChanges.{Relisted, is_or_not}
 
 -- a list set at a head
 list_set : (ls : List (List ℕ)) (h : ℕ) (m : List ℕ) → h < length ls → list_at (set ls h m) h ≡ m

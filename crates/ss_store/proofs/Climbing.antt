@@ -22,9 +22,9 @@ use Rattle.ss_store.specs.Lists.{placed_before}
 use Rattle.ss_store.specs.Finding.{rank_before, Among, is_at}
 use Rattle.ss_store.specs.Order.{Climbs}
 use Rattle.ss_store.proofs.Core.{some_eq}
-use Rattle.ss_store.proofs.Relist.{is_or_not}
-use Rattle.ss_store.proofs.Among.{among_begins, among_goes_on, among_passed, among_has, left_none, once_in, seat_in, next_is}
-use Rattle.ss_store.proofs.Filed.{is_at_eq}
+use Rattle.ss_store.proofs.OneListChanges.{is_or_not}
+use Rattle.ss_store.proofs.SearchPlaces.{among_begins, among_goes_on, among_passed, among_has, left_none, once_in, seat_in, next_is}
+use Rattle.ss_store.proofs.FilingChanges.{is_at_eq}
 
 -- ---- the order of key values
 

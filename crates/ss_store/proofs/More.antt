@@ -11,7 +11,7 @@ use Rattle.ss_store.specs.Rows.{RowTable, EntityTable, no_rows, rows_in}
 use Rattle.ss_store.specs.Invariant.{used_of, used_made, used_in}
 use Rattle.ss_store.specs.Making.{with_table, with_row}
 use Rattle.ss_store.proofs.Core.{some_eq}
-use Rattle.ss_store.proofs.Relist.{is_or_not}
+use Rattle.ss_store.proofs.OneListChanges.{is_or_not}
 
 pub left : {A : Type 0} (xs ys : List A) (i : ℕ) (x : A) → slice_get xs i ≡ Some x → slice_get (xs ++ ys) i ≡ Some x
 left [] ys i x e = cc

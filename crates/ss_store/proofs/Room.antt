@@ -15,7 +15,7 @@ use Rattle.ss_store.specs.Writing.{with_values}
 use Rattle.ss_store.proofs.Core.{some_eq}
 use Rattle.ss_store.proofs.Agree.{get_below}
 use Rattle.ss_store.proofs.More.{IsTable, table_here, table_made, change_change}
-use Rattle.ss_store.proofs.Grown.{list_more, list_past}
+use Rattle.ss_store.proofs.OneMoreEntity.{list_more, list_past}
 use Rattle.ss_links.specs.Seats.{has}
 use Rattle.std.proofs.lemmas.Bool.Decides.{nat_tests}
 use Rattle.ss_links.proofs.SeatLaws.{times_in-present}

@@ -11,7 +11,7 @@ use Rattle.ss_store.specs.Parts.{StoreParts, state_of, value_of}
 use Rattle.ss_store.specs.Value.{StoreValue}
 use Rattle.ss_store.proofs.Core.{found}
 use Rattle.ss_store.proofs.Agree.{entity_some, entity_none, entity_is}
-use Rattle.ss_store.proofs.Ranked.{values_some, values_none}
+use Rattle.ss_store.proofs.RankPlaces.{values_some, values_none}
 
 -- an attribute of values that were found
 abbrev attribute_if : ℕ → Option (List ℤ) → Result ℤ RunFault

@@ -28,12 +28,12 @@ use Rattle.ss_store.specs.Parts.{number_at, numbers_under}
 use Rattle.ss_store.specs.Parts.{owned_from, entity_with, reference_with, made_with, zip_table, state_of}
 use Rattle.ss_store.specs.WellStore.{Each, IsEntity, IsReference, IsWellStore}
 use Rattle.ss_store.proofs.Core.{some_eq, head_entry, seat_number, member_of}
-use Rattle.ss_store.proofs.Relist.{zipped_some, reference_class}
+use Rattle.ss_store.proofs.OneListChanges.{zipped_some, reference_class}
 use Rattle.ss_store.proofs.Boards.{Apart}
 use Rattle.ss_store.proofs.Agree.{made_is, made_living, list_owner, stands_index, apart, member_is, length_mapped}
 use Rattle.ss_store.proofs.Agree.{get_map, class_some, list_look}
 use Rattle.ss_store.proofs.Agree.{entity_none}
-use Rattle.ss_store.proofs.Made.{length_zipped}
+use Rattle.ss_store.proofs.MakingAnswers.{length_zipped}
 
 -- ---- lists
 

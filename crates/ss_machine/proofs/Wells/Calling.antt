@@ -42,7 +42,7 @@ use Rattle.ss_machine.proofs.Sounds.{event_there}
 use Rattle.ss_machine.proofs.Ranges.{Got, after_got, IsIn, AreIn, zeros_in}
 use Rattle.ss_machine.proofs.ValuesIn.{value_in}
 use Rattle.ss_machine.proofs.Rests.{LeavesRest, values_rest}
-use Rattle.ss_machine.proofs.Evaluated.{values_counted}
+use Rattle.ss_machine.proofs.ValueCounts.{values_counted}
 use Rattle.ss_machine.proofs.Entries.{IsIdle, entry_pushed, entry_popped, entry_idle}
 use Rattle.ss_machine.proofs.Wells.Shared.{both_got, marked_well, readings_in, rest_place, settled_well}
 use Rattle.ss_machine.proofs.Wells.Shared.{state_at_place_well, taken_well}

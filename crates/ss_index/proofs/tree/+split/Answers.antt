@@ -1,6 +1,6 @@
 use Rattle.std.proofs.Common.{◌≡◌, true, false, ap, arith, rules}
 use Rattle.ss_index.specs.Trees.{inorder}
-use Rattle.ss_index.proofs.FilingLaws.{passed-behind, rest-behind, passed-front, rest-front}
+use Rattle.ss_index.proofs.FilingLaws.{seats_passed-behind, rest-behind, seats_passed-front, rest-front}
 use Rattle.ss_index.proofs.ForkLaws.{known-here, known-left, known-right, divided-left, divided-right, fewer-left, fewer-right}
 use Rattle.ss_index.proofs.tree.+split.Goals as goal
 
@@ -39,7 +39,7 @@ split-front-requires-else-is_behind g t c κs within =
 pub returns-then-is_behind-clause-front : goal.returns-then-is_behind-clause-front
 returns-then-is_behind-clause-front g t c =
     let e = ap inorder c.in-Fork.is in
-    grind (arith, passed-behind (g.O.Order.behind c.args.order.now))
+    grind (arith, seats_passed-behind (g.O.Order.behind c.args.order.now))
 
 pub returns-then-is_behind-clause-rest : goal.returns-then-is_behind-clause-rest
 returns-then-is_behind-clause-rest g t c =
@@ -50,7 +50,7 @@ pub returns-else-is_behind-clause-front : goal.returns-else-is_behind-clause-fro
 returns-else-is_behind-clause-front g t c =
     let e = ap inorder c.in-Fork.is in
     let divided = c.requires.divided in
-    grind (arith, passed-front (g.O.Order.behind c.args.order.now))
+    grind (arith, seats_passed-front (g.O.Order.behind c.args.order.now))
 
 pub returns-else-is_behind-clause-rest : goal.returns-else-is_behind-clause-rest
 returns-else-is_behind-clause-rest g t c =

@@ -1,4 +1,4 @@
-use Rattle.ss_machine.proofs.Kept.{step_items}
+use Rattle.ss_machine.proofs.SameItems.{step_items}
 use Rattle.ss_machine.proofs.laws.steps_keep_items.Goals as goal
 
 pub returns : goal.returns

@@ -1,7 +1,7 @@
 use Rattle.std.proofs.Common.{sym, ◌∙◌, ap}
 use Rattle.std.specs.Prelude.{is_some}
 use Rattle.ss_links.specs.Board.{list_at}
-use Rattle.ss_store.proofs.Ended.{filled_next, filled_here, filled_first, none_first}
+use Rattle.ss_store.proofs.ReferenceEnds.{filled_next, filled_here, filled_first, none_first}
 use Rattle.ss_store.proofs.ending.has_members.Goals as goal
 
 pub returns-then-is_some : goal.returns-then-is_some

@@ -1,7 +1,7 @@
 use Rattle.std.proofs.Common.{length}
 use Rattle.ss_links.specs.Board.{list_at}
 use Rattle.ss_store.specs.Order.{seat_after}
-use Rattle.ss_store.proofs.Among.{rest_from}
+use Rattle.ss_store.proofs.SearchPlaces.{rest_from}
 use Rattle.ss_store.proofs.Climbing.{Walks}
 use Rattle.ss_store.proofs.ranking.climbs.Given as goal
 

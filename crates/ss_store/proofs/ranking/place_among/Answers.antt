@@ -1,5 +1,5 @@
 use Rattle.std.proofs.Common.{sym, ◌∙◌, arith}
-use Rattle.ss_store.proofs.Among.{among_in, fewer_in, among_next}
+use Rattle.ss_store.proofs.SearchPlaces.{among_in, fewer_in, among_next}
 use Rattle.ss_store.proofs.ranking.place_among.Goals as goal
 
 pub loop-at-init : goal.loop-at-init

@@ -4,7 +4,7 @@ use Rattle.ss_links.specs.Board.{list_at}
 use Rattle.ss_program.specs.Keys.{by_keys, key_values}
 use Rattle.ss_store.specs.Finding.{keys_in, Among}
 use Rattle.ss_store.specs.Parts.{number_at}
-use Rattle.ss_store.proofs.Among.{rest_from}
+use Rattle.ss_store.proofs.SearchPlaces.{rest_from}
 use Rattle.ss_store.proofs.ranking.place_among.Given as goal
 
 -- the list is what was passed, none of which ranks behind, and what is left

@@ -1,6 +1,6 @@
 use Rattle.std.proofs.Common.{arith}
 use Rattle.ss_values.specs.Seen.{view_readings}
-use Rattle.ss_machine.proofs.Evaluated.{values_length}
+use Rattle.ss_machine.proofs.ValueCounts.{values_length}
 use Rattle.ss_machine.proofs.Sounds.{called_there, called_few}
 use Rattle.ss_machine.proofs.executor.Executor.run_call.Goals as goal
 

@@ -3,7 +3,7 @@ use Rattle.ss_journal.specs.Log.{Log}
 use Rattle.ss_machine.specs.Change.{Change}
 use Rattle.ss_machine.proofs.Histories.{no_numbers, none_kept, steps_of-newest}
 use Rattle.ss_machine.proofs.Histories.{newest_written}
-use Rattle.ss_machine.proofs.Written.{change_count-newest}
+use Rattle.ss_machine.proofs.NumberBytes.{change_count-newest}
 use Rattle.ss_machine.proofs.history.History.keep_last.Goals as goal
 
 pub keep_last-requires : goal.keep_last-requires

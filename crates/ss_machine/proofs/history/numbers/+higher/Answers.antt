@@ -1,5 +1,5 @@
 use Rattle.std.proofs.Common.{rules}
-use Rattle.ss_machine.proofs.Written.{small_rest}
+use Rattle.ss_machine.proofs.NumberBytes.{small_rest}
 use Rattle.ss_machine.proofs.history.numbers.+higher.Goals as goal
 
 pub higher-requires : goal.higher-requires

@@ -1,6 +1,6 @@
 use Rattle.std.proofs.Common.{ℕ, ◌+◌, ◌/◌, ◌^◌, ◌<◌, ◌≤◌, ap, arith}
 use Rattle.ss_journal.specs.Log.{Log}
-use Rattle.ss_machine.proofs.Written.{group_room}
+use Rattle.ss_machine.proofs.NumberBytes.{group_room}
 use Rattle.ss_machine.proofs.history.numbers.+put.Goals.{put-then-higher-lt-GROUP, put-else-higher-lt-GROUP}
 use Rattle.ss_machine.proofs.history.numbers.+put.Goals as goal
 

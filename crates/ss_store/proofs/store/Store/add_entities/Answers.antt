@@ -1,5 +1,5 @@
 use Rattle.std.proofs.Common.{arith}
-use Rattle.ss_store.proofs.Chained.{makes_none, makes_next, room_for, same_class}
+use Rattle.ss_store.proofs.MakingChains.{makes_none, makes_next, room_for, same_class}
 use Rattle.ss_store.proofs.store.Store.add_entities.Goals as goal
 
 pub loop-made-init : goal.loop-made-init

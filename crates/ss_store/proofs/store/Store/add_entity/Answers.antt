@@ -1,7 +1,7 @@
-use Rattle.ss_store.proofs.Made.{at_of, heads_fit, seats_fit, added_pair, added_makes, kept_pair, kept_value}
+use Rattle.ss_store.proofs.MakingAnswers.{at_of, heads_fit, seats_fit, added_pair, added_makes, kept_pair, kept_value}
 use Rattle.ss_store.proofs.Room.{if_ok, if_ok_err, on_err, on_err_ok}
-use Rattle.ss_store.proofs.Made.{Adds}
-use Rattle.ss_store.proofs.Ordered.{added_order, fewer_known, kept_order}
+use Rattle.ss_store.proofs.MakingAnswers.{Adds}
+use Rattle.ss_store.proofs.ListOrders.{added_order, fewer_known, kept_order}
 use Rattle.ss_store.proofs.store.Store.add_entity.Goals.{in-Err, in-Ok}
 use Rattle.ss_store.proofs.store.Store.add_entity.Goals as goal
 

@@ -1,6 +1,6 @@
 use Rattle.std.proofs.Common.{◌-◌, refl}
-use Rattle.ss_store.proofs.Destroyed.{lay, lay_below, back_pair, back_value}
-use Rattle.ss_store.proofs.Ordered.{none_known}
+use Rattle.ss_store.proofs.EndingAnswers.{lay, lay_below, back_pair, back_value}
+use Rattle.ss_store.proofs.ListOrders.{none_known}
 use Rattle.ss_store.proofs.store.Store.bring_back.Goals as goal
 
 pub put_values-requires-clause-index : goal.put_values-requires-clause-index

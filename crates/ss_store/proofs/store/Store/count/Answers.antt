@@ -6,7 +6,7 @@ use Rattle.ss_store.specs.Tables.{set_of}
 use Rattle.ss_store.specs.Filing.{count}
 use Rattle.ss_store.proofs.Calls.{case_of, head_small}
 use Rattle.ss_store.proofs.Agree.{head_below}
-use Rattle.ss_store.proofs.Walked.{count_no_owner, count_is}
+use Rattle.ss_store.proofs.ReadingAnswers.{count_no_owner, count_is}
 use Rattle.ss_store.proofs.store.Store.count.Goals as goal
 
 pub head_of-requires : goal.head_of-requires

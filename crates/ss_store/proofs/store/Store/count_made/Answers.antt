@@ -1,4 +1,4 @@
-use Rattle.ss_store.proofs.Made.{at_of, count_given, count_all}
+use Rattle.ss_store.proofs.MakingAnswers.{at_of, count_given, count_all}
 use Rattle.ss_store.proofs.store.Store.count_made.Goals as goal
 
 pub returns-clause-given : goal.returns-clause-given

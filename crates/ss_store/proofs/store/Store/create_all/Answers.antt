@@ -1,5 +1,5 @@
 use Rattle.std.proofs.Common.{rules, arith}
-use Rattle.ss_store.proofs.Chained.{all_made, none_made}
+use Rattle.ss_store.proofs.MakingChains.{all_made, none_made}
 use Rattle.ss_store.proofs.store.Store.create_all.Goals as goal
 
 pub returns-in-Ok : goal.returns-in-Ok

@@ -1,11 +1,11 @@
 use Rattle.std.proofs.Common.{rules, w64, FitsSigned, ap, sym, ◌∙◌, ◌-◌, refl}
 use Rattle.std.proofs.lemmas.Int.{to_z-of_z}
 use Rattle.ss_store.specs.Store.{number_of}
-use Rattle.ss_store.proofs.Made.{at_of}
-use Rattle.ss_store.proofs.Destroyed.{lives, seats_below, heads_below, index_below, end_fault, none_ends, member_stays}
-use Rattle.ss_store.proofs.Destroyed.{owner_stays, found_out, ended_pair, taken_out, ended_outcome}
-use Rattle.ss_store.proofs.Destroyed.{lives}
-use Rattle.ss_store.proofs.Ordered.{ended_order}
+use Rattle.ss_store.proofs.MakingAnswers.{at_of}
+use Rattle.ss_store.proofs.EndingAnswers.{lives, seats_below, heads_below, index_below, end_fault, none_ends, member_stays}
+use Rattle.ss_store.proofs.EndingAnswers.{owner_stays, found_out, ended_pair, taken_out, ended_outcome}
+use Rattle.ss_store.proofs.EndingAnswers.{lives}
+use Rattle.ss_store.proofs.ListOrders.{ended_order}
 use Rattle.ss_store.proofs.store.Store.destroy.Goals as goal
 
 pub returns-in-None : goal.returns-in-None

@@ -12,7 +12,7 @@ use Rattle.ss_store.specs.Finding.{place_by}
 use Rattle.ss_store.proofs.Calls.{case_of, head_small, seat_small, file_no_owner, file_no_member, file_none_named}
 use Rattle.ss_store.proofs.Calls.{file_already, file_not_there, spot_below, can_relink, file_store, file_left, file_to}
 use Rattle.ss_store.proofs.Agree.{head_below, seat_below}
-use Rattle.ss_store.proofs.Ordered.{filed_order, known_order, started}
+use Rattle.ss_store.proofs.ListOrders.{filed_order, known_order, started}
 use Rattle.ss_store.proofs.store.Store.file.Goals as goal
 
 pub head_of-requires : goal.head_of-requires

@@ -7,7 +7,7 @@ use Rattle.ss_store.specs.Tables.{set_of}
 use Rattle.ss_store.specs.Filing.{is_in}
 use Rattle.ss_store.proofs.Calls.{case_of, head_small}
 use Rattle.ss_store.proofs.Agree.{seat_below}
-use Rattle.ss_store.proofs.Walked.{is_in_fault, is_in_false, is_in_true}
+use Rattle.ss_store.proofs.ReadingAnswers.{is_in_fault, is_in_false, is_in_true}
 use Rattle.ss_store.proofs.store.Store.is_in.Goals as goal
 
 pub seat_in-requires-clause-heads : goal.seat_in-requires-clause-heads

@@ -4,7 +4,7 @@ use Rattle.ss_store.specs.Tables.{set_of}
 use Rattle.ss_store.specs.Store.{number_of}
 use Rattle.ss_store.specs.Filing.{membership}
 use Rattle.ss_store.proofs.Calls.{case_of, seat_small}
-use Rattle.ss_store.proofs.Kept.{kept_seat, membership_none, membership_is}
+use Rattle.ss_store.proofs.KeptAttributes.{kept_seat, membership_none, membership_is}
 use Rattle.ss_store.proofs.store.Store.membership.Goals as goal
 
 pub seat_of-requires : goal.seat_of-requires

@@ -3,7 +3,7 @@ use Rattle.std.specs.Prelude.{IfOk}
 use Rattle.ss_program.specs.Program.{ProgramTable}
 use Rattle.ss_store.specs.Tables.{Tables}
 use Rattle.ss_store.specs.Value.{empty_value}
-use Rattle.ss_store.proofs.Begun.{program_tables, program_fits}
+use Rattle.ss_store.proofs.EmptyStores.{program_tables, program_fits}
 use Rattle.ss_store.proofs.store.Store.new.Goals as goal
 
 pub with_tables-requires-clause-tables : goal.with_tables-requires-clause-tables

@@ -1,9 +1,9 @@
 use Rattle.std.proofs.lemmas.Int.{to_z-of_z}
 use Rattle.std.proofs.Common.{rules, w64, FitsSigned, ◌-◌, refl}
 use Rattle.ss_store.specs.Making.{numbering_by}
-use Rattle.ss_store.proofs.Made.{at_of}
-use Rattle.ss_store.proofs.Written.{signed_range, row_there, lies, living_at, as_value, set_pair, set_value}
-use Rattle.ss_store.proofs.Ordered.{none_known}
+use Rattle.ss_store.proofs.MakingAnswers.{at_of}
+use Rattle.ss_store.proofs.ValueWrites.{signed_range, row_there, lies, living_at, as_value, set_pair, set_value}
+use Rattle.ss_store.proofs.ListOrders.{none_known}
 use Rattle.ss_store.proofs.store.Store.reset.Goals as goal
 
 pub replace-requires-clause-living : goal.replace-requires-clause-living

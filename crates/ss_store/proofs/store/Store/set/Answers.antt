@@ -2,10 +2,10 @@ use Rattle.std.proofs.Common.{rules, w64, FitsSigned, ap, sym, ◌∙◌, ◌-�
 use Rattle.std.proofs.lemmas.Int.{to_z-of_z}
 use Rattle.ss_store.specs.Store.{number_of}
 use Rattle.ss_store.specs.Making.{numbering_by}
-use Rattle.ss_store.proofs.Made.{at_of}
-use Rattle.ss_store.proofs.Written.{signed_range, lies, living_at, as_value, set_pair, set_outcome_to, set_none_to}
-use Rattle.ss_store.proofs.Ordered.{set_order}
-use Rattle.ss_store.proofs.Destroyed.{seats_below}
+use Rattle.ss_store.proofs.MakingAnswers.{at_of}
+use Rattle.ss_store.proofs.ValueWrites.{signed_range, lies, living_at, as_value, set_pair, set_outcome_to, set_none_to}
+use Rattle.ss_store.proofs.ListOrders.{set_order}
+use Rattle.ss_store.proofs.EndingAnswers.{seats_below}
 use Rattle.ss_store.proofs.store.Store.set.Goals as goal
 
 pub returns-in-None : goal.returns-in-None

@@ -6,7 +6,7 @@ use Rattle.ss_store.specs.Store.{number_of}
 use Rattle.ss_store.specs.Filing.{successor}
 use Rattle.ss_store.specs.Parts.{number_at}
 use Rattle.ss_store.proofs.Calls.{case_of, seat_small}
-use Rattle.ss_store.proofs.Kept.{kept_seat, successor_none, successor_is, successor_below}
+use Rattle.ss_store.proofs.KeptAttributes.{kept_seat, successor_none, successor_is, successor_below}
 use Rattle.ss_store.proofs.store.Store.successor.Goals as goal
 
 pub seat_of-requires : goal.seat_of-requires

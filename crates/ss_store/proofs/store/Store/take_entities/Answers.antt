@@ -1,6 +1,6 @@
 use Rattle.std.proofs.Common.{◌+◌, ◌-◌, subst, sym}
 use Rattle.ss_store.specs.Making.{TakesOff}
-use Rattle.ss_store.proofs.Taken.{less_first, less_class, less_next, less_last}
+use Rattle.ss_store.proofs.TakingOffAnswers.{less_first, less_class, less_next, less_last}
 use Rattle.ss_store.proofs.store.Store.take_entities.Goals as goal
 
 pub loop-init : goal.loop-init

@@ -1,7 +1,7 @@
 use Rattle.ss_store.specs.Making.{numbering_by}
-use Rattle.ss_store.proofs.Made.{at_of}
-use Rattle.ss_store.proofs.Taken.{newest, any_row, shrinks, takes, taken_pair, taken_value}
-use Rattle.ss_store.proofs.Ordered.{none_known}
+use Rattle.ss_store.proofs.MakingAnswers.{at_of}
+use Rattle.ss_store.proofs.TakingOffAnswers.{newest, any_row, shrinks, takes, taken_pair, taken_value}
+use Rattle.ss_store.proofs.ListOrders.{none_known}
 use Rattle.ss_store.proofs.store.Store.take_entity.Goals as goal
 
 pub shrink-requires-clause-any : goal.shrink-requires-clause-any

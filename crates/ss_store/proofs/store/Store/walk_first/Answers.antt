@@ -8,7 +8,7 @@ use Rattle.ss_store.specs.Tables.{set_of}
 use Rattle.ss_store.specs.Filing.{walk_first}
 use Rattle.ss_store.proofs.Calls.{case_of, head_small}
 use Rattle.ss_store.proofs.Agree.{head_below}
-use Rattle.ss_store.proofs.Walked.{first_no_owner, first_is, first_below}
+use Rattle.ss_store.proofs.ReadingAnswers.{first_no_owner, first_is, first_below}
 use Rattle.ss_store.proofs.store.Store.walk_first.Goals as goal
 
 pub head_of-requires : goal.head_of-requires

@@ -8,7 +8,7 @@ use Rattle.ss_store.specs.Tables.{set_of}
 use Rattle.ss_store.specs.Filing.{walk_last}
 use Rattle.ss_store.proofs.Calls.{case_of, head_small}
 use Rattle.ss_store.proofs.Agree.{head_below}
-use Rattle.ss_store.proofs.Walked.{last_no_owner, last_is, last_below}
+use Rattle.ss_store.proofs.ReadingAnswers.{last_no_owner, last_is, last_below}
 use Rattle.ss_store.proofs.store.Store.walk_last.Goals as goal
 
 pub head_of-requires : goal.head_of-requires

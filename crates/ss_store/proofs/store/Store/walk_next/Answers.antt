@@ -9,7 +9,7 @@ use Rattle.ss_store.specs.Filing.{walk_next}
 use Rattle.ss_store.specs.Parts.{number_at}
 use Rattle.ss_store.proofs.Calls.{case_of, head_small}
 use Rattle.ss_store.proofs.Agree.{seat_below}
-use Rattle.ss_store.proofs.Walked.{next_fault, next_left, next_is, next_below, seat_there}
+use Rattle.ss_store.proofs.ReadingAnswers.{next_fault, next_left, next_is, next_below, seat_there}
 use Rattle.ss_store.proofs.store.Store.walk_next.Goals as goal
 
 pub seat_in-requires-clause-heads : goal.seat_in-requires-clause-heads

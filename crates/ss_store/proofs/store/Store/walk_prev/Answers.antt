@@ -9,7 +9,7 @@ use Rattle.ss_store.specs.Filing.{walk_prev}
 use Rattle.ss_store.specs.Parts.{number_at}
 use Rattle.ss_store.proofs.Calls.{case_of, head_small}
 use Rattle.ss_store.proofs.Agree.{seat_below}
-use Rattle.ss_store.proofs.Walked.{prev_fault, prev_left, prev_is, prev_below, seat_there}
+use Rattle.ss_store.proofs.ReadingAnswers.{prev_fault, prev_left, prev_is, prev_below, seat_there}
 use Rattle.ss_store.proofs.store.Store.walk_prev.Goals as goal
 
 pub seat_in-requires-clause-heads : goal.seat_in-requires-clause-heads

@@ -1,9 +1,9 @@
 use Rattle.std.proofs.Common.{arith}
 use Rattle.ss_store.specs.Tables.{Tables}
-use Rattle.ss_store.proofs.Begun.{begins, begins_pair, begins_value}
+use Rattle.ss_store.proofs.EmptyStores.{begins, begins_pair, begins_value}
 use Rattle.std.proofs.Common.{ap}
 use Rattle.ss_store.specs.Order.{known_at}
-use Rattle.ss_store.proofs.Ordered.{none_known, fewer_known}
+use Rattle.ss_store.proofs.ListOrders.{none_known, fewer_known}
 use Rattle.ss_store.proofs.store.Store.with_tables.Goals as goal
 
 pub invariant_of-result : goal.invariant_of-result

@@ -5,16 +5,16 @@ use Rattle.ss_store.specs.Change.{FitsFiled, FitsRemoved, FitsCreated, FitsClass
 use Rattle.ss_store.specs.Change.{unapply_store}
 use Rattle.ss_store.specs.Store.{with_back, entity_back}
 use Rattle.ss_store.proofs.Calls.{case_of, head_small, seat_small}
-use Rattle.ss_store.proofs.Removed.{unfiles, unfile_below, unfile_linked, unfile_store, unfile_left, refiles}
-use Rattle.ss_store.proofs.Removed.{refile_can, refile_store, refile_left}
-use Rattle.ss_store.proofs.Undone.{undoes, behind, filed_seat, removed_head, removed_seat}
-use Rattle.ss_store.proofs.Chained.{created_back}
-use Rattle.ss_store.proofs.Written.{positive, reset_back}
+use Rattle.ss_store.proofs.RemovalChanges.{unfiles, unfile_below, unfile_linked, unfile_store, unfile_left, refiles}
+use Rattle.ss_store.proofs.RemovalChanges.{refile_can, refile_store, refile_left}
+use Rattle.ss_store.proofs.SetUndos.{undoes, behind, filed_seat, removed_head, removed_seat}
+use Rattle.ss_store.proofs.MakingChains.{created_back}
+use Rattle.ss_store.proofs.ValueWrites.{positive, reset_back}
 use Rattle.std.proofs.Common.{false}
 use Rattle.std.specs.Prelude.{slice_set}
 use Rattle.ss_store.specs.Order.{AreInOrder}
 use Rattle.ss_store.proofs.Agree.{head_below}
-use Rattle.ss_store.proofs.Ordered.{removed_order, refiled_order}
+use Rattle.ss_store.proofs.ListOrders.{removed_order, refiled_order}
 use Rattle.ss_store.proofs.store.StoreUndo.undo.Goals as goal
 
 pub seat_of-requires : goal.seat_of-requires

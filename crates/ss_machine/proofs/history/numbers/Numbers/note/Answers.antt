@@ -1,5 +1,5 @@
 use Rattle.std.proofs.Common.{arith}
-use Rattle.ss_machine.proofs.Written.{ten_bytes}
+use Rattle.ss_machine.proofs.NumberBytes.{ten_bytes}
 use Rattle.ss_machine.proofs.history.numbers.Numbers.note.Goals as goal
 
 pub write-requires-clause-enough : goal.write-requires-clause-enough

@@ -1,5 +1,5 @@
 use Rattle.ss_machine.specs.History.Numbers.{numbers_of}
-use Rattle.ss_machine.proofs.Written.{small_left, small_rest, small_behind_byte}
+use Rattle.ss_machine.proofs.NumberBytes.{small_left, small_rest, small_behind_byte}
 use Rattle.ss_machine.proofs.history.numbers.Numbers.pop_open.Goals as goal
 
 pub invariant_of-self-then-byte-lt-GROUP : goal.invariant_of-self-then-byte-lt-GROUP

@@ -1,6 +1,6 @@
 use Rattle.std.proofs.Common.{ℕ, ◌∙◌, ap}
 use Rattle.ss_journal.specs.Log.{Log}
-use Rattle.ss_machine.proofs.Written.{no_bytes, small_steps}
+use Rattle.ss_machine.proofs.NumberBytes.{no_bytes, small_steps}
 use Rattle.ss_machine.proofs.history.numbers.Numbers.reopen_last.Goals as goal
 
 pub reopen_last-requires : goal.reopen_last-requires

@@ -33,8 +33,8 @@ use Rattle.ss_store.specs.Making.{FitsLast, HasRoom, Makes}
 use Rattle.ss_store.proofs.Core.{found}
 use Rattle.ss_store.proofs.Agree.{made_is, get_read, entity_some, entity_is, is_filed_is}
 use Rattle.ss_store.proofs.More.{right, length_more, length_rep, index_get, IsTable, table_here}
-use Rattle.ss_store.proofs.Grown.{Grows, refound, list_more, list_past, grown_store}
-use Rattle.ss_store.proofs.GrownState.{look_more, kept_rows_are, numbering_is, grown_value, less_value}
+use Rattle.ss_store.proofs.OneMoreEntity.{Grows, refound, list_more, list_past, grown_store}
+use Rattle.ss_store.proofs.OneMoreInState.{look_more, kept_rows_are, numbering_is, grown_value, less_value}
 
 -- a call on a class of a store
 pub record At (g : StoreParts) (v : StoreValue) (c : ℕ) (shape : ClassShape) : Type 0 where

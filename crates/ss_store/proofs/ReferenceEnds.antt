@@ -25,11 +25,11 @@ use Rattle.ss_store.specs.Parts.{zip_rows, state_of}
 use Rattle.ss_store.specs.Making.{with_table}
 use Rattle.ss_store.specs.Writing.{with_values}
 use Rattle.ss_store.proofs.Core.{some_eq, Found, found, map_some, head_entry, made_none}
-use Rattle.ss_store.proofs.Relist.{is_or_not}
+use Rattle.ss_store.proofs.OneListChanges.{is_or_not}
 use Rattle.ss_store.proofs.Agree.{entity_some, is_filed_is}
-use Rattle.ss_store.proofs.Grown.{refound}
-use Rattle.ss_store.proofs.Taken.{not_member}
-use Rattle.ss_store.proofs.Written.{get_other}
+use Rattle.ss_store.proofs.OneMoreEntity.{refound}
+use Rattle.ss_store.proofs.TakingOffAnswers.{not_member}
+use Rattle.ss_store.proofs.ValueWrites.{get_other}
 
 -- what is held with other values of a reference, or none
 abbrev pub put : StoreParts → ℕ → Option (List ℤ) → StoreParts

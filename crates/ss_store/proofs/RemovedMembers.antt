@@ -25,10 +25,10 @@ use Rattle.ss_store.specs.Value.{StoreValue}
 use Rattle.ss_store.specs.Finding.{seat_to_remove}
 use Rattle.ss_store.proofs.Core.{seat_number, member_of}
 use Rattle.ss_store.proofs.Agree.{member_is, owner_is, members_look, seat_below, numbers_length}
-use Rattle.ss_store.proofs.Filed.{ok_eq, ok_err, err_eq, standing_ok, standing_err, stands_there}
+use Rattle.ss_store.proofs.FilingChanges.{ok_eq, ok_err, err_eq, standing_ok, standing_err, stands_there}
 use Rattle.ss_store.proofs.Calls.{Case, over}
-use Rattle.ss_store.proofs.Walked.{first-map, last-map, has-first}
-use Rattle.ss_store.proofs.Removed.{Cuts, cut_store, cut_before, cut_leaves}
+use Rattle.ss_store.proofs.ReadingAnswers.{first-map, last-map, has-first}
+use Rattle.ss_store.proofs.RemovalChanges.{Cuts, cut_store, cut_before, cut_leaves}
 
 -- a member named, with its seat
 pub record Names (g : StoreParts) (rule : SetShape) (o h t : ℕ) (w : Which) : Type 0 where

@@ -22,10 +22,10 @@ use Rattle.ss_store.specs.Making.{without_last_entity, rows_of_numbering, one_le
 use Rattle.ss_store.specs.Making.{FitsLast, TakesOff}
 use Rattle.ss_store.proofs.Core.{some_eq, Found, found, seat_entry}
 use Rattle.ss_store.proofs.Agree.{get_below, entity_some, entity_is, is_filed_is}
-use Rattle.ss_store.proofs.Grown.{list_past}
-use Rattle.ss_store.proofs.GrownState.{kept_rows_are, less_value}
-use Rattle.ss_store.proofs.Cut.{Last, cut_heads, cut_grown, cut_grows, cut_store}
-use Rattle.ss_store.proofs.Made.{At, table_there, which_numbering}
+use Rattle.ss_store.proofs.OneMoreEntity.{list_past}
+use Rattle.ss_store.proofs.OneMoreInState.{kept_rows_are, less_value}
+use Rattle.ss_store.proofs.LastTakenOff.{Last, cut_heads, cut_grown, cut_grows, cut_store}
+use Rattle.ss_store.proofs.MakingAnswers.{At, table_there, which_numbering}
 
 -- ---- the last entity, as it lies on the board
 

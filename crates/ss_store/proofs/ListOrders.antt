@@ -30,20 +30,20 @@ use Rattle.ss_store.specs.Tables.{class_of, IsSet}
 use Rattle.ss_store.specs.Value.{StoreValue}
 use Rattle.ss_store.specs.Writing.{with_values}
 use Rattle.ss_store.proofs.Agree.{seat_below, numbers_length}
-use Rattle.ss_store.proofs.Among.{once_in}
+use Rattle.ss_store.proofs.SearchPlaces.{once_in}
 use Rattle.ss_store.proofs.Boards.{relisted_set}
 use Rattle.ss_store.proofs.Calls.{Case, puts}
 use Rattle.ss_store.proofs.Climbing.{climbs_same, climbs_without, climbs_placed, keys_rank}
 use Rattle.ss_store.proofs.Core.{some_eq, Found, found, Member, map_some, made_none, head_entry, seat_number}
-use Rattle.ss_store.proofs.Destroyed.{Lives, stands}
-use Rattle.ss_store.proofs.Filed.{Puts, ok_eq}
-use Rattle.ss_store.proofs.Grown.{Grows, given_none, list_more, list_past, row_kept, value_kept}
-use Rattle.ss_store.proofs.GrownState.{index_left}
-use Rattle.ss_store.proofs.Made.{At, Adds, added, added_is, grows}
+use Rattle.ss_store.proofs.EndingAnswers.{Lives, stands}
+use Rattle.ss_store.proofs.FilingChanges.{Puts, ok_eq}
+use Rattle.ss_store.proofs.OneMoreEntity.{Grows, given_none, list_more, list_past, row_kept, value_kept}
+use Rattle.ss_store.proofs.OneMoreInState.{index_left}
+use Rattle.ss_store.proofs.MakingAnswers.{At, Adds, added, added_is, grows}
 use Rattle.ss_store.proofs.More.{IsTable, table_same, table_here, table_case, split_get}
-use Rattle.ss_store.proofs.Ranked.{ranked_put, values_some, values_there}
-use Rattle.ss_store.proofs.Relist.{Relisted, is_or_not}
-use Rattle.ss_store.proofs.Written.{Lies, get_other, get_set}
+use Rattle.ss_store.proofs.RankPlaces.{ranked_put, values_some, values_there}
+use Rattle.ss_store.proofs.OneListChanges.{Relisted, is_or_not}
+use Rattle.ss_store.proofs.ValueWrites.{Lies, get_other, get_set}
 
 -- ---- what is known
 

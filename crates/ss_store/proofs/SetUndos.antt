@@ -7,7 +7,7 @@ use Rattle.ss_store.specs.Change.{FitsFiled, FitsRemoved}
 use Rattle.ss_store.specs.Parts.{StoreParts, head_at, seat_at}
 use Rattle.ss_store.specs.Value.{StoreValue}
 use Rattle.ss_store.proofs.Calls.{Case}
-use Rattle.ss_store.proofs.Removed.{Undoes, Behind, unfiles, refiles}
+use Rattle.ss_store.proofs.RemovalChanges.{Undoes, Behind, unfiles, refiles}
 
 pub undoes : (g : StoreParts) (v : StoreValue) (set : ℕ) (rule : SetShape) → Case g v set rule → Undoes g v set rule
 undoes g v set rule k = record { is = k.is; store = k.store; is_set = k.is_set; at = k.at }

@@ -21,11 +21,11 @@ use Rattle.ss_store.specs.Parts.{StoreParts, head_at, seat_at, number_at, state_
 use Rattle.ss_store.specs.Tables.{IsSet}
 use Rattle.ss_store.specs.Value.{StoreValue}
 use Rattle.ss_store.proofs.Core.{some_eq, one_seat, seat_number, member_of}
-use Rattle.ss_store.proofs.Relist.{Relisted, is_or_not, relisted_store, relisted_state}
+use Rattle.ss_store.proofs.OneListChanges.{Relisted, is_or_not, relisted_store, relisted_state}
 use Rattle.ss_store.proofs.Boards.{Apart, has-map, map-without, map-put_behind, relisted_map, relisted_back}
 use Rattle.ss_store.proofs.Boards.{relisted_set}
 use Rattle.ss_store.proofs.Agree.{member_is, owner_is, members_look, is_filed_is, apart, head_below, seat_below}
-use Rattle.ss_store.proofs.Filed.{has_map_seat, once_in, Puts, put_store, put_state}
+use Rattle.ss_store.proofs.FilingChanges.{has_map_seat, once_in, Puts, put_store, put_state}
 use Rattle.ss_store.proofs.Calls.{kept_same}
 
 -- a seat taken out of the list of a head

@@ -27,11 +27,11 @@ use Rattle.ss_store.specs.Parts.{StoreParts, head_at, seat_at, number_at, state_
 use Rattle.ss_store.specs.Tables.{IsSet}
 use Rattle.ss_store.specs.Finding.{spot_before, spot_after, spot_by, rule_place, place_by, rank_before}
 use Rattle.ss_store.proofs.Core.{some_eq, seat_number}
-use Rattle.ss_store.proofs.Relist.{Relisted, is_or_not, relisted_store, relisted_state}
+use Rattle.ss_store.proofs.OneListChanges.{Relisted, is_or_not, relisted_store, relisted_state}
 use Rattle.ss_store.proofs.Boards.{Apart, has-map, map-without, map-append, map-put_before, map-put_behind}
 use Rattle.ss_store.proofs.Boards.{relisted_back}
 use Rattle.ss_store.proofs.Agree.{member_is, members_look, apart, stands_is}
-use Rattle.ss_store.proofs.Ranked.{rank_in, ranked_put, ranked_numbers, ranked_is}
+use Rattle.ss_store.proofs.RankPlaces.{rank_in, ranked_put, ranked_numbers, ranked_is}
 
 -- a seat put into a list, and whoever stood there before
 put_other : (l : List ℕ) (p : Option ℕ) (t u : ℕ) → has (put_at l p t) u ≡ true → (u ≡ t) ⊎ (has l u ≡ true)

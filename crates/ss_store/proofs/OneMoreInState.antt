@@ -20,9 +20,9 @@ use Rattle.ss_store.specs.Making.{numbering, with_row, with_table, next_row, wit
 use Rattle.ss_store.specs.Making.{rows_of_numbering}
 use Rattle.ss_store.specs.Making.{layout_with, one_more, but_last, without_last, one_less}
 use Rattle.ss_store.proofs.Agree.{seat_below, numbers_length}
-use Rattle.ss_store.proofs.Relist.{index_map}
+use Rattle.ss_store.proofs.OneListChanges.{index_map}
 use Rattle.ss_store.proofs.More.{length_more, length_rep, change_change, change_none, map_change, index_get}
-use Rattle.ss_store.proofs.Grown.{Grows, list_more, list_past}
+use Rattle.ss_store.proofs.OneMoreEntity.{Grows, list_more, list_past}
 
 pub index_left : (xs ys : List ℕ) (i : ℕ) → i < length xs → number_at (xs ++ ys) i ≡ number_at xs i
 index_left [] ys i lt = absurd (omega (arith, lt))

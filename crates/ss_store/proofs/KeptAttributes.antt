@@ -19,7 +19,7 @@ use Rattle.ss_store.specs.Tables.{IsSet}
 use Rattle.ss_store.specs.Value.{StoreValue}
 use Rattle.ss_store.proofs.Core.{some_eq, seat_number, owner_of_seat}
 use Rattle.ss_store.proofs.Agree.{member_is, is_filed_is, list_owner, stands_is, apart, seat_below}
-use Rattle.ss_store.proofs.Walked.{map-seat_before, map-seat_behind, has-seat_behind, in_list}
+use Rattle.ss_store.proofs.ReadingAnswers.{map-seat_before, map-seat_behind, has-seat_behind, in_list}
 use Rattle.ss_store.proofs.Calls.{Case, over}
 
 -- the first that passes a test

@@ -34,7 +34,7 @@ use Rattle.ss_store.specs.Value.{empty_value}
 use Rattle.ss_store.specs.Making.{with_heads}
 use Rattle.ss_store.proofs.Core.{some_eq}
 use Rattle.ss_store.proofs.More.{length_rep}
-use Rattle.ss_store.proofs.Grown.{list_more}
+use Rattle.ss_store.proofs.OneMoreEntity.{list_more}
 
 -- ---- counting
 

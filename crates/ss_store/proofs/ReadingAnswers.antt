@@ -23,7 +23,7 @@ use Rattle.ss_store.specs.Finding.{seat_under, seat_in}
 use Rattle.ss_store.proofs.Core.{some_eq, member_of, seat_number}
 use Rattle.ss_store.proofs.Boards.{Apart, tests_same, has_head, has_tail, apart_tail}
 use Rattle.ss_store.proofs.Agree.{member_is, owner_is, members_look, apart, seat_below, length_mapped, numbers_length}
-use Rattle.ss_store.proofs.Filed.{is_at_eq, stands_there, stands_not}
+use Rattle.ss_store.proofs.FilingChanges.{is_at_eq, stands_there, stands_not}
 use Rattle.ss_store.proofs.Calls.{Case, over}
 
 pub first-map : (f : ℕ → ℕ) (l : List ℕ) → first_of (map f l) ≡ option_map f (first_of l)

@@ -36,14 +36,14 @@ use Rattle.ss_store.specs.Parts.{made_with, zip_rows, zip_table, layout_of, stat
 use Rattle.ss_store.specs.Making.{numbering_by, with_table}
 use Rattle.ss_store.specs.Writing.{with_values}
 use Rattle.ss_store.proofs.Core.{some_eq, found, map_some, made_none}
-use Rattle.ss_store.proofs.Relist.{is_or_not, zipped_some, reference_class, reference_other, index_map, change_same}
-use Rattle.ss_store.proofs.Relist.{zipped_none}
+use Rattle.ss_store.proofs.OneListChanges.{is_or_not, zipped_some, reference_class, reference_other, index_map, change_same}
+use Rattle.ss_store.proofs.OneListChanges.{zipped_none}
 use Rattle.ss_store.proofs.Agree.{entity_is}
 use Rattle.ss_store.proofs.More.{change_change, change_none, map_change, index_get, IsTable, table_case, table_here}
 use Rattle.ss_store.proofs.More.{table_made}
-use Rattle.ss_store.proofs.Grown.{refound}
-use Rattle.ss_store.proofs.Made.{At, table_there, which_numbering}
-use Rattle.ss_store.proofs.Taken.{its_table, row_some}
+use Rattle.ss_store.proofs.OneMoreEntity.{refound}
+use Rattle.ss_store.proofs.MakingAnswers.{At, table_there, which_numbering}
+use Rattle.ss_store.proofs.TakingOffAnswers.{its_table, row_some}
 
 pub get_other : {A : Type 0} (xs : List A) (i j : ℕ) (y : A) → j ≢ i → slice_get (set xs i y) j ≡ slice_get xs j
 get_other [] i j y far = refl

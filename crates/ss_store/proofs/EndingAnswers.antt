@@ -28,14 +28,14 @@ use Rattle.ss_store.specs.Making.{numbering_by, with_table}
 use Rattle.ss_store.specs.Writing.{with_values}
 use Rattle.ss_store.specs.Change.{FitsEnded, IsOutcome, Leaves}
 use Rattle.ss_store.proofs.Core.{some_eq, found}
-use Rattle.ss_store.proofs.Relist.{zipped_some}
+use Rattle.ss_store.proofs.OneListChanges.{zipped_some}
 use Rattle.ss_store.proofs.Agree.{get_below, entity_is, reference_get, seat_below}
-use Rattle.ss_store.proofs.Made.{At}
-use Rattle.ss_store.proofs.Taken.{its_table, unfilled}
-use Rattle.ss_store.proofs.Written.{get_set, set_twice, set_same}
-use Rattle.ss_store.proofs.Ended.{put, put_state, is_back, Ends, ended_store, Ended, back_store, ended_empty}
-use Rattle.ss_store.proofs.Ended.{members_are}
-use Rattle.ss_store.proofs.Ended.{owns_is}
+use Rattle.ss_store.proofs.MakingAnswers.{At}
+use Rattle.ss_store.proofs.TakingOffAnswers.{its_table, unfilled}
+use Rattle.ss_store.proofs.ValueWrites.{get_set, set_twice, set_same}
+use Rattle.ss_store.proofs.ReferenceEnds.{put, put_state, is_back, Ends, ended_store, Ended, back_store, ended_empty}
+use Rattle.ss_store.proofs.ReferenceEnds.{members_are}
+use Rattle.ss_store.proofs.ReferenceEnds.{owns_is}
 
 -- an entity with a reference, where it lies
 pub record Lives (g : StoreParts) (c k : ℕ) (r : Row) : Type 0 where
