@@ -42,8 +42,8 @@ Each-both P Q (e ∷ es) h k = ((h.0, k.0), Each-both P Q es h.1 k.1)
 abbrev Agrees : (ℕ → Bool) → (Pending → Pending → Bool) → Pending → List ℕ → List Pending → Type 0
 Agrees p lt e ns es = Each (λ f. p (seat_in ns f.notice) ≡ lt e f) es
 
-pub seats_passed-seats : (ns : List ℕ) (p : ℕ → Bool) (lt : Pending → Pending → Bool) (e : Pending) (es : List Pending) →
-    Agrees p lt e ns es → seats_passed p (seats_of ns es) ≡ seats_of ns (notices_passed lt e es)
+pub seats_passed-seats : (ns : List ℕ) (p : ℕ → Bool) (lt : Pending → Pending → Bool) (e : Pending)
+    (es : List Pending) → Agrees p lt e ns es → seats_passed p (seats_of ns es) ≡ seats_of ns (notices_passed lt e es)
 seats_passed-seats ns p lt e [] a = refl
 seats_passed-seats ns p lt e (f ∷ fs) a = rw a.0 (elim (lt e f)
     as (λ t. cond t [] (seat_in ns f.notice ∷ seats_passed p (seats_of ns fs)) ≡ seats_of ns (cond t [] (f ∷ notices_passed lt
@@ -69,7 +69,8 @@ divided-seats P ns p lt o e (f ∷ fs) k q s a = rw a.0 (elim (lt e f)
     ] refl)
 
 -- between those that come before it and those that it comes before is where a seat is filed
-seats_filed-seats : (ns : List ℕ) (p : ℕ → Bool) (x : ℕ) (lt : Pending → Pending → Bool) (e : Pending) (a b : List Pending) →
+seats_filed-seats : (ns : List ℕ) (p : ℕ → Bool) (x : ℕ) (lt : Pending → Pending → Bool) (e : Pending)
+    (a b : List Pending) →
     Agrees p lt e ns a → Agrees p lt e ns b → Each (λ f. lt e f ≡ false) a → AreBehind lt e b →
     seats_of ns a ++ x ∷ seats_of ns b ≡ seats_filed p x (seats_of ns a ++ seats_of ns b)
 seats_filed-seats ns p x lt e [] b a c n h = sym (seats_filed-first p x (seats_of ns b) (all-behind ns p lt e b c h))

@@ -109,7 +109,8 @@ put_at-none : (p : ℕ → Bool) (x y : ℕ) (l : List ℕ) → p y ≡ false �
     → seats_filed p x (y ∷ l) ≡ put_at (y ∷ l) (last_of (seats_passed p (y ∷ l))) x
 put_at-none p x y l b e h = grind (arith, nat_tests)
 
-put_at-some : (p : ℕ → Bool) (x y q : ℕ) (l : List ℕ) → p y ≡ false → has l y ≡ false → last_of (seats_passed p l) ≡ Some q
+put_at-some : (p : ℕ → Bool) (x y q : ℕ) (l : List ℕ) → p y ≡ false → has l y ≡ false
+    → last_of (seats_passed p l) ≡ Some q
     → has l q ≡ true → seats_filed p x l ≡ put_at l (last_of (seats_passed p l)) x
     → seats_filed p x (y ∷ l) ≡ put_at (y ∷ l) (last_of (seats_passed p (y ∷ l))) x
 put_at-some p x y q l b a e i h = grind (arith, nat_tests)

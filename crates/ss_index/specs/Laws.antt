@@ -6,7 +6,8 @@ use Rattle.ss_index.specs.Orders.{IsOrder, increases}
 
 -- a seat filed and taken out leaves the list as it was
 abbrev pub FiledSeatLeaves : Type 0
-FiledSeatLeaves = (behind : ℕ → Bool) (x : ℕ) (l : List ℕ) → has l x ≡ false → list_without (seats_filed behind x l) x ≡ l
+FiledSeatLeaves = (behind : ℕ → Bool) (x : ℕ) (l : List ℕ) → has l x ≡ false
+    → list_without (seats_filed behind x l) x ≡ l
 
 -- a seat is filed directly behind the last one passed, or first
 abbrev pub FiledSeatIsLinked : Type 0
