@@ -3,7 +3,7 @@ pub mod Frames
 pub mod Parts
 pub mod Takes
 pub mod Notings
-pub mod Written
+pub mod NumberBytes
 pub mod Histories
 pub mod Sounds
 pub mod Rooms
@@ -11,9 +11,9 @@ pub mod Scopes
 pub mod Returns
 pub mod Ranges
 pub mod Rests
-pub mod Evaluated
+pub mod ValueCounts
 pub mod Items
-pub mod Kept
+pub mod SameItems
 pub mod Moments
 pub mod Stores
 pub mod Staying
