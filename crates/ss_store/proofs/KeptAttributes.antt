@@ -1,6 +1,6 @@
 -- Kept attributes of a member.
-use Rattle.std.proofs.Common.{◌≡◌, ℕ, suc, ◌<◌, ◌||◌, List, [], ◌∷◌, length, map, refl, ap, sym, ◌∙◌, slice_get, Option}
-use Rattle.std.proofs.Common.{Some, None, Bool, true, false}
+use Rattle.std.proofs.Common.{◌≡◌, ℕ, suc, ◌<◌, ◌||◌, List, [], ◌∷◌, length, map, refl, ap, sym, ◌∙◌, subst, slice_get}
+use Rattle.std.proofs.Common.{Option, Some, None, Bool, true, false}
 use Rattle.std.specs.Prelude.{Ok, Err, find, is_some, unwrap_or}
 use Rattle.std.specs.Option.{option_map, ForSome}
 use Rattle.std.specs.List.{list_any}
@@ -12,7 +12,8 @@ use Rattle.ss_links.proofs.SeatLaws.{has-seat_before}
 use Rattle.ss_store.specs.declared.shape.SetShape.{SetShape}
 use Rattle.ss_store.specs.Tables.{set_of}
 use Rattle.ss_store.specs.Store.{lists_by, list_holding}
-use Rattle.ss_store.specs.Filing.{predecessor, successor, membership}
+use Rattle.ss_store.specs.declared.shape.Neighbours.{Neighbours}
+use Rattle.ss_store.specs.Filing.{predecessor, successor, membership, AreNeighbours}
 use Rattle.ss_store.specs.Invariant.{IsStore}
 use Rattle.ss_store.specs.Parts.{StoreParts, seat_at, number_at, numbers_under, state_of}
 use Rattle.ss_store.specs.Tables.{IsSet}
@@ -160,3 +161,24 @@ membership_is g v set rule x t q b k e eq eb =
     sym (over g v set rule (λ r s. membership r s x) (Ok b) k
     (rw (member_is g rule x k.store ∙ ap is_some e)
     (ap Ok (is_filed_is g rule t x k.store k.is_set e ∙ ap is_some (sym eq) ∙ sym eb))))
+
+pub neighbours_none : (g : StoreParts) (v : StoreValue) (set : ℕ) (rule : SetShape) (x y : ℕ) → Case g v set rule
+    → seat_at g.rows rule x ≡ None → x ≡ y → AreNeighbours (set_of v.tables set) v.state y (Err NoEntity)
+neighbours_none g v set rule x y k e w = subst (λ z. AreNeighbours (set_of v.tables set) v.state z (Err NoEntity)) w (
+  sym (predecessor_none g v set rule x k e),
+  sym (successor_none g v set rule x k e),
+  sym (membership_none g v set rule x k e),
+)
+
+pub neighbours_are : (g : StoreParts) (v : StoreValue) (set : ℕ) (rule : SetShape) (x y t : ℕ) (n : Neighbours)
+    (earlier later place : Option ℕ) → Case g v set rule → seat_at g.rows rule x ≡ Some t → x ≡ y
+    → earlier ≡ prev_in (list_of g.board.lists t) t → n.before ≡ option_map (number_at g.numbers) earlier
+    → later ≡ next_in (list_of g.board.lists t) t → n.behind ≡ option_map (number_at g.numbers) later
+    → place ≡ head_of g.board.lists t → n.is_filed ≡ is_some place
+    → AreNeighbours (set_of v.tables set) v.state y (Ok n)
+neighbours_are g v set rule x y t n earlier later place k e w ee eb el eh ep ef =
+    subst (λ z. AreNeighbours (set_of v.tables set) v.state z (Ok n)) w (
+      sym (predecessor_is g v set rule x t earlier n.before k e ee eb),
+      sym (successor_is g v set rule x t later n.behind k e el eh),
+      sym (membership_is g v set rule x t place n.is_filed k e ep ef),
+    )

@@ -1,5 +1,5 @@
 -- Where a member is filed in a list, and which is removed.
-use Rattle.std.specs.Prelude.{ℕ, Bool, true, not, ℤ, List, [], ◌∷◌, ◌++◌, length, Option, Some, None, unwrap_or}
+use Rattle.std.specs.Prelude.{◌≡◌, ℕ, Bool, true, not, ℤ, List, [], ◌∷◌, ◌++◌, length, Option, Some, None, unwrap_or}
 use Rattle.std.specs.Prelude.{option_map, Result, Ok, Err}
 use Rattle.std.specs.Ordering.{is_gt}
 use Rattle.ss_words.specs.declared.fault.RunFault.{RunFault}
@@ -12,6 +12,7 @@ use Rattle.ss_program.specs.declared.kinds.Discipline.TheVariants.{Fifo, Lifo, R
 use Rattle.ss_store.specs.declared.shape.SetShape.{SetShape}
 use Rattle.ss_store.specs.declared.shape.How.{How}
 use Rattle.ss_store.specs.declared.shape.How.TheVariants.{ByRule, First, Last, Before, After}
+use Rattle.ss_store.specs.declared.shape.Neighbours.{Neighbours}
 use Rattle.ss_store.specs.declared.shape.Which.{Which}
 use Rattle.ss_store.specs.declared.shape.Which.TheVariants as which
 use Rattle.ss_store.specs.Lists.{placed_before}
@@ -134,3 +135,9 @@ successor s st k = unless NoEntity (exists st s.member k) (Ok (next_in (list_hol
 -- M.s: whether k is in a list of the set, or F3
 abbrev pub membership : SetShape → Store → ℕ → Result Bool RunFault
 membership s st k = unless NoEntity (exists st s.member k) (Ok (is_filed s st k))
+
+-- what was read of k at once is P.s, S.s and M.s of it, or the fault that each of them is
+abbrev pub AreNeighbours : SetShape → Store → ℕ → Result Neighbours RunFault → Type 0
+AreNeighbours s st k (Ok n) =
+    (predecessor s st k ≡ Ok n.before) × (successor s st k ≡ Ok n.behind) × (membership s st k ≡ Ok n.is_filed)
+AreNeighbours s st k (Err f) = (predecessor s st k ≡ Err f) × (successor s st k ≡ Err f) × (membership s st k ≡ Err f)

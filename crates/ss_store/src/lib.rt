@@ -19,5 +19,5 @@ mod trees;
 mod writing;
 
 pub use change::StoreChange;
-pub use shape::{ClassShape, How, SetShape, Which};
+pub use shape::{ClassShape, How, Neighbours, SetShape, Which};
 pub use store::Store;

@@ -4,12 +4,13 @@ ghost use Rattle.ss_store.specs.Tables.{set_of};
 ghost use Rattle.ss_store.specs.WellStore.{IsWellStore};
 ghost use Rattle.ss_store.specs.Store as pure;
 ghost use Rattle.ss_store.specs.Filing.{is_in, count, walk_first, walk_last, walk_next};
-ghost use Rattle.ss_store.specs.Filing.{walk_prev, predecessor, successor, membership};
+ghost use Rattle.ss_store.specs.Filing.{walk_prev, predecessor, successor, membership, AreNeighbours};
 
 use crate::places::{
     greatest_number, head_of, known, member_if, number_of_value, row_of, seat_in, seat_of,
 };
 use crate::ranking::{value_at, values_of};
+use crate::shape::Neighbours;
 use crate::store::Store;
 use ss_links::SetBoard;
 use ss_words::RunFault;
@@ -227,6 +228,31 @@ impl<S: SetBoard> Store<S> {
         match seat_of(&self.entities, shape, number_of_value(member)) {
             None => Err(RunFault::NoEntity),
             Some(seat) => Ok(self.board.place(seat).is_some()),
+        }
+    }
+
+    /// `P.s`, `S.s` and `M.s` of an entity, by one look for it; F3 where it does not exist.
+    pub fn neighbours(&self, set: usize, member: i64) -> Result<Neighbours, RunFault>
+        requires { set < length self.now.tables.sets }
+        ensures { AreNeighbours (set_of self.now.tables set) self.now.state (pure.number_of member)
+            result }
+    {
+        let shape = &self.sets[set];
+        known(&self.board);
+        match seat_of(&self.entities, shape, number_of_value(member)) {
+            None => Err(RunFault::NoEntity),
+            Some(seat) => {
+                let earlier = self.board.prev(seat);
+                let later = self.board.next(seat);
+                let before = member_if(&self.numbers, earlier);
+                let behind = member_if(&self.numbers, later);
+                let is_filed = self.board.place(seat).is_some();
+                Ok(Neighbours {
+                    before,
+                    behind,
+                    is_filed,
+                })
+            }
         }
     }
 }

@@ -43,3 +43,12 @@ pub enum Which {
     /// The one that the value names.
     Member(i64),
 }
+
+/// What is read of a member at once: the ones directly before it and directly behind it in the list
+/// that holds it, and whether a list of the set holds it.
+#[derive(Clone, Copy)]
+pub struct Neighbours {
+    pub before: Option<u32>,
+    pub behind: Option<u32>,
+    pub is_filed: bool,
+}
