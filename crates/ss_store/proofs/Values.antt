@@ -1,11 +1,11 @@
 -- Attributes read and written.
 use Rattle.std.proofs.Common.{◌≡◌, ℕ, ℤ, pos, refl, ap, sym, ◌∙◌, List, slice_index_or, Option, Some, None, Bool}
-use Rattle.std.specs.Prelude.{Result, Ok, Err, is_some}
+use Rattle.std.specs.Prelude.{Result, Ok, Err, is_some, option_map}
 use Rattle.ss_words.specs.declared.fault.RunFault.{RunFault}
 use Rattle.ss_words.specs.declared.fault.RunFault.TheVariants.{NoEntity}
 use Rattle.ss_store.specs.declared.rows.Row.{Row}
 use Rattle.ss_store.specs.Rows.{row_of, values_of}
-use Rattle.ss_store.specs.Store.{attribute_in, attribute_of, exists}
+use Rattle.ss_store.specs.Store.{Entity, attribute_in, attribute_of, attributes_of, exists}
 use Rattle.ss_store.specs.Invariant.{IsStore}
 use Rattle.ss_store.specs.Parts.{StoreParts, state_of, value_of}
 use Rattle.ss_store.specs.Value.{StoreValue}
@@ -28,6 +28,22 @@ values_are g c k a s =
       | Some r ↦ λ e. let l = found g.rows c k r e in ap (attribute_in a) (entity_some g c k r s l)
           ∙ sym (ap (attribute_if a) (values_some g.rows c k r l))
     ]) refl
+
+-- so are all of them
+all_are : (g : StoreParts) (c k : ℕ) → IsStore g → attributes_of (state_of g) c k ≡ values_of g.rows c k
+all_are g c k s =
+    (elim (row_of g.rows c k) as (λ o. row_of g.rows c k ≡ o
+    → attributes_of (state_of g) c k ≡ values_of g.rows c k) [
+      | None ↦ λ e. ap (option_map (λ (x : Entity). x.attributes)) (entity_none g c k s e)
+          ∙ sym (values_none g.rows c k e)
+      | Some r ↦ λ e. let l = found g.rows c k r e in
+          ap (option_map (λ (x : Entity). x.attributes)) (entity_some g c k r s l) ∙ sym (values_some g.rows c k r l)
+    ]) refl
+
+pub attributes_are : (g : StoreParts) (v : StoreValue) (c k j : ℕ) (q : Option (List ℤ)) → value_of g ≡ v → IsStore g
+    → q ≡ values_of g.rows c k → k ≡ j → q ≡ attributes_of v.state c j
+attributes_are g v c k j q w s e f = e ∙ sym (all_are g c k s)
+    ∙ ap (λ (z : StoreValue). attributes_of z.state c k) w ∙ ap (attributes_of v.state c) f
 
 pub get_some : (g : StoreParts) (v : StoreValue) (c k a : ℕ) (q : Option (List ℤ)) (xs : List ℤ) → value_of g ≡ v
     → IsStore g

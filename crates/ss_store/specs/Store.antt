@@ -98,6 +98,10 @@ attribute_in a (Some e) = Ok (slice_index_or e.attributes a (pos 0))
 abbrev pub attribute_of : Store → ℕ → ℕ → ℕ → Result ℤ RunFault
 attribute_of st c a k = attribute_in a (entity st c k)
 
+-- all attributes of entity number k of class c, if it exists
+abbrev pub attributes_of : Store → ℕ → ℕ → Option (List ℤ)
+attributes_of st c k = option_map (λ e. e.attributes) (entity st c k)
+
 -- ---- the lists of sets; n is the number of a set among those of its owner
 
 -- the list of a set for owner number k, if that exists; the system is any number

@@ -1,5 +1,5 @@
 //! What is there: entities, attributes, and the lists of the sets.
-ghost use Rattle.std.specs.Prelude.{◌≡◌, ◌<◌, length};
+ghost use Rattle.std.specs.Prelude.{◌≡◌, ◌<◌, length, option_map};
 ghost use Rattle.ss_store.specs.Tables.{set_of};
 ghost use Rattle.ss_store.specs.WellStore.{IsWellStore};
 ghost use Rattle.ss_store.specs.Store as pure;
@@ -48,6 +48,15 @@ impl<S: SetBoard> Store<S> {
             None => Err(RunFault::NoEntity),
             Some(values) => Ok(value_at(values, attribute)),
         }
+    }
+
+    /// The values of all attributes of an entity, by one look for it, where it exists.
+    pub fn attributes(&self, class: usize, entity: i64) -> Option<&[i64]>
+        ensures { option_map (λ values. values.now) result
+            ≡ pure.attributes_of self.now.state class (pure.number_of entity) }
+    {
+        let number = number_of_value(entity);
+        values_of(&self.entities, class, number)
     }
 
     /// The number of members in the list of a set for this owner; F3 where the owner does not
