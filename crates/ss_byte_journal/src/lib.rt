@@ -1,11 +1,15 @@
-//! A journal of bytes, kept step by step in one stretch of memory.
+//! Journals that are kept step by step in one stretch of memory: one of bytes, and one for changes
+//! that few steps have.
 //!
-//! To contracts it is what `Journal<u8>` of ss_journal is: a list of closed steps, an open step and
-//! two numbers of room. It notes and takes back a byte in a few instructions, since what is
-//! forgotten is passed over and stays where it lies until room is made.
+//! To contracts they are what `Journal` of ss_journal is: a list of closed steps, an open step and
+//! two numbers of room. [`ByteJournal`] notes and takes back a byte in a few instructions, since
+//! what is forgotten is passed over and stays where it lies until room is made. In
+//! [`SparseJournal`] a step without changes is one count.
 #![tactic(auto)]
 
 mod byte_journal;
+mod sparse_journal;
 mod step_sizes;
 
 pub use byte_journal::ByteJournal;
+pub use sparse_journal::SparseJournal;

@@ -12,7 +12,7 @@ ghost use Rattle.ss_machine.specs.ChangeView.{as_change};
 use crate::history::numbers::Numbers;
 use crate::history::tape::Tape;
 use crate::state::change::Change;
-use ss_journal::Journal;
+use ss_byte_journal::SparseJournal;
 use std::alloc::{AllocError, Global};
 use std::marker::Model;
 
@@ -61,7 +61,7 @@ impl History {
         History {
             tape: Tape {
                 numbers: Numbers::new(alloc),
-                kept: Journal::new(alloc),
+                kept: SparseJournal::new(alloc),
             },
         }
     }

@@ -15,8 +15,8 @@ use crate::history::kinds::{
 use crate::history::numbers::Numbers;
 use crate::history::tape::{Owned, Tape};
 use crate::state::change::Change;
+use ss_byte_journal::SparseJournal;
 use ss_events::{AgendaChange, PendingNotice};
-use ss_journal::Journal;
 use ss_program::Owner;
 use ss_store::StoreChange;
 
@@ -251,7 +251,7 @@ impl Tape {
 }
 
 /// The values that are kept of the newest change.
-fn take_values(kept: &mut Journal<Owned>) -> Vec<i64>
+fn take_values(kept: &mut SparseJournal<Owned>) -> Vec<i64>
     requires { AreValues kept.old.current }
     ensures current { kept.old.current ≡ owned.Values result ∷ kept.new.current }
     ensures steps { kept.new.steps ≡ kept.old.steps }

@@ -17,7 +17,7 @@ use crate::state::change::Change;
 use crate::state::frame::FrameBox;
 use crate::state::loops::ClosedLoop;
 use crate::status::Status;
-use ss_journal::Journal;
+use ss_byte_journal::SparseJournal;
 
 /// What of a change is kept as it is, beside the numbers that tell the rest: what owns memory, and
 /// a status.
@@ -40,7 +40,7 @@ pub enum Owned {
 #[derive(Drop)]
 pub struct Tape {
     pub numbers: Numbers,
-    pub kept: Journal<Owned>,
+    pub kept: SparseJournal<Owned>,
 }
 
 impl Tape {
