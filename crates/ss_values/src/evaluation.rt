@@ -1,5 +1,4 @@
 ghost use Rattle.std.specs.Prelude.{◌≡◌, ◌<◌, ℤ, pos, neg_ℤ, ◌+ℤ◌, ◌-ℤ◌, ◌*ℤ◌, unsigned_abs, length, Ok, OnOk, IfErr};
-ghost use Rattle.std.specs.Prelude.{None, MatchOption};
 ghost use Rattle.ss_program.specs.ProgramExpr.{expr_of, arguments_of, term_of, factor_of, subscript_of};
 ghost use Rattle.ss_program.specs.ProgramExpr as tree;
 ghost use Rattle.ss_program.specs.ProgramSound.{IsSoundVariable, IsSoundExpr, IsSoundTerm, IsSoundFactor};
@@ -171,18 +170,6 @@ pub fn value<S: SetBoard>(view: View<'_, S>, e: &Expr) -> Result<i64, RunFault>
     value_seen(&view, e)
 }
 
-/// The only factor of an expression that has no sign, or `None` where it is more than that.
-#[inline(always)]
-fn only_factor(e: &Sum) -> Option<&Factor>
-    ensures { MatchOption result (Unit {0}) (λ f. expr_of e.now ≡ tree.expr None
-        (tree.term (factor_of f.now) tree.no_products) tree.no_sums) }
-{
-    if e.sign.is_some() || !e.more.is_empty() || !e.first.more.is_empty() {
-        return None;
-    }
-    Some(&e.first.first)
-}
-
 /// The same of a view that is lent. A number or a variable alone is read without a further call.
 #[inline(always)]
 pub fn value_seen<S: SetBoard>(view: &View<'_, S>, e: &Expr) -> Result<i64, RunFault>
@@ -192,17 +179,18 @@ pub fn value_seen<S: SetBoard>(view: &View<'_, S>, e: &Expr) -> Result<i64, RunF
     sum_seen(view, &e.sum)
 }
 
+/// The value of a sum. One factor alone is read as such.
 #[cycle(value)]
+#[tactic(auto, using(crate::proofs::Factors::lone_factor))]
 #[inline(always)]
 fn sum_seen<S: SetBoard>(view: &View<'_, S>, e: &Sum) -> Result<i64, RunFault>
     requires { InView view.now IsSoundExpr (expr_of e.now) }
     ensures { result ≡ value_of (view_readings view.now) (expr_of e.now) }
 {
-    match only_factor(e) {
-        Some(Factor::Number(n)) => number(*n),
-        Some(Factor::Variable(x)) => Ok(variable_seen(view, *x)),
-        _ => sum_value(view, e),
+    if e.sign.is_none() && e.more.is_empty() && e.first.more.is_empty() {
+        return factor_seen(view, &e.first.first);
     }
+    sum_value(view, e)
 }
 
 #[cycle(value)]
