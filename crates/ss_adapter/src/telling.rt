@@ -2,7 +2,7 @@
 ghost use Rattle.std.specs.Prelude.{◌≡◌, ◌+◌, ◌-◌, ◌^◌, ◌<◌, ◌≤◌, slice_get, IfOk, OnOk, None};
 ghost use Rattle.ss_machine.specs.Moment.{position};
 ghost use Rattle.ss_debug.specs.View.{debugger_state_of};
-ghost use Rattle.ss_messages.specs.Messages.{posted, posted_all};
+ghost use Rattle.ss_messages.specs.Messages.{posted_with, posted_all};
 ghost use Rattle.ss_adapter.specs.Turn.{told_with, report_at, untold, stopped, behind_movement, here};
 ghost use Rattle.ss_adapter.specs.Turn.{change_text, changed, over, ended, end_by, end_of};
 
@@ -51,7 +51,7 @@ fn tell_stop(
 ) -> Result<(), AllocError>
     requires { post.old.sent < 2 ^ 64 - 1 }
     ensures { OnOk result (post.new
-        ≡ posted request.now post.old (stopped reason.now text.now hit)) }
+        ≡ posted_with request.now post.old (stopped reason.now text.now hit)) }
 {
     let body = stopped_body(post.alloc(), reason, text, hit)?;
     post.event(request, b"stopped", &body)
@@ -79,7 +79,7 @@ fn tell_change(
     requires sent { post.old.sent < 2 ^ 64 - 1 }
     requires place { place < 2 ^ 64 - 1 }
     ensures { OnOk result (post.new
-        ≡ posted request.now post.old (changed answer.now place question.now)) }
+        ≡ posted_with request.now post.old (changed answer.now place question.now)) }
 {
     let text = change_text(post.alloc(), answer, question)?;
     tell_stop(

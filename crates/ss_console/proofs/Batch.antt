@@ -3,17 +3,17 @@ use Rattle.std.proofs.Common.{◌≡◌, ℕ, Bool, true, false, ◌&&◌, List,
 use Rattle.std.proofs.Common.{append_assoc, append-nil, Option, Some, None}
 use Rattle.std.proofs.lemmas.List.{map-append}
 use Rattle.std.specs.List.{list_all}
-use Rattle.ss_console.specs.Event.{Event, read, wrote, written, Adds}
+use Rattle.ss_console.specs.Event.{Event, read, wrote, write_events, Adds}
 use Rattle.ss_console.specs.Lines.{Gives, IsAtEnd}
 use Rattle.ss_console.specs.Meaning.{Meaning}
 use Rattle.ss_console.specs.Dialogue.{Turn, answered, refused, line_of, events, state_after_all, has_last}
 use Rattle.ss_console.specs.Laws.{answers, bytes_of, is_answered, BatchByInput, BatchByLine}
 use Rattle.ss_console.proofs.Turns.{or_parts, events-push}
 
-bytes_of-written : (bytes : List ℕ) (es : List Event) → bytes_of (written bytes ++ es) ≡ bytes ++ bytes_of es
+bytes_of-write_events : (bytes : List ℕ) (es : List Event) → bytes_of (write_events bytes ++ es) ≡ bytes ++ bytes_of es
 unfolding bytes_of
-bytes_of-written [] es = refl
-bytes_of-written (b ∷ bytes) es = ap (λ v. b ∷ v) (bytes_of-written bytes es)
+bytes_of-write_events [] es = refl
+bytes_of-write_events (b ∷ bytes) es = ap (λ v. b ∷ v) (bytes_of-write_events bytes es)
 
 bytes_of-append : (xs ys : List Event) → bytes_of (xs ++ ys) ≡ bytes_of xs ++ bytes_of ys
 unfolding bytes_of
@@ -40,7 +40,7 @@ answers-turns m s (refused line after ∷ turns) rest all on =
 answers-turns m s (answered line ∷ turns) rest all on =
     let p = and_parts true (list_all is_answered turns) all in
     let q = or_parts (m.ends line) (has_last m turns) on in
-    rw (q.0, answers-turns m (m.next s line) turns rest p.1 q.1, bytes_of-written (m.said s line) _)
+    rw (q.0, answers-turns m (m.next s line) turns rest p.1 q.1, bytes_of-write_events (m.said s line) _)
     (sym (append_assoc (m.said s line) _ _))
 
 gives_all : (before after : Option (List (List ℕ))) (lines given : List (List ℕ)) → before ≡ Some lines →
@@ -94,9 +94,9 @@ batch_by_line m from to before after old new e all lines first last b o n =
     rw e.ends (append-nil (m.said reached e.line)) in
     let same : answers m from lines ≡ bytes_of (events m false from e.turns) ++ m.said reached e.line =
     ap (λ v. answers m from v) split ∙ said ∙ ap (λ v. bytes_of (events m false from e.turns) ++ v) one in
-    let turn : bytes_of (read e.line ∷ written (m.said reached e.line)) ≡ m.said reached e.line =
-    ap (λ v. bytes_of v) (sym (append-nil (written (m.said reached e.line))))
-    ∙ bytes_of-written (m.said reached e.line) []
+    let turn : bytes_of (read e.line ∷ write_events (m.said reached e.line)) ≡ m.said reached e.line =
+    ap (λ v. bytes_of v) (sym (append-nil (write_events (m.said reached e.line))))
+    ∙ bytes_of-write_events (m.said reached e.line) []
     ∙ append-nil _ in
     let gained : bytes_of (events m false from (e.turns ++ answered e.line ∷ []))
     ≡ bytes_of (events m false from e.turns) ++ m.said reached e.line =

@@ -7,7 +7,7 @@ use Rattle.std.specs.Io.KnownBytes.{Consumes, IsAtEnd as IsAtEndOfBytes}
 use Rattle.std.proofs.lemmas.List.Sums.{fold_push}
 use Rattle.std.proofs.lemmas.Bool.Decides.{nat_tests}
 use Rattle.std.proofs.Math.ListN.{length-set}
-use Rattle.ss_console.specs.Lines.{lines, is_stop, keep, kept, known_lines, Gives, IsAtEnd}
+use Rattle.ss_console.specs.Lines.{lines, is_stop, keep, kept_part, known_lines, Gives, IsAtEnd}
 use Rattle.ss_console.specs.Faults.{lines_read}
 use Rattle.ss_console.specs.declared.lines.TheConstants.{LINE_LIMIT, LINE_FEED}
 use Rattle.ss_console.proofs.KnownBytes.{consumes_none, consumes_then}
@@ -32,8 +32,8 @@ length-fold : (bs line : List ℕ) → length line ≤ length (fold keep line bs
 length-fold [] line = omega arith
 length-fold (b ∷ bs) line = omega (arith, length-keep line b, length-fold bs (keep line b))
 
-kept-cons : (b : ℕ) (bs : List ℕ) → 0 < length (kept (b ∷ bs))
-kept-cons b bs = let h : 1 ≤ length (kept (b ∷ bs)) = length-fold bs (b ∷ []) in omega arith
+kept_part-cons : (b : ℕ) (bs : List ℕ) → 0 < length (kept_part (b ∷ bs))
+kept_part-cons b bs = let h : 1 ≤ length (kept_part (b ∷ bs)) = length-fold bs (b ∷ []) in omega arith
 
 -- ---- the lines of a text
 
@@ -81,7 +81,7 @@ pub record IsWithin (old now : Option (List ℕ)) (line : List ℕ) : Type 0 whe
   pub done : List ℕ
   pub consumed : Consumes old now done
   pub one : has_feed done ≡ false
-  pub kept_so_far : line ≡ kept done
+  pub kept_so_far : line ≡ kept_part done
 
 pub within_none : (a : Option (List ℕ)) → IsWithin a a []
 within_none a = record { done = []; consumed = consumes_none a; one = refl; kept_so_far = refl }
@@ -102,7 +102,7 @@ line_given old mid new line w c =
     given old new w.done line (consumes_then old mid new w.done (LINE_FEED ∷ []) w.consumed c) w.one w.kept_so_far
   where
     given : (old new : Option (List ℕ)) (done line : List ℕ) → Consumes old new (done ++ LINE_FEED ∷ []) →
-        has_feed done ≡ false → line ≡ kept done → Gives (known_lines old) (known_lines new) (line ∷ [])
+        has_feed done ≡ false → line ≡ kept_part done → Gives (known_lines old) (known_lines new) (line ∷ [])
     given None new done line c one e = tt
     given (Some xs) None done line c one e = absurd c
     given (Some xs) (Some ys) done line c one e =
@@ -119,7 +119,7 @@ end_given old mid new line w c end n count empty test =
     test
   where
     given : (old new : Option (List ℕ)) (done line : List ℕ) → Consumes old new (done ++ []) → IsAtEndOfBytes new →
-        has_feed done ≡ false → line ≡ kept done → (n : ℕ) → n ≡ length line → (empty : Bool) → empty ≡ (n == 0) →
+        has_feed done ≡ false → line ≡ kept_part done → (n : ℕ) → n ≡ length line → (empty : Bool) → empty ≡ (n == 0) →
         Gives (known_lines old) (known_lines new) (lines_read (not empty) line) × IsAtEnd (known_lines new)
     given None None done line c end one e n count empty test = (tt, tt)
     given None (Some ys) done line c end one e n count empty test = (tt, rw end refl)
@@ -131,8 +131,8 @@ end_given old mid new line w c end n count empty test =
         let none : length line ≡ 0 = ap length e in
         absurd (grind (arith, nat_tests))
     given (Some xs) (Some ys) (b ∷ bs) line c end one e n count true test =
-        let some : 0 < length (kept (b ∷ bs)) = kept-cons b bs in
-        let same : length line ≡ length (kept (b ∷ bs)) = ap length e in
+        let some : 0 < length (kept_part (b ∷ bs)) = kept_part-cons b bs in
+        let same : length line ≡ length (kept_part (b ∷ bs)) = ap length e in
         absurd (grind (arith, nat_tests))
     given (Some xs) (Some ys) (b ∷ bs) line c end one e n count false test =
         let all : xs ≡ b ∷ bs =

@@ -2,7 +2,7 @@
 use Rattle.std.proofs.Common.{◌≡◌, ℕ, ◌+◌, ◌-◌, ◌^◌, Bool, true, false, ◌||◌, List, [], ◌∷◌, ◌++◌, length, map, refl}
 use Rattle.std.proofs.Common.{◌∙◌, sym, ap, arith, append_assoc, append-nil, length-append, Option, Some, None}
 use Rattle.std.proofs.lemmas.List.{map-append}
-use Rattle.ss_console.specs.Event.{Event, read, written, Adds}
+use Rattle.ss_console.specs.Event.{Event, read, write_events, Adds}
 use Rattle.ss_console.specs.Lines.{Gives, IsAtEnd}
 use Rattle.ss_console.specs.Meaning.{Meaning}
 use Rattle.ss_console.specs.Puts.{AddsPart}
@@ -117,7 +117,7 @@ pub record HasRead (m : Meaning) (terminal : Bool) (from to : m.State) (before a
   pub next : Gives left after (line ∷ [])
   pub told :
       Adds old new
-      (events m terminal from turns ++ (written (prompt terminal (m.position to)) ++ read line ∷ []))
+      (events m terminal from turns ++ (write_events (prompt terminal (m.position to)) ++ read line ∷ []))
 
 -- ---- how it ends, and how it goes on
 
@@ -137,7 +137,7 @@ ends_in_prompt m terminal from to before after after' old mid new n text d same 
 pub ends_by_input : (m : Meaning) (terminal : Bool) (from to : m.State)
     (before after after' left : Option (List (List ℕ))) (old mid mid' new : Option (List Event)) (n : ℕ)
     (text : List ℕ) → AreDone m terminal from to before after old mid n → after' ≡ after →
-    text ≡ prompt terminal (m.position to) → Adds mid mid' (written text) → Adds mid' new [] →
+    text ≡ prompt terminal (m.position to) → Adds mid mid' (write_events text) → Adds mid' new [] →
     Gives after' left [] → IsAtEnd left → EndsByInput m terminal from to before left old new
 ends_by_input m terminal from to before after after' left old mid mid' new n text d same e a b g end = record {
   turns = d.turns;
@@ -150,7 +150,7 @@ ends_by_input m terminal from to before after after' left old mid mid' new n tex
 pub ends_by_read : (m : Meaning) (terminal : Bool) (from to : m.State) (before after : Option (List (List ℕ)))
     (old mid mid' new : Option (List Event)) (n : ℕ) (text : List ℕ) →
     AreDone m terminal from to before after old mid n → text ≡ prompt terminal (m.position to) →
-    Adds mid mid' (written text) → Adds mid' new [] → EndsByRead m terminal from to before old new
+    Adds mid mid' (write_events text) → Adds mid' new [] → EndsByRead m terminal from to before old new
 ends_by_read m terminal from to before after old mid mid' new n text d e a b = record {
   turns = d.turns;
   left = after;
@@ -162,7 +162,7 @@ ends_by_read m terminal from to before after old mid mid' new n text d e a b = r
 pub has_read : (m : Meaning) (terminal : Bool) (from to : m.State) (before after after' left : Option (List (List ℕ)))
     (old mid mid' new : Option (List Event)) (n : ℕ) (text line : List ℕ) →
     AreDone m terminal from to before after old mid n → after' ≡ after → text ≡ prompt terminal (m.position to) →
-    Adds mid mid' (written text) → Adds mid' new (read line ∷ []) → Gives after' left (line ∷ []) →
+    Adds mid mid' (write_events text) → Adds mid' new (read line ∷ []) → Gives after' left (line ∷ []) →
     HasRead m terminal from to before left old new line n
 has_read m terminal from to before after after' left old mid mid' new n text line d same e a b g = record {
   turns = d.turns;
@@ -180,7 +180,7 @@ regroup e p a x = rw (append_assoc e (p ++ x ∷ []) a, append_assoc p (x ∷ []
 told_one : (m : Meaning) (terminal : Bool) (from to : m.State) (before after : Option (List (List ℕ)))
     (old mid new : Option (List Event)) (line : List ℕ) (n : ℕ) (turn : Turn m.State) →
     (h : HasRead m terminal from to before after old mid line n) → line_of turn ≡ line →
-    Adds mid new (written (answer_of m to turn)) →
+    Adds mid new (write_events (answer_of m to turn)) →
     Adds old new (events m terminal from (h.turns ++ turn ∷ []))
 told_one m terminal from to before after old mid new line n turn h e a =
     rw (events-push m terminal from h.turns turn, ← h.led.state, e, ← regroup)
@@ -189,7 +189,7 @@ told_one m terminal from to before after old mid new line n turn h e a =
 pub goes_on_with : (m : Meaning) (terminal : Bool) (from to to' : m.State) (before after : Option (List (List ℕ)))
     (old mid new : Option (List Event)) (line answer text : List ℕ) (reply : Reply) (n : ℕ) →
     HasRead m terminal from to before after old mid line n → IsReply m to to' line answer reply →
-    text ≡ reply_text m to' reply answer → Adds mid new (written text) → reply_ends reply ≡ false →
+    text ≡ reply_text m to' reply answer → Adds mid new (write_events text) → reply_ends reply ≡ false →
     AreDone m terminal from to' before after old new (n + 1)
 goes_on_with m terminal from to to' before after old mid new line answer text reply n h r e a on = record {
   turns = h.turns ++ r.turn ∷ [];
@@ -204,7 +204,7 @@ goes_on_with m terminal from to to' before after old mid new line answer text re
 ends_with : (m : Meaning) (terminal : Bool) (from to to' : m.State) (before after : Option (List (List ℕ)))
     (old mid new : Option (List Event)) (line : List ℕ) (n : ℕ) (turn : Turn m.State) →
     HasRead m terminal from to before after old mid line n → line_of turn ≡ line → IsAllowed m to turn →
-    to' ≡ state_after m to turn → Adds mid new (written (answer_of m to turn)) → is_last m turn ≡ true →
+    to' ≡ state_after m to turn → Adds mid new (write_events (answer_of m to turn)) → is_last m turn ≡ true →
     EndsByLine m terminal from to' before after old new
 ends_with m terminal from to to' before after old mid new line n (answered l) h e w s a last = record {
   turns = h.turns;
@@ -219,7 +219,7 @@ ends_with m terminal from to to' before after old mid new line n (refused l t) h
 pub ends_by_line : (m : Meaning) (terminal : Bool) (from to to' : m.State) (before after : Option (List (List ℕ)))
     (old mid new : Option (List Event)) (line answer text : List ℕ) (reply : Reply) (n : ℕ) →
     HasRead m terminal from to before after old mid line n → IsReply m to to' line answer reply →
-    text ≡ reply_text m to' reply answer → Adds mid new (written text) → reply_ends reply ≡ true →
+    text ≡ reply_text m to' reply answer → Adds mid new (write_events text) → reply_ends reply ≡ true →
     EndsByLine m terminal from to' before after old new
 ends_by_line m terminal from to to' before after old mid new line answer text reply n h r e a last =
     ends_with m terminal from to to' before after old mid new line n r.turn h r.line_is r.allowed r.state

@@ -13,8 +13,8 @@ abbrev pub is_silent : List ℕ → Bool
 is_silent line = is_quit line || length line == 0
 
 -- its states are numbers of lines; a refusal of memory leaves it as it was
-abbrev pub counting : Meaning
-counting = record {
+abbrev pub counter_meaning : Meaning
+counter_meaning = record {
   State = ℕ;
   position = λ n. n;
   said = λ n line. if is_silent line then [] else decimal n ++ codes " " ++ line ++ codes "\n";

@@ -3,7 +3,7 @@ use Rattle.std.specs.Prelude.{ℕ, ◌≡◌, ◌-◌, ◌^◌, ◌≤◌, Bool,
 use Rattle.std.specs.Prelude.{decimal}
 use Rattle.std.specs.Prelude.{if◌then◌else◌, Option}
 use Rattle.std.specs.List.{list_any}
-use Rattle.ss_console.specs.Event.{Event, read, written, Adds}
+use Rattle.ss_console.specs.Event.{Event, read, write_events, Adds}
 use Rattle.ss_console.specs.Lines.{Gives, IsAtEnd}
 use Rattle.ss_console.specs.Meaning.{Meaning}
 
@@ -44,7 +44,7 @@ prompt terminal position = if terminal then codes "(" ++ decimal position ++ cod
 -- the events of a turn: the prompt, the line, the answer
 abbrev pub turn_events : (m : Meaning) → Bool → m.State → Turn m.State → List Event
 turn_events m terminal s turn =
-    written (prompt terminal (m.position s)) ++ read (line_of turn) ∷ written (answer_of m s turn)
+    write_events (prompt terminal (m.position s)) ++ read (line_of turn) ∷ write_events (answer_of m s turn)
 
 -- some turns, one after the other
 unfoldable pub events : (m : Meaning) → Bool → m.State → List (Turn m.State) → List Event
@@ -87,7 +87,7 @@ pub record EndsByInput (m : Meaning) (terminal : Bool) (from to : m.State) (befo
   -- the input is at its end
   pub input : IsAtEnd after
   -- the events are theirs, with what is said above
-  pub told : Adds old new (events m terminal from turns ++ written (prompt terminal (m.position to)))
+  pub told : Adds old new (events m terminal from turns ++ write_events (prompt terminal (m.position to)))
 
 -- a line ended it: all turns, the last with that line
 pub record EndsByLine (m : Meaning) (terminal : Bool) (from to : m.State) (before after : Option (List (List ℕ)))
@@ -117,7 +117,7 @@ pub record EndsByRead (m : Meaning) (terminal : Bool) (from to : m.State) (befor
   -- none of them ends the dialogue
   pub goes_on : has_last m turns ≡ false
   -- the events are theirs, with what is said above
-  pub told : Adds old new (events m terminal from turns ++ written (prompt terminal (m.position to)))
+  pub told : Adds old new (events m terminal from turns ++ write_events (prompt terminal (m.position to)))
 
 -- a put of the prompt failed: all turns, and a prefix of the prompt
 pub record EndsInPrompt (m : Meaning) (terminal : Bool) (from to : m.State) (before after : Option (List (List ℕ)))
@@ -134,7 +134,7 @@ pub record EndsInPrompt (m : Meaning) (terminal : Bool) (from to : m.State) (bef
   pub within : count ≤ length (prompt terminal (m.position to))
   -- the events are theirs, with what is said above
   pub told :
-      Adds old new (events m terminal from turns ++ written (take count (prompt terminal (m.position to))))
+      Adds old new (events m terminal from turns ++ write_events (take count (prompt terminal (m.position to))))
 
 -- a put of an answer failed: all turns but the last, its prompt and its line, and a prefix of its answer
 pub record EndsInAnswer (m : Meaning) (terminal : Bool) (from to : m.State) (before after : Option (List (List ℕ)))
@@ -159,8 +159,8 @@ pub record EndsInAnswer (m : Meaning) (terminal : Bool) (from to : m.State) (bef
   pub told :
       Adds old new
       (events m terminal from turns
-      ++ (written (prompt terminal (m.position state)) ++ read (line_of last)
-      ∷ written (take count (answer_of m state last))))
+      ++ (write_events (prompt terminal (m.position state)) ++ read (line_of last)
+      ∷ write_events (take count (answer_of m state last))))
 
 -- 2^64 - 1 lines were answered
 pub record EndsByCount (m : Meaning) (terminal : Bool) (from to : m.State) (before after : Option (List (List ℕ)))

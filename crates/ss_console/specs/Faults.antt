@@ -27,10 +27,10 @@ lines_read true line = line ∷ []
 lines_read false line = []
 
 -- the event of a reading
-abbrev pub reading : {E : Type 0} → Result Bool E → List ℕ → List Event
-reading (Ok true) line = read line ∷ []
-reading (Ok false) line = []
-reading (Err e) line = []
+abbrev pub read_events : {E : Type 0} → Result Bool E → List ℕ → List Event
+read_events (Ok true) line = read line ∷ []
+read_events (Ok false) line = []
+read_events (Err e) line = []
 
 -- the failures behind a reading
 abbrev pub faults_after_read : {E : Type 0} → Result Bool E → Faults → Faults

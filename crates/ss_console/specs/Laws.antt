@@ -3,8 +3,8 @@ use Rattle.std.specs.Prelude.{ℕ, ◌≡◌, ◌+◌, ◌<◌, ◌≤◌, Bool,
 use Rattle.std.specs.Prelude.{if◌then◌else◌}
 use Rattle.std.specs.Prelude.{Option, Some}
 use Rattle.std.specs.List.{list_any, list_all}
-use Rattle.ss_console.specs.Event.{Event, read, wrote, written}
-use Rattle.ss_console.specs.Lines.{is_stop, kept}
+use Rattle.ss_console.specs.Event.{Event, read, wrote, write_events}
+use Rattle.ss_console.specs.Lines.{is_stop, kept_part}
 use Rattle.ss_console.specs.Meaning.{Meaning}
 use Rattle.ss_console.specs.Dialogue.{Turn, answered, refused, prompt, events, state_after_all, EndsByInput}
 use Rattle.ss_console.specs.Dialogue.{EndsByLine}
@@ -58,18 +58,18 @@ AnswersComeFirst m =
     (terminal : Bool) (s : m.State) (turns : List (Turn m.State)) (before after : List Event) (line : List ℕ) →
     events m terminal s turns ≡ before ++ read line ∷ after →
     (done left : List (Turn m.State)) × (turns ≡ done ++ left)
-    × (before ≡ events m terminal s done ++ written (prompt terminal (m.position (state_after_all m s done))))
+    × (before ≡ events m terminal s done ++ write_events (prompt terminal (m.position (state_after_all m s done))))
 
 -- ---- what is kept of a line
 
 -- a line within the limit is kept whole
 abbrev pub ShortLinesAreKept : Type 0
-ShortLinesAreKept = (line : List ℕ) → length line ≤ LINE_LIMIT → kept line ≡ line
+ShortLinesAreKept = (line : List ℕ) → length line ≤ LINE_LIMIT → kept_part line ≡ line
 
 -- of a longer one a byte more than the limit is kept
 abbrev pub LongLinesAreCut : Type 0
-LongLinesAreCut = (line : List ℕ) → LINE_LIMIT < length line → length (kept line) ≡ LINE_LIMIT + 1
+LongLinesAreCut = (line : List ℕ) → LINE_LIMIT < length line → length (kept_part line) ≡ LINE_LIMIT + 1
 
 -- what is kept has a word where the line has one
 abbrev pub WordsAreKept : Type 0
-WordsAreKept = (line : List ℕ) → list_any (λ b. not (is_stop b)) (kept line) ≡ list_any (λ b. not (is_stop b)) line
+WordsAreKept = (line : List ℕ) → list_any (λ b. not (is_stop b)) (kept_part line) ≡ list_any (λ b. not (is_stop b)) line

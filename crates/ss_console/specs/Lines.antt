@@ -26,12 +26,12 @@ keep line b =
     else (if is_stop (slice_index line LINE_LIMIT) then slice_set line LINE_LIMIT b else line)
 
 -- what is kept of a line
-abbrev pub kept : List ℕ → List ℕ
-kept line = fold keep [] line
+abbrev pub kept_part : List ℕ → List ℕ
+kept_part line = fold keep [] line
 
 -- the lines of a text that is told, each as it is kept
 abbrev pub known_lines : Option (List ℕ) → Option (List (List ℕ))
-known_lines known = option_map (λ text. map kept (lines text)) known
+known_lines known = option_map (λ text. map kept_part (lines text)) known
 
 -- lines that are told begin with these, and lose them
 abbrev pub Gives : Option (List (List ℕ)) → Option (List (List ℕ)) → List (List ℕ) → Type 0

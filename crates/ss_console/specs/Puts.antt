@@ -1,6 +1,6 @@
 -- What was written of a text.
 use Rattle.std.specs.Prelude.{ℕ, ◌≤◌, List, [], ◌∷◌, ◌++◌, length, take, Option}
-use Rattle.ss_console.specs.Event.{Event, Adds, written}
+use Rattle.ss_console.specs.Event.{Event, Adds, write_events}
 
 -- a prefix of a text was written
 pub record AddsPart (text : List ℕ) (old new : Option (List Event)) : Type 0 where
@@ -9,9 +9,9 @@ pub record AddsPart (text : List ℕ) (old new : Option (List Event)) : Type 0 w
   -- the text is as long
   pub within : count ≤ length text
   -- it stands behind what was told
-  pub told : Adds old new (written (take count text))
+  pub told : Adds old new (write_events (take count text))
 
 -- some texts, one after the other
-unfoldable pub joined : List (List ℕ) → List ℕ
-joined [] = []
-joined (text ∷ texts) = text ++ joined texts
+unfoldable pub joined_texts : List (List ℕ) → List ℕ
+joined_texts [] = []
+joined_texts (text ∷ texts) = text ++ joined_texts texts

@@ -1,5 +1,5 @@
 ghost use Rattle.std.specs.Prelude.{◌≡◌, ◌-◌, ◌^◌, ◌<◌, ◌++◌, true, IsOk, OnOk, OnErr, IfOk};
-ghost use Rattle.ss_console.specs.Event.{Adds, written};
+ghost use Rattle.ss_console.specs.Event.{Adds, write_events};
 ghost use Rattle.ss_console.specs.Faults.{one_more_put};
 ghost use Rattle.ss_console.specs.Puts.{AddsPart};
 ghost use Rattle.ss_console.specs.Meaning.{Meaning};
@@ -44,7 +44,7 @@ pub trait Answerer {
     fn put_refusal<C: Console>(&self, console: &mut C) -> Result<(), PutFault>
         requires { (C.faults console.old).puts < 2 ^ 64 - 1 }
         ensures ok { OnOk result (Adds (C.log console.old) (C.log console.new)
-            (written (meaning.refusal (state self.now)))
+            (write_events (meaning.refusal (state self.now)))
             × (C.faults console.new ≡ C.faults console.old)) }
         ensures err { OnErr result (AddsPart (meaning.refusal (state self.now))
             (C.log console.old) (C.log console.new)

@@ -1,8 +1,8 @@
 ghost use Rattle.std.specs.Prelude.{◌≡◌, ◌-◌, ◌^◌, ◌<◌, ◌≤◌, ℕ, Bool, false, Ok, List, Option, length, take, IfOk};
 ghost use Rattle.std.specs.Vec.{vec_capacity};
-ghost use Rattle.ss_console.specs.Event.{Event, Adds, written};
+ghost use Rattle.ss_console.specs.Event.{Event, Adds, write_events};
 ghost use Rattle.ss_console.specs.Lines.{Gives, IsAtEnd};
-ghost use Rattle.ss_console.specs.Faults.{Faults, count_taken, lines_read, reading, faults_after_read};
+ghost use Rattle.ss_console.specs.Faults.{Faults, count_taken, lines_read, read_events, faults_after_read};
 ghost use Rattle.ss_console.specs.Faults.{faults_after_put};
 ghost use Rattle.ss_console.specs.declared.lines.TheConstants.{LINE_LIMIT};
 
@@ -38,7 +38,7 @@ pub trait Console {
     fn read_line(&mut self, line: &mut Vec<u8>) -> Result<bool, ReadFault>
         requires room { LINE_LIMIT < vec_capacity line.old }
         requires count { (faults self.old).reads < 2 ^ 64 - 1 }
-        ensures told { Adds (log self.old) (log self.new) (reading result line.new.items) }
+        ensures told { Adds (log self.old) (log self.new) (read_events result line.new.items) }
         ensures lines { IfOk result
             (λ some. Gives (left self.old) (left self.new) (lines_read some line.new.items)) }
         ensures end { result ≡ Ok false → IsAtEnd (left self.new) }
@@ -53,7 +53,7 @@ pub trait Console {
         requires count { (faults self.old).puts < 2 ^ 64 - 1 }
         ensures within { count_taken result ≤ length bytes.now }
         ensures told { Adds (log self.old) (log self.new)
-            (written (take (count_taken result) bytes.now)) }
+            (write_events (take (count_taken result) bytes.now)) }
         ensures lines { left self.new ≡ left self.old }
         ensures faults { faults self.new ≡ faults_after_put result (faults self.old) }
         ensures terminal { terminal self.new ≡ terminal self.old };

@@ -1,5 +1,5 @@
 ghost use Rattle.std.specs.Prelude.{◌≡◌, ◌++◌, codes, decimal, OnOk};
-ghost use Rattle.ss_console.specs.Counting.{counting};
+ghost use Rattle.ss_console.specs.Counting.{counter_meaning};
 
 use crate::answerer::{Answerer, Go};
 use crate::console::{Console, PutFault};
@@ -36,7 +36,7 @@ fn say(answer: &mut Vec<u8>, count: u64, line: &[u8]) -> Result<(), AllocError>
 }
 
 impl Answerer for Counter {
-    ghost meaning = { counting };
+    ghost meaning = { counter_meaning };
 
     ghost state = { λ c. c.count };
 

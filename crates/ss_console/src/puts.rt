@@ -1,8 +1,8 @@
 ghost use Rattle.std.specs.Prelude.{◌≡◌, ◌+◌, ◌-◌, ◌^◌, ◌<◌, ◌≤◌, ◌++◌, [], length, take, drop, map, codes, decimal};
 ghost use Rattle.std.specs.Prelude.{OnOk, OnErr, IfOk};
-ghost use Rattle.ss_console.specs.Event.{Adds, written};
+ghost use Rattle.ss_console.specs.Event.{Adds, write_events};
 ghost use Rattle.ss_console.specs.Faults.{one_more_put};
-ghost use Rattle.ss_console.specs.Puts.{AddsPart, joined};
+ghost use Rattle.ss_console.specs.Puts.{AddsPart, joined_texts};
 ghost use Rattle.ss_console.specs.Dialogue.{prompt};
 
 use crate::console::{Console, PutFault};
@@ -13,7 +13,7 @@ fn put_some<C: Console>(console: &mut C, bytes: &[u8], at: usize) -> Result<usiz
     requires left { at < length bytes.now }
     requires count { (C.faults console.old).puts < 2 ^ 64 - 1 }
     ensures ok { IfOk result (λ n. (0 < n) × (at + n ≤ length bytes.now)
-        × Adds (C.log console.old) (C.log console.new) (written (take n (drop at bytes.now)))
+        × Adds (C.log console.old) (C.log console.new) (write_events (take n (drop at bytes.now)))
         × (C.faults console.new ≡ C.faults console.old)) }
     ensures err { OnErr result (Adds (C.log console.old) (C.log console.new) []
         × (C.faults console.new ≡ one_more_put (C.faults console.old))) }
@@ -30,7 +30,7 @@ fn put_some<C: Console>(console: &mut C, bytes: &[u8], at: usize) -> Result<usiz
 #[tactic(auto, using(crate::proofs::Parts::in_pieces))]
 pub fn put_all<C: Console>(console: &mut C, bytes: &[u8]) -> Result<(), PutFault>
     requires { (C.faults console.old).puts < 2 ^ 64 - 1 }
-    ensures ok { OnOk result (Adds (C.log console.old) (C.log console.new) (written bytes.now)
+    ensures ok { OnOk result (Adds (C.log console.old) (C.log console.new) (write_events bytes.now)
         × (C.faults console.new ≡ C.faults console.old)) }
     ensures err { OnErr result (AddsPart bytes.now (C.log console.old) (C.log console.new)
         × (C.faults console.new ≡ one_more_put (C.faults console.old))) }
@@ -46,13 +46,13 @@ pub fn put_all<C: Console>(console: &mut C, bytes: &[u8]) -> Result<(), PutFault
 
 /// Writes some texts, one after the other, in as many pieces as they are taken in, until one call
 /// fails.
-#[tactic(auto, using(crate::proofs::Parts::with_others), unfolding(crate::specs::Puts::joined))]
+#[tactic(auto, using(crate::proofs::Parts::with_others), unfolding(crate::specs::Puts::joined_texts))]
 pub fn put_texts<C: Console>(console: &mut C, texts: &[&[u8]]) -> Result<(), PutFault>
     requires { (C.faults console.old).puts < 2 ^ 64 - 1 }
     ensures ok { OnOk result (Adds (C.log console.old) (C.log console.new)
-        (written (joined (map (λ text. text.now) texts.now)))
+        (write_events (joined_texts (map (λ text. text.now) texts.now)))
         × (C.faults console.new ≡ C.faults console.old)) }
-    ensures err { OnErr result (AddsPart (joined (map (λ text. text.now) texts.now))
+    ensures err { OnErr result (AddsPart (joined_texts (map (λ text. text.now) texts.now))
         (C.log console.old) (C.log console.new)
         × (C.faults console.new ≡ one_more_put (C.faults console.old))) }
     ensures lines { C.left console.new ≡ C.left console.old }
@@ -66,11 +66,11 @@ pub fn put_texts<C: Console>(console: &mut C, texts: &[&[u8]]) -> Result<(), Put
 }
 
 /// Writes the prompt of a position, in parentheses.
-#[tactic(auto, unfolding(crate::specs::Puts::joined))]
+#[tactic(auto, unfolding(crate::specs::Puts::joined_texts))]
 fn put_position<C: Console>(console: &mut C, position: u64) -> Result<(), PutFault>
     requires { (C.faults console.old).puts < 2 ^ 64 - 1 }
     ensures ok { OnOk result (Adds (C.log console.old) (C.log console.new)
-        (written (codes "(" ++ decimal position ++ codes ") "))
+        (write_events (codes "(" ++ decimal position ++ codes ") "))
         × (C.faults console.new ≡ C.faults console.old)) }
     ensures err { OnErr result (AddsPart (codes "(" ++ decimal position ++ codes ") ")
         (C.log console.old) (C.log console.new)
@@ -87,7 +87,7 @@ fn put_position<C: Console>(console: &mut C, position: u64) -> Result<(), PutFau
 pub(crate) fn put_prompt<C: Console>(console: &mut C, position: u64) -> Result<(), PutFault>
     requires { (C.faults console.old).puts < 2 ^ 64 - 1 }
     ensures ok { OnOk result (Adds (C.log console.old) (C.log console.new)
-        (written (prompt (C.terminal console.old) position))
+        (write_events (prompt (C.terminal console.old) position))
         × (C.faults console.new ≡ C.faults console.old)) }
     ensures err { OnErr result (AddsPart (prompt (C.terminal console.old) position)
         (C.log console.old) (C.log console.new)

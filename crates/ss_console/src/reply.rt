@@ -1,5 +1,5 @@
 ghost use Rattle.std.specs.Prelude.{◌≡◌, ◌-◌, ◌^◌, ◌<◌, OnOk, OnErr};
-ghost use Rattle.ss_console.specs.Event.{Adds, written};
+ghost use Rattle.ss_console.specs.Event.{Adds, write_events};
 ghost use Rattle.ss_console.specs.Faults.{one_more_put};
 ghost use Rattle.ss_console.specs.Puts.{AddsPart};
 ghost use Rattle.ss_console.specs.Reply.{reply_text, reply_ends};
@@ -35,7 +35,7 @@ pub(crate) fn put_reply<A: Answerer, C: Console>(
 ) -> Result<(), PutFault>
     requires { (C.faults console.old).puts < 2 ^ 64 - 1 }
     ensures ok { OnOk result (Adds (C.log console.old) (C.log console.new)
-        (written (reply_text A.meaning (A.state answerer.now) reply answer.now))
+        (write_events (reply_text A.meaning (A.state answerer.now) reply answer.now))
         × (C.faults console.new ≡ C.faults console.old)) }
     ensures err { OnErr result (AddsPart
         (reply_text A.meaning (A.state answerer.now) reply answer.now)

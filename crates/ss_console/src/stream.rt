@@ -1,6 +1,6 @@
 ghost use Rattle.std.specs.Prelude.{◌≡◌, ◌-◌, ◌^◌, ◌<◌, ◌≤◌, None, length, take};
 ghost use Rattle.std.specs.Io.KnownBytes.{Appends};
-ghost use Rattle.ss_console.specs.Event.{Adds, written};
+ghost use Rattle.ss_console.specs.Event.{Adds, write_events};
 ghost use Rattle.ss_console.specs.Lines.{known_lines};
 ghost use Rattle.ss_console.specs.Faults.{faults_of, count_taken, faults_after_put};
 
@@ -63,7 +63,7 @@ impl<R: Read + Drop, W: Write + Drop> Console for StreamConsole<R, W> {
         requires some { 0 < length bytes.now }
         requires count { self.old.put_faults < 2 ^ 64 - 1 }
         ensures within { count_taken result ≤ length bytes.now }
-        ensures told { Adds None None (written (take (count_taken result) bytes.now)) }
+        ensures told { Adds None None (write_events (take (count_taken result) bytes.now)) }
         ensures lines { known_lines (R.remaining self.new.reader)
             ≡ known_lines (R.remaining self.old.reader) }
         ensures faults { faults_of self.new.read_faults self.new.put_faults

@@ -1,4 +1,4 @@
-ghost use Rattle.ss_console.specs.Counting.{counting};
+ghost use Rattle.ss_console.specs.Counting.{counter_meaning};
 
 use crate::counter::Counter;
 use crate::{
@@ -72,7 +72,7 @@ fn each_answer_comes_before_the_next_line(rt: HostRuntime) -> Result<(), Fail> {
 struct Refused;
 
 impl Answerer for Refused {
-    ghost meaning = { counting };
+    ghost meaning = { counter_meaning };
 
     ghost state = { λ _. 0 };
 

@@ -1,6 +1,6 @@
 -- The bodies of replies and events, as they are written.
 use Rattle.std.specs.Prelude.{ℕ, ◌-◌, List, [], ◌++◌, codes, decimal, drop, take, length, Option, Some, None}
-use Rattle.ss_messages.specs.Escapes.{quoted, quoted_text}
+use Rattle.ss_messages.specs.Escapes.{quoted_bytes, quoted_text}
 
 -- a text without the byte at its end, which is a line feed
 abbrev pub without_last : List ℕ → List ℕ
@@ -19,25 +19,25 @@ hit_text (Some id) = hit_at id
 unfoldable pub stopped_body : List ℕ → List ℕ → Option ℕ → List ℕ
 stopped_body reason text hit =
     codes "{\"reason\":\"" ++ reason ++ codes "\",\"threadId\":1,\"allThreadsStopped\":true,\"description\":"
-    ++ quoted text ++ hit_text hit ++ codes "}"
+    ++ quoted_bytes text ++ hit_text hit ++ codes "}"
 
 -- output to a stream of this name
 unfoldable pub output_body : List ℕ → List ℕ → List ℕ
 output_body category text =
-    codes "{\"category\":\"" ++ category ++ codes "\",\"output\":" ++ quoted text ++ codes "}"
+    codes "{\"category\":\"" ++ category ++ codes "\",\"output\":" ++ quoted_bytes text ++ codes "}"
 
 -- what an expression says
 unfoldable pub result_body : List ℕ → List ℕ
-result_body text = codes "{\"result\":" ++ quoted text ++ codes ",\"variablesReference\":0}"
+result_body text = codes "{\"result\":" ++ quoted_bytes text ++ codes ",\"variablesReference\":0}"
 
 -- the content of a source
 unfoldable pub content_body : List ℕ → List ℕ
-content_body text = codes "{\"content\":" ++ quoted text ++ codes "}"
+content_body text = codes "{\"content\":" ++ quoted_bytes text ++ codes "}"
 
 -- what a fault is, by its name and its sentence
 unfoldable pub exception_body : List ℕ → List ℕ → List ℕ
 exception_body name sentence =
-    codes "{\"exceptionId\":" ++ quoted name ++ codes ",\"description\":" ++ quoted sentence
+    codes "{\"exceptionId\":" ++ quoted_bytes name ++ codes ",\"description\":" ++ quoted_bytes sentence
     ++ codes ",\"breakMode\":\"always\"}"
 
 -- the model, by its path, and the report
@@ -53,13 +53,13 @@ list_body name items = codes "{\"" ++ name ++ codes "\":[" ++ drop 1 items ++ co
 -- a comma and a variable with its value; what it refers to, or 0
 unfoldable pub variable_item : List ℕ → List ℕ → ℕ → List ℕ
 variable_item name value reference =
-    codes ",{\"name\":" ++ quoted name ++ codes ",\"value\":" ++ quoted value ++ codes ",\"variablesReference\":"
-    ++ decimal reference ++ codes "}"
+    codes ",{\"name\":" ++ quoted_bytes name ++ codes ",\"value\":" ++ quoted_bytes value
+    ++ codes ",\"variablesReference\":" ++ decimal reference ++ codes "}"
 
 -- a comma and a frame: its number, its section and its line of the model
 unfoldable pub frame_item : ℕ → List ℕ → ℕ → List ℕ → List ℕ
 frame_item n name line path =
-    codes ",{\"id\":" ++ decimal n ++ codes ",\"name\":" ++ quoted name ++ codes ",\"line\":" ++ decimal line
+    codes ",{\"id\":" ++ decimal n ++ codes ",\"name\":" ++ quoted_bytes name ++ codes ",\"line\":" ++ decimal line
     ++ codes ",\"column\":1,\"source\":{\"path\":" ++ quoted_text path ++ codes "}}"
 
 -- a comma and a break point of this number that is set on a line
@@ -73,4 +73,4 @@ watched_item id = codes ",{\"id\":" ++ decimal id ++ codes ",\"verified\":true}"
 
 -- a comma and a break point that is not set, and why
 unfoldable pub unset_item : List ℕ → List ℕ
-unset_item reason = codes ",{\"verified\":false,\"message\":" ++ quoted reason ++ codes "}"
+unset_item reason = codes ",{\"verified\":false,\"message\":" ++ quoted_bytes reason ++ codes "}"

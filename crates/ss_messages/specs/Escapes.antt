@@ -25,5 +25,5 @@ unfoldable pub quoted_text : List ℕ → List ℕ
 quoted_text text = 34 ∷ flat_map escaped_byte text ++ 34 ∷ []
 
 -- bytes as a string: those past ASCII are characters of their numbers
-unfoldable pub quoted : List ℕ → List ℕ
-quoted bytes = 34 ∷ flat_map escaped_wide_byte bytes ++ 34 ∷ []
+unfoldable pub quoted_bytes : List ℕ → List ℕ
+quoted_bytes bytes = 34 ∷ flat_map escaped_wide_byte bytes ++ 34 ∷ []

@@ -38,8 +38,8 @@ length_in line =
     then number_in (drop 16 (without_return line)) else None
 
 -- the length that the lines so far say, and one more: the first that says one counts
-abbrev pub noted : Option ℕ → List ℕ → Option ℕ
-noted said line = option_or said (length_in line)
+abbrev pub length_so_far : Option ℕ → List ℕ → Option ℕ
+length_so_far said line = option_or said (length_in line)
 
 -- the line that ends a head
 abbrev pub is_blank : List ℕ → Bool
@@ -54,24 +54,24 @@ body (Some n) bytes = if nat_lt (length bytes) n then cut else message (take n b
 unfoldable pub head : Option ℕ → List ℕ → List ℕ → Reading
 head said line [] = cut
 head said line (b ∷ bytes) =
-    if b == 10 then (if is_blank line then body said bytes else head (noted said line) [] bytes) else
+    if b == 10 then (if is_blank line then body said bytes else head (length_so_far said line) [] bytes) else
     if nat_lt (length line) LINE_LIMIT then head said (line ++ b ∷ []) bytes else malformed
 
 -- what a stream begins with
-abbrev pub reading : List ℕ → Reading
-reading [] = ended
-reading (b ∷ bytes) = head None [] (b ∷ bytes)
+abbrev pub first_message : List ℕ → Reading
+first_message [] = ended
+first_message (b ∷ bytes) = head None [] (b ∷ bytes)
 
 -- a stream that is told began with a message of this body, or was at its end
 abbrev pub IsRead : Option (List ℕ) → Option (List ℕ) → Option (List ℕ) → Type 0
-IsRead None old new = (text : List ℕ) → old ≡ Some text → reading text ≡ ended
+IsRead None old new = (text : List ℕ) → old ≡ Some text → first_message text ≡ ended
 IsRead (Some bytes) old new =
     (text : List ℕ) → old ≡ Some text →
-    (rest : List ℕ) × (new ≡ Some rest) × (reading text ≡ message bytes rest)
+    (rest : List ℕ) × (new ≡ Some rest) × (first_message text ≡ message bytes rest)
 
 -- a stream that is told began with no message
 abbrev pub IsMalformed : Option (List ℕ) → Type 0
-IsMalformed old = (text : List ℕ) → old ≡ Some text → reading text ≡ malformed
+IsMalformed old = (text : List ℕ) → old ≡ Some text → first_message text ≡ malformed
 
 -- a byte was read, or the stream was at its end
 abbrev pub IsByte : Option ℕ → Option (List ℕ) → Option (List ℕ) → Type 0

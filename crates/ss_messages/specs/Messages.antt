@@ -1,11 +1,11 @@
 -- Replies and events, as they are written.
 use Rattle.std.specs.Prelude.{ℕ, ◌+◌, List, [], ◌∷◌, ◌++◌, codes, decimal, length}
-use Rattle.ss_messages.specs.Escapes.{quoted, quoted_text}
+use Rattle.ss_messages.specs.Escapes.{quoted_bytes, quoted_text}
 use Rattle.ss_messages.specs.declared.request.Request.{Request}
 
 -- a message: its length in bytes, an empty line, and its body
-unfoldable pub framed : List ℕ → List ℕ
-framed body = codes "Content-Length: " ++ decimal (length body) ++ codes "\r\n\r\n" ++ body
+unfoldable pub message_text : List ℕ → List ℕ
+message_text body = codes "Content-Length: " ++ decimal (length body) ++ codes "\r\n\r\n" ++ body
 
 -- the head of message n, which answers request r of this name
 abbrev pub response_head : ℕ → ℕ → List ℕ → List ℕ
@@ -20,7 +20,7 @@ reply_text n r name body = response_head n r name ++ codes ",\"success\":true,\"
 -- message n: request r of this name is not done, for this reason
 unfoldable pub failure_text : ℕ → ℕ → List ℕ → List ℕ → List ℕ
 failure_text n r name reason =
-    response_head n r name ++ codes ",\"success\":false,\"message\":" ++ quoted reason ++ codes "}"
+    response_head n r name ++ codes ",\"success\":false,\"message\":" ++ quoted_bytes reason ++ codes "}"
 
 -- message n: an event of this name with this body, a JSON value
 unfoldable pub event_text : ℕ → List ℕ → List ℕ → List ℕ
@@ -51,10 +51,10 @@ pub record PostView : Type 0 where
   pub bytes : List ℕ
 
 -- one message more
-abbrev pub posted : Request → PostView → Sent → PostView
-posted r p m = record { sent = p.sent + 1; bytes = p.bytes ++ framed (sent_text (p.sent + 1) r m) }
+abbrev pub posted_with : Request → PostView → Sent → PostView
+posted_with r p m = record { sent = p.sent + 1; bytes = p.bytes ++ message_text (sent_text (p.sent + 1) r m) }
 
 -- some messages more
 unfoldable pub posted_all : Request → PostView → List Sent → PostView
 posted_all r p [] = p
-posted_all r p (m ∷ ms) = posted_all r (posted r p m) ms
+posted_all r p (m ∷ ms) = posted_all r (posted_with r p m) ms

@@ -1,12 +1,13 @@
 -- What an editor shows of a state, as it is written: frames, scopes, variables that are many, and break points.
 use Rattle.std.specs.Prelude.{ℕ, Bool, false, List, ◌++◌, codes, decimal, drop, if◌then◌else◌}
-use Rattle.ss_messages.specs.Escapes.{quoted, quoted_text}
+use Rattle.ss_messages.specs.Escapes.{quoted_bytes, quoted_text}
 
 -- a comma and a variable that refers to so many others, which are asked for a page at a time
 unfoldable pub paged_item : List ℕ → List ℕ → ℕ → ℕ → List ℕ
 paged_item name value reference count =
-    codes ",{\"name\":" ++ quoted name ++ codes ",\"value\":" ++ quoted value ++ codes ",\"variablesReference\":"
-    ++ decimal reference ++ codes ",\"indexedVariables\":" ++ decimal count ++ codes "}"
+    codes ",{\"name\":" ++ quoted_bytes name ++ codes ",\"value\":" ++ quoted_bytes value
+    ++ codes ",\"variablesReference\":" ++ decimal reference
+    ++ codes ",\"indexedVariables\":" ++ decimal count ++ codes "}"
 
 -- some frames, each behind a comma, of so many
 unfoldable pub frames_body : List ℕ → ℕ → List ℕ
@@ -16,24 +17,24 @@ frames_body items count =
 -- a comma and a scope, and what it refers to
 unfoldable pub scope_item : List ℕ → ℕ → List ℕ
 scope_item name reference =
-    codes ",{\"name\":" ++ quoted name ++ codes ",\"variablesReference\":" ++ decimal reference
+    codes ",{\"name\":" ++ quoted_bytes name ++ codes ",\"variablesReference\":" ++ decimal reference
     ++ codes ",\"expensive\":false}"
 
 -- a comma and a word that may stand from a column on, in place of so many characters
 unfoldable pub target_item : List ℕ → ℕ → ℕ → List ℕ
 target_item word start count =
-    codes ",{\"label\":" ++ quoted word ++ codes ",\"start\":" ++ decimal start ++ codes ",\"length\":"
+    codes ",{\"label\":" ++ quoted_bytes word ++ codes ",\"start\":" ++ decimal start ++ codes ",\"length\":"
     ++ decimal count ++ codes "}"
 
 -- a question that may be a data break point
 unfoldable pub info_body : List ℕ → List ℕ
 info_body text =
-    codes "{\"dataId\":" ++ quoted text ++ codes ",\"description\":" ++ quoted text
+    codes "{\"dataId\":" ++ quoted_bytes text ++ codes ",\"description\":" ++ quoted_bytes text
     ++ codes ",\"accessTypes\":[\"write\"]}"
 
 -- that there is none, and why
 unfoldable pub no_info_body : List ℕ → List ℕ
-no_info_body reason = codes "{\"dataId\":null,\"description\":" ++ quoted reason ++ codes "}"
+no_info_body reason = codes "{\"dataId\":null,\"description\":" ++ quoted_bytes reason ++ codes "}"
 
 -- a flag
 abbrev pub bool_text : Bool → List ℕ

@@ -1,6 +1,7 @@
 //! Texts as JSON strings.
 ghost use Rattle.std.specs.Prelude.{◌≡◌, ◌++◌, ◌<◌, flat_map, OnOk};
-ghost use Rattle.ss_messages.specs.Escapes.{hex_digit, escape, escaped_byte, escaped_wide_byte, quoted, quoted_text};
+ghost use Rattle.ss_messages.specs.Escapes.{hex_digit, escape, escaped_byte, escaped_wide_byte};
+ghost use Rattle.ss_messages.specs.Escapes.{quoted_bytes, quoted_text};
 
 use std::alloc::AllocError;
 
@@ -74,9 +75,9 @@ pub fn push_quoted_text(out: &mut Vec<u8>, text: &[u8]) -> Result<(), AllocError
 }
 
 /// Appends bytes as a JSON string; those past ASCII are the characters of their numbers.
-#[tactic(auto, unfolding(crate::specs::Escapes::quoted))]
+#[tactic(auto, unfolding(crate::specs::Escapes::quoted_bytes))]
 pub fn push_quoted(out: &mut Vec<u8>, bytes: &[u8]) -> Result<(), AllocError>
-    ensures { OnOk result (out.new.items ≡ out.old.items ++ quoted bytes.now) }
+    ensures { OnOk result (out.new.items ≡ out.old.items ++ quoted_bytes bytes.now) }
 {
     out.extend_from_slice(b"\"")?;
     push_wide_bytes(out, bytes)?;

@@ -1,6 +1,6 @@
 //! Replies and events.
 ghost use Rattle.std.specs.Prelude.{◌≡◌, ◌++◌, decimal, IfOk, OnOk};
-ghost use Rattle.ss_messages.specs.Messages.{framed, response_head, reply_text, failure_text, event_text};
+ghost use Rattle.ss_messages.specs.Messages.{message_text, response_head, reply_text, failure_text, event_text};
 
 use crate::escape::{push_quoted, push_quoted_text};
 use itoa::Buffer;
@@ -15,9 +15,9 @@ pub fn push_number(out: &mut Vec<u8>, number: u64) -> Result<(), AllocError>
 }
 
 /// Appends a message with this body.
-#[tactic(auto, unfolding(crate::specs::Messages::framed))]
+#[tactic(auto, unfolding(crate::specs::Messages::message_text))]
 fn push_framed(out: &mut Vec<u8>, body: &[u8]) -> Result<(), AllocError>
-    ensures { OnOk result (out.new.items ≡ out.old.items ++ framed body.now) }
+    ensures { OnOk result (out.new.items ≡ out.old.items ++ message_text body.now) }
 {
     out.extend_from_slice(b"Content-Length: ")?;
     push_number(out, body.len() as u64)?;
@@ -56,7 +56,7 @@ pub fn push_reply(
     body: &[u8],
 ) -> Result<(), AllocError>
     ensures { OnOk result (out.new.items
-        ≡ out.old.items ++ framed (reply_text number request name.now body.now)) }
+        ≡ out.old.items ++ message_text (reply_text number request name.now body.now)) }
 {
     let mut text = response_head(alloc, number, request, name)?;
     text.extend_from_slice(b",\"success\":true,\"body\":")?;
@@ -76,7 +76,7 @@ pub fn push_failure(
     reason: &[u8],
 ) -> Result<(), AllocError>
     ensures { OnOk result (out.new.items
-        ≡ out.old.items ++ framed (failure_text number request name.now reason.now)) }
+        ≡ out.old.items ++ message_text (failure_text number request name.now reason.now)) }
 {
     let mut text = response_head(alloc, number, request, name)?;
     text.extend_from_slice(b",\"success\":false,\"message\":")?;
@@ -95,7 +95,7 @@ pub fn push_event(
     body: &[u8],
 ) -> Result<(), AllocError>
     ensures { OnOk result (out.new.items
-        ≡ out.old.items ++ framed (event_text number name.now body.now)) }
+        ≡ out.old.items ++ message_text (event_text number name.now body.now)) }
 {
     let mut text = Vec::new(alloc);
     text.extend_from_slice(b"{\"seq\":")?;

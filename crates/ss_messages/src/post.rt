@@ -1,6 +1,6 @@
 //! The messages that a request is answered with, numbered one after the other.
 ghost use Rattle.std.specs.Prelude.{◌≡◌, ◌+◌, ◌-◌, ◌^◌, ◌<◌, [], IfOk, OnOk};
-ghost use Rattle.ss_messages.specs.Messages.{reply, failure, event, posted};
+ghost use Rattle.ss_messages.specs.Messages.{reply, failure, event, posted_with};
 
 use crate::messages::{push_event, push_failure, push_reply};
 use crate::request::Request;
@@ -77,7 +77,7 @@ impl Post {
     /// A request is done, and this is the body of the reply, a JSON value.
     pub fn reply(&mut self, request: &Request, body: &[u8]) -> Result<(), AllocError>
         requires { self.old.sent < 2 ^ 64 - 1 }
-        ensures { OnOk result (self.new ≡ posted request.now self.old (reply body.now)) }
+        ensures { OnOk result (self.new ≡ posted_with request.now self.old (reply body.now)) }
     {
         let number = self.sent + 1;
         let name = request.name.as_slice();
@@ -96,7 +96,7 @@ impl Post {
     /// A request is not done, for this reason.
     pub fn fail(&mut self, request: &Request, reason: &[u8]) -> Result<(), AllocError>
         requires { self.old.sent < 2 ^ 64 - 1 }
-        ensures { OnOk result (self.new ≡ posted request.now self.old (failure reason.now)) }
+        ensures { OnOk result (self.new ≡ posted_with request.now self.old (failure reason.now)) }
     {
         let number = self.sent + 1;
         let name = request.name.as_slice();
@@ -116,7 +116,7 @@ impl Post {
     pub fn event(&mut self, _request: &Request, name: &[u8], body: &[u8]) -> Result<(), AllocError>
         requires { self.old.sent < 2 ^ 64 - 1 }
         ensures { OnOk result (self.new
-            ≡ posted _request.now self.old (event name.now body.now)) }
+            ≡ posted_with _request.now self.old (event name.now body.now)) }
     {
         let number = self.sent + 1;
         push_event(self.alloc, &mut self.bytes, number, name, body)?;

@@ -5,7 +5,7 @@ use Rattle.std.specs.Prelude.{nat_eq, ◌==◌, if◌then◌else◌}
 use Rattle.std.proofs.lemmas.Bool.Decides.{nat_tests}
 use Rattle.std.specs.List.{filter, list_any, slice_split}
 use Rattle.ss_words.specs.TextLines.{without_empty_last}
-use Rattle.ss_console.specs.Lines.{is_stop, lines, onto_first, kept}
+use Rattle.ss_console.specs.Lines.{is_stop, lines, onto_first, kept_part}
 use Rattle.ss_console.specs.Laws.{answers}
 use Rattle.ss_console.proofs.KeptLaws.{short_lines_are_kept, long_lines_are_cut, words_are_kept}
 use Rattle.ss_console.specs.declared.lines.TheConstants.{LINE_LIMIT}
@@ -152,21 +152,21 @@ unfolding prompt_command_of own_command_of command_of
 long_says line e = rw (e, long_words (command_words line), words_in line) refl
 
 kept_at : (line : List ℕ) (b : Bool) → nat_lt LINE_LIMIT (length line) ≡ b →
-    prompt_command_of (kept line) ≡ prompt_command_of line
+    prompt_command_of (kept_part line) ≡ prompt_command_of line
 kept_at line false e =
     let short : length line ≤ LINE_LIMIT = grind (arith, nat_tests) in
     ap prompt_command_of (short_lines_are_kept line short)
 kept_at line true e =
     let long : LINE_LIMIT < length line = grind (arith, nat_tests) in
-    let cut : length (kept line) ≡ LINE_LIMIT + 1 = long_lines_are_cut line long in
-    let past : nat_lt LINE_LIMIT (length (kept line)) ≡ true = rw cut refl in
-    long_says (kept line) past ∙ ap (λ some. or_own (says some) bad) (words_are_kept line) ∙ sym (long_says line e)
+    let cut : length (kept_part line) ≡ LINE_LIMIT + 1 = long_lines_are_cut line long in
+    let past : nat_lt LINE_LIMIT (length (kept_part line)) ≡ true = rw cut refl in
+    long_says (kept_part line) past ∙ ap (λ some. or_own (says some) bad) (words_are_kept line) ∙ sym (long_says line e)
 
 pub kept_says : KeptLinesSayTheSame
 kept_says line = kept_at line (nat_lt LINE_LIMIT (length line)) refl
 
 -- so they are answered the same
-answers_kept : (s : PromptState) (ls : List (List ℕ)) → answers prompting s (map kept ls) ≡ answers prompting s ls
+answers_kept : (s : PromptState) (ls : List (List ℕ)) → answers prompting s (map kept_part ls) ≡ answers prompting s ls
 unfolding answers
 answers_kept s [] = refl
 answers_kept s (line ∷ ls) =

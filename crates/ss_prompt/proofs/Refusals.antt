@@ -5,29 +5,29 @@ use Rattle.ss_machine.specs.Run.{Input, run}
 use Rattle.ss_debug.specs.Answer.{status_text, section_at, moment_text, place_text, state_line}
 use Rattle.ss_debug.specs.Move.{line_at}
 use Rattle.ss_prompt.specs.Refusal.{refusal_at, refusal_with}
-use Rattle.ss_console.specs.Puts.{joined}
+use Rattle.ss_console.specs.Puts.{joined_texts}
 
 -- lists behind a list, one after the other
 abbrev folded : List ℕ → List (List ℕ) → List ℕ
 folded first [] = first
 folded first (next ∷ more) = folded (first ++ next) more
 
-joined_behind : (first : List ℕ) (more : List (List ℕ)) → first ++ joined more ≡ folded first more
-unfolding joined
+joined_behind : (first : List ℕ) (more : List (List ℕ)) → first ++ joined_texts more ≡ folded first more
+unfolding joined_texts
 joined_behind first [] = append-nil first
 joined_behind first (next ∷ more) =
-    sym (append_assoc first next (joined more)) ∙ joined_behind (first ++ next) more
+    sym (append_assoc first next (joined_texts more)) ∙ joined_behind (first ++ next) more
 
 folded_behind : (front first : List ℕ) (more : List (List ℕ)) →
     front ++ folded first more ≡ folded (front ++ first) more
 folded_behind front first more =
     ap (λ v. front ++ v) (sym (joined_behind first more))
-    ∙ sym (append_assoc front first (joined more)) ∙ joined_behind (front ++ first) more
+    ∙ sym (append_assoc front first (joined_texts more)) ∙ joined_behind (front ++ first) more
 
 -- in state p, the word of whose status and the number behind it are these
 pub told_with : (t : Input) (p : ℕ) (word number : List ℕ) → status_text (run t p).status ≡ word ++ number →
-    refusal_at t p ≡ joined (refusal_with t p word number)
-unfolding joined refusal_at state_line moment_text place_text
+    refusal_at t p ≡ joined_texts (refusal_with t p word number)
+unfolding joined_texts refusal_at state_line moment_text place_text
 told_with t p word number e =
     let clock = signed_decimal (run t p).clock in
     let section = section_at t p in

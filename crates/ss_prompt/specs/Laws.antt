@@ -7,7 +7,7 @@ use Rattle.ss_debug.specs.Command.{command_of}
 use Rattle.ss_machine.specs.Run.{Input}
 use Rattle.ss_debug.specs.Turn.{DebuggerState, answer, debugger_state_after, debugger_state_after_lines, obeyed_lines}
 use Rattle.ss_console.specs.Dialogue.{answered, state_after_all}
-use Rattle.ss_console.specs.Lines.{lines, kept}
+use Rattle.ss_console.specs.Lines.{lines, kept_part}
 use Rattle.ss_console.specs.Laws.{answers}
 use Rattle.ss_prompt.specs.declared.commands.PromptCommand.{PromptCommand}
 use Rattle.ss_prompt.specs.declared.commands.PromptCommand.TheVariants.{Plain}
@@ -63,13 +63,13 @@ LinesAreThoseOfTheBatch = (text : List ℕ) → lines text ≡ command_lines tex
 
 -- what is kept of a line says what the line says
 abbrev pub KeptLinesSayTheSame : Type 0
-KeptLinesSayTheSame = (line : List ℕ) → prompt_command_of (kept line) ≡ prompt_command_of line
+KeptLinesSayTheSame = (line : List ℕ) → prompt_command_of (kept_part line) ≡ prompt_command_of line
 
 -- so a text whose lines are all such commands is answered with the answers of its transcript
 abbrev pub PlainTextsAnswerTheBatch : Type 0
 PlainTextsAnswerTheBatch =
     (s : PromptState) (text : List ℕ) → ArePlain (command_lines text) →
-    AnswersFirst s.input s.debugger (obeyed_lines (command_lines text)) (answers prompting s (map kept (lines text)))
+    AnswersFirst s.input s.debugger (obeyed_lines (command_lines text)) (answers prompting s (map kept_part (lines text)))
 
 -- a command that names no line of the model leaves the break lines as they are
 abbrev pub OthersLeaveTheBreakLines : Type 0

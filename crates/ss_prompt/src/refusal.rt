@@ -1,8 +1,8 @@
 //! That memory was refused is told, and where the debugger stands then.
 ghost use Rattle.std.specs.Prelude.{◌≡◌, ◌-◌, ◌^◌, ◌<◌, ◌++◌, OnOk, OnErr};
-ghost use Rattle.ss_console.specs.Event.{Adds, written};
+ghost use Rattle.ss_console.specs.Event.{Adds, write_events};
 ghost use Rattle.ss_console.specs.Faults.{one_more_put};
-ghost use Rattle.ss_console.specs.Puts.{AddsPart, joined};
+ghost use Rattle.ss_console.specs.Puts.{AddsPart, joined_texts};
 ghost use Rattle.ss_machine.specs.Moment.{position};
 ghost use Rattle.ss_debug.specs.Answer.{status_text};
 ghost use Rattle.ss_prompt.specs.Refusal.{refusal_parts, refusal_with, refusal_at};
@@ -25,10 +25,10 @@ fn put_parts<'a, C: Console>(
 ) -> Result<(), PutFault>
     requires { (C.faults console.old).puts < 2 ^ 64 - 1 }
     ensures ok { OnOk result (Adds (C.log console.old) (C.log console.new)
-        (written (joined (refusal_parts position.now clock.now word.now number.now section.now line.now)))
+        (write_events (joined_texts (refusal_parts position.now clock.now word.now number.now section.now line.now)))
         × (C.faults console.new ≡ C.faults console.old)) }
     ensures err { OnErr result (AddsPart
-        (joined (refusal_parts position.now clock.now word.now number.now section.now line.now))
+        (joined_texts (refusal_parts position.now clock.now word.now number.now section.now line.now))
         (C.log console.old) (C.log console.new)
         × (C.faults console.new ≡ one_more_put (C.faults console.old))) }
     ensures lines { C.left console.new ≡ C.left console.old }
@@ -64,10 +64,10 @@ fn put_with<S: SetBoard, C: Console>(
 ) -> Result<(), PutFault>
     requires { (C.faults console.old).puts < 2 ^ 64 - 1 }
     ensures ok { OnOk result (Adds (C.log console.old) (C.log console.new)
-        (written (joined (refusal_with machine.now.input (position machine.now) word.now number.now)))
+        (write_events (joined_texts (refusal_with machine.now.input (position machine.now) word.now number.now)))
         × (C.faults console.new ≡ C.faults console.old)) }
     ensures err { OnErr result (AddsPart
-        (joined (refusal_with machine.now.input (position machine.now) word.now number.now))
+        (joined_texts (refusal_with machine.now.input (position machine.now) word.now number.now))
         (C.log console.old) (C.log console.new)
         × (C.faults console.new ≡ one_more_put (C.faults console.old))) }
     ensures lines { C.left console.new ≡ C.left console.old }
@@ -97,7 +97,7 @@ pub(crate) fn put_refusal_at<S: SetBoard, C: Console>(
 ) -> Result<(), PutFault>
     requires { (C.faults console.old).puts < 2 ^ 64 - 1 }
     ensures ok { OnOk result (Adds (C.log console.old) (C.log console.new)
-        (written (refusal_at machine.now.input (position machine.now)))
+        (write_events (refusal_at machine.now.input (position machine.now)))
         × (C.faults console.new ≡ C.faults console.old)) }
     ensures err { OnErr result (AddsPart (refusal_at machine.now.input (position machine.now))
         (C.log console.old) (C.log console.new)

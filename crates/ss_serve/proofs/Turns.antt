@@ -4,12 +4,12 @@ use Rattle.std.proofs.Common.{◌∙◌, sym, ap, inl, inr, arith, append_assoc,
 use Rattle.std.proofs.Common.{Option, Some, None, Ok, Err}
 use Rattle.std.proofs.lemmas.List.{map-append}
 use Rattle.std.specs.Prelude.{Result, IfOk, IfErr}
-use Rattle.ss_console.specs.Event.{Event, read, written, Adds}
+use Rattle.ss_console.specs.Event.{Event, read, write_events, Adds}
 use Rattle.ss_console.proofs.Parts.{adds_then, adds_none, adds_no_more}
 use Rattle.ss_console.specs.declared.answerer.Go.{Go}
 use Rattle.ss_console.specs.declared.answerer.Go.TheVariants.{On, Quit}
 use Rattle.ss_console.specs.Going.{go_of}
-use Rattle.ss_messages.specs.Frames.{reading, message, IsRead, IsMalformed}
+use Rattle.ss_messages.specs.Frames.{first_message, message, IsRead, IsMalformed}
 use Rattle.ss_messages.specs.declared.frame.FrameFault.{FrameFault}
 use Rattle.ss_messages.specs.declared.frame.FrameFault.TheVariants as frame
 use Rattle.ss_messages.specs.declared.request.RequestFault.{RequestFault}
@@ -18,19 +18,19 @@ use Rattle.ss_messages.specs.Messages.{Sent, PostView}
 use Rattle.ss_messages.specs.declared.request.Request.{Request}
 use Rattle.ss_serve.specs.Faults.{fault_of_frame, fault_of_request}
 use Rattle.ss_serve.specs.Meaning.{Meaning}
-use Rattle.ss_serve.specs.Seen.{Seen, seen}
+use Rattle.ss_serve.specs.Seen.{Seen, seen_of}
 use Rattle.ss_serve.specs.Session.{BeginsWith, Gives, request_in, IsNoRequest, Turn, IsTurn, AreTurns, state_after}
 use Rattle.ss_serve.specs.Session.{messages_of, turn_events}
 use Rattle.ss_serve.specs.Session.{events, sent_after, EndsByStream, EndsByRequest, EndsAtBody, EndsInAnswer}
 use Rattle.ss_serve.specs.Session.{EndsBy, HasEnded}
-use Rattle.ss_serve.specs.Steps.{IsAsked, NoneAsked, answered, IsAnswered, Unanswered, IsMore, IsStep}
+use Rattle.ss_serve.specs.Steps.{IsAsked, NoneAsked, messages_for, IsAnswered, Unanswered, IsMore, IsStep}
 use Rattle.ss_serve.specs.declared.fault.SessionFault.{SessionFault}
 use Rattle.ss_serve.specs.declared.fault.SessionFault.TheVariants.{NoRequest, CannotRead, CannotWrite, Memory, Count}
 
 -- ---- one message more
 
 begins_more : (text : List ℕ) (bodies : List (List ℕ)) (mid rest body : List ℕ) → BeginsWith text bodies mid →
-    reading mid ≡ message body rest → BeginsWith text (bodies ++ body ∷ []) rest
+    first_message mid ≡ message body rest → BeginsWith text (bodies ++ body ∷ []) rest
 unfolding BeginsWith
 begins_more text [] mid rest body h r = (rest, rw (← h) r, refl)
 begins_more text (b ∷ bodies) mid rest body h r = (h.0, h.1, begins_more h.0 bodies mid rest body h.2 r)
@@ -104,7 +104,7 @@ done_none m s post before old e = record {
 
 pub done_more : (m : Meaning) (from mid to : m.State) (n : ℕ) (post next : PostView)
     (before left after : Option (List ℕ)) (old told new : Option (List Event)) (k : ℕ) →
-    AreDone m from mid n post before left old told k → IsMore m mid to post next (seen left after told new) →
+    AreDone m from mid n post before left old told k → IsMore m mid to post next (seen_of left after told new) →
     AreDone m from to n next before after old new (k + 1)
 done_more m from mid to n post next before left after old told new k d a =
     let sent : post.sent ≡ sent_after n d.turns = ap (λ p. p.sent) d.count in
@@ -136,8 +136,8 @@ ends_at m s last k n c (Err Count) (inr h, a) = absurd (cc)
 pub has_ended : (m : Meaning) (from s last : m.State) (n : ℕ) (post : PostView)
     (before left after : Option (List ℕ)) (old told new : Option (List Event)) (k : ℕ)
     (result : Result (Unit {0}) SessionFault) → AreDone m from s n post before left old told k →
-    EndsBy m s last 0 post.sent (seen left after told new) result →
-    HasEnded m from last n (seen before after old new) result
+    EndsBy m s last 0 post.sent (seen_of left after told new) result →
+    HasEnded m from last n (seen_of before after old new) result
 has_ended m from s last n post before left after old told new k result d h =
     let sent : post.sent ≡ sent_after n d.turns = ap (λ p. p.sent) d.count in
     record {
@@ -152,7 +152,7 @@ has_ended m from s last n post before left after old told new k result d h =
 
 pub ends_by_count : (m : Meaning) (from s last : m.State) (n : ℕ) (post : PostView) (before left : Option (List ℕ))
     (old told : Option (List Event)) (k : ℕ) → AreDone m from s n post before left old told k → k ≡ 2 ^ 64 - 1 →
-    HasEnded m from last n (seen before left old told) (Err Count)
+    HasEnded m from last n (seen_of before left old told) (Err Count)
 ends_by_count m from s last n post before left old told k d e = record {
   turns = d.turns;
   left = left;
@@ -207,9 +207,9 @@ quit_ends false h = absurd (cc)
 
 pub answered_on : (m : Meaning) (from to : m.State) (request : Request) (post next : PostView)
     (before left after : Option (List ℕ)) (old told new : Option (List Event)) →
-    IsAsked (Some request) (seen before left old told) → after ≡ left →
+    IsAsked (Some request) (seen_of before left old told) → after ≡ left →
     IsAnswered m from to request post.sent next told new On →
-    IsMore m from to post next (seen before after old new)
+    IsMore m from to post next (seen_of before after old new)
 answered_on m from to request post next before left after old told new e l a = record {
   turn = turn_of e.body request a.sent to;
   made = record { asks = e.said; answers = a.answers };
@@ -222,9 +222,9 @@ answered_on m from to request post next before left after old told new e l a = r
 
 pub answered_quit : (m : Meaning) (from to : m.State) (request : Request) (n : ℕ) (next : PostView)
     (before left after : Option (List ℕ)) (old told new : Option (List Event)) →
-    IsAsked (Some request) (seen before left old told) → after ≡ left →
+    IsAsked (Some request) (seen_of before left old told) → after ≡ left →
     IsAnswered m from to request n next told new Quit →
-    EndsBy m from to 0 n (seen before after old new) (Ok tt)
+    EndsBy m from to 0 n (seen_of before after old new) (Ok tt)
 answered_quit m from to request n next before left after old told new e l a =
     inr (record {
       turn = turn_of e.body request a.sent to;
@@ -237,8 +237,8 @@ answered_quit m from to request n next before left after old told new e l a =
 
 pub unanswered : (m : Meaning) (from last : m.State) (request : Request) (n : ℕ)
     (before left after : Option (List ℕ)) (old told new : Option (List Event)) (fault : SessionFault) →
-    IsAsked (Some request) (seen before left old told) → after ≡ left →
-    Unanswered m from request n told new fault → EndsBy m from last 0 n (seen before after old new) (Err fault)
+    IsAsked (Some request) (seen_of before left old told) → after ≡ left →
+    Unanswered m from request n told new fault → EndsBy m from last 0 n (seen_of before after old new) (Err fault)
 unanswered m from last request n before left after old told new NoRequest e l h = absurd h
 unanswered m from last request n before left after old told new CannotRead e l h = absurd h
 unanswered m from last request n before left after old told new CannotWrite e l h = record {
@@ -256,10 +256,10 @@ unanswered m from last request n before left after old told new Count e l h = ab
 -- what was asked is answered, or is not
 pub step_some : (m : Meaning) (from to : m.State) (request : Request) (post next : PostView)
     (before left after : Option (List ℕ)) (old told new : Option (List Event)) (result : Result Go SessionFault) →
-    IsAsked (Some request) (seen before left old told) → after ≡ left →
+    IsAsked (Some request) (seen_of before left old told) → after ≡ left →
     IfOk result (λ go. IsAnswered m from to request post.sent next told new go) →
     IfErr result (λ fault. Unanswered m from request post.sent told new fault) →
-    IsStep m from to post next (seen before after old new) result
+    IsStep m from to post next (seen_of before after old new) result
 step_some m from to request post next before left after old told new (Ok On) e l a b =
     answered_on m from to request post next before left after old told new e l a
 step_some m from to request post next before left after old told new (Ok Quit) e l a b =

@@ -7,9 +7,9 @@ use Rattle.ss_serve.specs.declared.channel.Side.{Side}
 use Rattle.ss_serve.specs.declared.channel.Side.TheVariants.{Input, Output}
 
 -- the event of a reading
-abbrev pub received : Option (List ℕ) → List Event
-received None = []
-received (Some body) = read body ∷ []
+abbrev pub read_events : Option (List ℕ) → List Event
+read_events None = []
+read_events (Some body) = read body ∷ []
 
 -- the side that is broken behind a reading
 abbrev pub broken_after_read : {T : Type 0} → Result T FrameFault → Option Side → Option Side

@@ -14,5 +14,5 @@ pub record Seen : Type 0 where
   pub new : Option (List Event)
 
 -- the same, of its parts
-abbrev pub seen : Option (List ℕ) → Option (List ℕ) → Option (List Event) → Option (List Event) → Seen
-seen before after old new = record { before = before; after = after; old = old; new = new }
+abbrev pub seen_of : Option (List ℕ) → Option (List ℕ) → Option (List Event) → Option (List Event) → Seen
+seen_of before after old new = record { before = before; after = after; old = old; new = new }

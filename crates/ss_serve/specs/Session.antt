@@ -4,9 +4,9 @@ use Rattle.std.specs.Prelude.{ℕ, ◌≡◌, ◌⊎◌, ◌-◌, ◌^◌, ◌�
 use Rattle.std.specs.Prelude.{Option, Some, None, option_and_then, Result, Ok, Err}
 use Rattle.std.specs.Str.{IsUtf8}
 use Rattle.serde_json.specs.Read.{read as read_json}
-use Rattle.ss_console.specs.Event.{Event, read, written, Adds}
+use Rattle.ss_console.specs.Event.{Event, read, write_events, Adds}
 use Rattle.ss_console.specs.Puts.{AddsPart}
-use Rattle.ss_messages.specs.Frames.{reading, message, IsRead, IsMalformed}
+use Rattle.ss_messages.specs.Frames.{first_message, message, IsRead, IsMalformed}
 use Rattle.ss_messages.specs.Messages.{Sent, PostView, posted_all}
 use Rattle.ss_messages.specs.Requests.{request_of}
 use Rattle.ss_messages.specs.declared.request.Request.{Request}
@@ -22,7 +22,7 @@ use Rattle.ss_serve.specs.declared.session.TheConstants.{MOST_SENT}
 unfoldable pub BeginsWith : List ℕ → List (List ℕ) → List ℕ → Type 0
 BeginsWith text [] rest = rest ≡ text
 BeginsWith text (body ∷ bodies) rest =
-    (more : List ℕ) × (reading text ≡ message body more) × BeginsWith more bodies rest
+    (more : List ℕ) × (first_message text ≡ message body more) × BeginsWith more bodies rest
 
 -- the same of a stream that is told
 abbrev pub Gives : Option (List ℕ) → Option (List ℕ) → List (List ℕ) → Type 0
@@ -76,7 +76,7 @@ messages_of n turn = posted_all turn.request (record { sent = n; bytes = [] }) t
 
 -- the events of a turn: its body is read, its messages are written
 abbrev pub turn_events : {S : Type 0} → ℕ → Turn S → List Event
-turn_events n turn = read turn.body ∷ written (messages_of n turn).bytes
+turn_events n turn = read turn.body ∷ write_events (messages_of n turn).bytes
 
 -- those of some turns, one after the other
 unfoldable pub events : {S : Type 0} → ℕ → List (Turn S) → List Event

@@ -1,6 +1,6 @@
 -- The parts of a turn.
 use Rattle.std.specs.Prelude.{ℕ, ◌≡◌, ◌⊎◌, ◌≤◌, true, false, List, [], ◌∷◌, Option, Some, None, Result, Ok, Err}
-use Rattle.ss_console.specs.Event.{Event, read, written, Adds}
+use Rattle.ss_console.specs.Event.{Event, read, write_events, Adds}
 use Rattle.ss_console.specs.Puts.{AddsPart}
 use Rattle.ss_console.specs.declared.answerer.Go.{Go}
 use Rattle.ss_console.specs.declared.answerer.Go.TheVariants.{On, Quit}
@@ -30,8 +30,8 @@ NoneAsked n c Memory = Adds c.old c.new [] ⊎ EndsAtBody c (λ body. Unit {0})
 NoneAsked n c Count = (MOST_SENT ≤ n) × Adds c.old c.new []
 
 -- some messages that answer a request, numbered behind n others
-abbrev pub answered : ℕ → Request → List Sent → PostView
-answered n request sent = posted_all request (record { sent = n; bytes = [] }) sent
+abbrev pub messages_for : ℕ → Request → List Sent → PostView
+messages_for n request sent = posted_all request (record { sent = n; bytes = [] }) sent
 
 -- a request was answered, when n messages were sent: all messages were written, and none is left
 pub record IsAnswered (m : Meaning) (from to : m.State) (request : Request) (n : ℕ) (after : PostView)
@@ -41,9 +41,9 @@ pub record IsAnswered (m : Meaning) (from to : m.State) (request : Request) (n :
   -- they answer the request
   pub answers : m.Answers from request sent to
   -- they were written
-  pub told : Adds old new (written (answered n request sent).bytes)
+  pub told : Adds old new (write_events (messages_for n request sent).bytes)
   -- they are numbered
-  pub count : after ≡ record { sent = (answered n request sent).sent; bytes = [] }
+  pub count : after ≡ record { sent = (messages_for n request sent).sent; bytes = [] }
   -- the session goes on unless the request ends it
   pub goes : go ≡ go_of (m.ends request)
 
@@ -52,7 +52,7 @@ abbrev pub Unanswered : (m : Meaning) → m.State → Request → ℕ → Option
     SessionFault → Type 0
 Unanswered m from request n old new CannotWrite =
     (sent : List Sent) × (to : m.State) × m.Answers from request sent to
-    × AddsPart (answered n request sent).bytes old new
+    × AddsPart (messages_for n request sent).bytes old new
 Unanswered m from request n old new Memory = Adds old new []
 Unanswered m from request n old new other = ⊥
 

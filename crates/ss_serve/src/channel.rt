@@ -1,10 +1,10 @@
 //! Where a session is held.
 ghost use Rattle.std.specs.Prelude.{◌≡◌, ℕ, [], Err, List, Option, option_map, IfOk, OnOk, OnErr};
-ghost use Rattle.ss_console.specs.Event.{Event, Adds, written};
+ghost use Rattle.ss_console.specs.Event.{Event, Adds, write_events};
 ghost use Rattle.ss_console.specs.Puts.{AddsPart};
 ghost use Rattle.ss_messages.specs.Frames.{IsRead, IsMalformed};
 ghost use Rattle.ss_messages.specs.declared.frame.FrameFault.TheVariants.{Malformed};
-ghost use Rattle.ss_serve.specs.Channels.{received, broken_after_read, broken_after_send};
+ghost use Rattle.ss_serve.specs.Channels.{read_events, broken_after_read, broken_after_send};
 ghost use Rattle.ss_serve.specs.declared.channel.Side.{Side};
 
 use ss_messages::FrameFault;
@@ -42,13 +42,14 @@ pub trait Channel {
             (λ body. IsRead (option_map (λ b. b.items) body) (left self.old) (left self.new)) }
         ensures malformed { result ≡ Err Malformed → IsMalformed (left self.old) }
         ensures told { IfOk result
-            (λ body. Adds (log self.old) (log self.new) (received (option_map (λ b. b.items) body))) }
+            (λ body. Adds (log self.old) (log self.new)
+            (read_events (option_map (λ b. b.items) body))) }
         ensures err { OnErr result (Adds (log self.old) (log self.new) []) }
         ensures broken { broken self.new ≡ broken_after_read result (broken self.old) };
 
     /// Writes all of the bytes. At a fault a part of them was written.
     fn send(&mut self, bytes: &[u8]) -> Result<(), SendFault>
-        ensures ok { OnOk result (Adds (log self.old) (log self.new) (written bytes.now)) }
+        ensures ok { OnOk result (Adds (log self.old) (log self.new) (write_events bytes.now)) }
         ensures err { OnErr result (AddsPart bytes.now (log self.old) (log self.new)) }
         ensures left { left self.new ≡ left self.old }
         ensures broken { broken self.new ≡ broken_after_send result (broken self.old) };

@@ -1,5 +1,5 @@
 ghost use Rattle.std.specs.Prelude.{◌≡◌};
-ghost use Rattle.ss_serve.specs.Echoing.{echoing};
+ghost use Rattle.ss_serve.specs.Echoing.{echo_meaning};
 
 use crate::answerer::Answerer;
 use itoa::Buffer;
@@ -24,7 +24,7 @@ impl Echo {
 }
 
 impl Answerer for Echo {
-    ghost meaning = { echoing };
+    ghost meaning = { echo_meaning };
 
     ghost state = { λ e. e.count };
 

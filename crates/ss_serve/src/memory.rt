@@ -1,6 +1,6 @@
 //! A channel over memory.
 ghost use Rattle.std.specs.Prelude.{◌≡◌, [], ◌∷◌, ◌++◌, None, Some, OnOk, OnErr};
-ghost use Rattle.ss_console.specs.Event.{read, written};
+ghost use Rattle.ss_console.specs.Event.{read, write_events};
 ghost use Rattle.ss_console.specs.Entries.{entry_events};
 
 use crate::channel::{Channel, SendFault, Side};
@@ -60,7 +60,7 @@ fn note_read(alloc: Global, entries: &mut Vec<Entry>, body: &[u8]) -> Result<(),
 #[tactic(auto, using(ss_console::proofs::EntryLaws::entry_events_push))]
 fn note_written(alloc: Global, entries: &mut Vec<Entry>, bytes: &[u8]) -> Result<(), AllocError>
     ensures ok { OnOk result (entry_events entries.new.items
-        ≡ entry_events entries.old.items ++ written bytes.now) }
+        ≡ entry_events entries.old.items ++ write_events bytes.now) }
     ensures err { OnErr result (entries.new.items ≡ entries.old.items) }
 {
     let copy = bytes.to_vec(alloc)?;

@@ -1,7 +1,7 @@
 //! A session over a channel.
 ghost use Rattle.std.specs.Prelude.{◌≡◌, ◌<◌, ◌^◌, [], IfOk, IfErr, OnOk};
 ghost use Rattle.ss_serve.specs.Faults.{broken_after};
-ghost use Rattle.ss_serve.specs.Seen.{seen};
+ghost use Rattle.ss_serve.specs.Seen.{seen_of};
 ghost use Rattle.ss_serve.specs.Session.{HasEnded};
 ghost use Rattle.ss_serve.specs.Steps.{IsAsked, NoneAsked, IsAnswered, Unanswered, IsStep};
 
@@ -17,10 +17,10 @@ const MOST_SENT: u64 = 1 << 53;
 
 /// The next request, for which there are numbers left. `None` at the end of the stream.
 fn next_request<C: Channel>(channel: &mut C, post: &Post) -> Result<Option<Request>, SessionFault>
-    ensures ok { IfOk result (λ request. IsAsked request (seen (C.left channel.old)
+    ensures ok { IfOk result (λ request. IsAsked request (seen_of (C.left channel.old)
         (C.left channel.new) (C.log channel.old) (C.log channel.new))) }
     ensures room { OnOk result (post.now.sent < 2 ^ 53) }
-    ensures err { IfErr result (λ fault. NoneAsked post.now.sent (seen (C.left channel.old)
+    ensures err { IfErr result (λ fault. NoneAsked post.now.sent (seen_of (C.left channel.old)
         (C.left channel.new) (C.log channel.old) (C.log channel.new)) fault) }
     ensures broken { C.broken channel.new ≡ broken_after result (C.broken channel.old) }
 {
@@ -42,8 +42,9 @@ fn answer_request<A: Answerer, C: Channel>(
 ) -> Result<Go, SessionFault>
     requires room { post.old.sent < 2 ^ 53 }
     requires none { post.old.bytes ≡ [] }
-    ensures ok { IfOk result (λ go. IsAnswered A.meaning (A.state answerer.old) (A.state answerer.new)
-        request.now post.old.sent post.new (C.log channel.old) (C.log channel.new) go) }
+    ensures ok { IfOk result (λ go. IsAnswered A.meaning (A.state answerer.old)
+        (A.state answerer.new) request.now post.old.sent post.new
+        (C.log channel.old) (C.log channel.new) go) }
     ensures err { IfErr result (λ fault. Unanswered A.meaning (A.state answerer.old) request.now
         post.old.sent (C.log channel.old) (C.log channel.new) fault) }
     ensures left { C.left channel.new ≡ C.left channel.old }
@@ -63,7 +64,8 @@ fn answer_next<A: Answerer, C: Channel>(
 ) -> Result<Go, SessionFault>
     requires none { post.old.bytes ≡ [] }
     ensures step { IsStep A.meaning (A.state answerer.old) (A.state answerer.new) post.old post.new
-        (seen (C.left channel.old) (C.left channel.new) (C.log channel.old) (C.log channel.new)) result }
+        (seen_of (C.left channel.old) (C.left channel.new) (C.log channel.old) (C.log channel.new))
+        result }
     ensures broken { C.broken channel.new ≡ broken_after result (C.broken channel.old) }
 {
     match next_request(channel, post)? {
@@ -80,7 +82,8 @@ fn answer_all<A: Answerer, C: Channel>(
 ) -> Result<(), SessionFault>
     requires none { post.old.bytes ≡ [] }
     ensures ended { HasEnded A.meaning (A.state answerer.old) (A.state answerer.new) post.old.sent
-        (seen (C.left channel.old) (C.left channel.new) (C.log channel.old) (C.log channel.new)) result }
+        (seen_of (C.left channel.old) (C.left channel.new) (C.log channel.old) (C.log channel.new))
+        result }
     ensures broken { C.broken channel.new ≡ broken_after result (C.broken channel.old) }
 {
     for _ in 0..u64::MAX {
@@ -99,7 +102,8 @@ pub fn serve<A: Answerer, C: Channel>(
     channel: &mut C,
 ) -> Result<(), SessionFault>
     ensures ended { HasEnded A.meaning (A.state answerer.old) (A.state answerer.new) 0
-        (seen (C.left channel.old) (C.left channel.new) (C.log channel.old) (C.log channel.new)) result }
+        (seen_of (C.left channel.old) (C.left channel.new) (C.log channel.old) (C.log channel.new))
+        result }
     ensures broken { C.broken channel.new ≡ broken_after result (C.broken channel.old) }
 {
     let mut post = Post::new(alloc);

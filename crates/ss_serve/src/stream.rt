@@ -1,7 +1,7 @@
 //! A channel over a reader and a writer.
 ghost use Rattle.std.specs.Prelude.{◌≡◌, None, OnOk, OnErr};
 ghost use Rattle.std.specs.Io.KnownBytes.{Appends};
-ghost use Rattle.ss_console.specs.Event.{Adds, written};
+ghost use Rattle.ss_console.specs.Event.{Adds, write_events};
 ghost use Rattle.ss_console.specs.Puts.{AddsPart};
 ghost use Rattle.ss_serve.specs.Channels.{broken_after_send};
 
@@ -53,12 +53,12 @@ impl<R: Read + Drop, W: Write + Drop> Channel for StreamChannel<R, W> {
 
     // The trait's clauses, and what the writer holds.
     fn send(&mut self, bytes: &[u8]) -> Result<(), SendFault>
-        ensures ok { OnOk result (Adds None None (written bytes.now)) }
+        ensures ok { OnOk result (Adds None None (write_events bytes.now)) }
         ensures err { OnErr result (AddsPart bytes.now None None) }
         ensures left { R.remaining self.new.reader ≡ R.remaining self.old.reader }
         ensures broken { self.new.broken ≡ broken_after_send result self.old.broken }
-        ensures bytes { OnOk result (Appends (W.contents self.old.writer) (W.contents self.new.writer)
-            bytes.now) }
+        ensures bytes { OnOk result (Appends (W.contents self.old.writer)
+            (W.contents self.new.writer) bytes.now) }
     {
         if self.writer.write_all(bytes).is_err() || self.writer.flush().is_err() {
             self.broken = Some(Side::Output);

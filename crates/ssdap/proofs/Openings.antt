@@ -7,7 +7,7 @@ use Rattle.ss_debug.specs.View.{DebuggerView, debugger_state_of}
 use Rattle.ss_session.specs.Load.{IsLoadFault}
 use Rattle.ss_session.specs.declared.load.LoadFault.{LoadFault}
 use Rattle.ss_session.specs.declared.load.LoadFault.TheVariants.{Memory}
-use Rattle.ss_messages.specs.Messages.{PostView, posted, posted_all, failure}
+use Rattle.ss_messages.specs.Messages.{PostView, posted_with, posted_all, failure}
 use Rattle.ss_messages.proofs.Posts.{posted_one}
 use Rattle.ss_messages.specs.declared.request.Command.TheVariants.{Launch}
 use Rattle.ss_console.specs.declared.answerer.Go.TheVariants as go
@@ -92,7 +92,7 @@ turned files s to request old new further p e f = record {
 -- the model can't be read
 pub no_model_is : (files : Option (List ℕ → Option (List ℕ))) (request : Request) (path : List ℕ)
     (data_path : Option (List ℕ)) (stops : Stops) (old new : PostView) → Stands files path None →
-    new ≡ posted request old (failure (codes "cannot read the model")) →
+    new ≡ posted_with request old (failure (codes "cannot read the model")) →
     IsOpened files request path data_path stops old new None
 no_model_is files request path data_path stops old new s p = record {
   opening = no_model;
@@ -105,7 +105,7 @@ no_model_is files request path data_path stops old new s p = record {
 pub no_data_is : (files : Option (List ℕ → Option (List ℕ))) (request : Request) (path : List ℕ)
     (data_path : Option (List ℕ)) (stops : Stops) (model : List ℕ) (old new : PostView) →
     Stands files path (Some model) → Given files data_path None →
-    new ≡ posted request old (failure (codes "cannot read the data")) →
+    new ≡ posted_with request old (failure (codes "cannot read the data")) →
     IsOpened files request path data_path stops old new None
 no_data_is files request path data_path stops model old new s g p = record {
   opening = no_data;

@@ -1,7 +1,7 @@
 //! The session of an editor.
 ghost use Rattle.std.specs.Prelude.{◌≡◌, None};
 ghost use Rattle.ss_serve.specs.Faults.{broken_after};
-ghost use Rattle.ss_serve.specs.Seen.{seen};
+ghost use Rattle.ss_serve.specs.Seen.{seen_of};
 ghost use Rattle.ssdap.specs.Editing.{editing_state, IsServed};
 
 use crate::adapter::Adapter;
@@ -17,7 +17,7 @@ pub fn serve_editor<F: Shelf, C: Channel>(
     shelf: &F,
     channel: &mut C,
 ) -> Result<(), SessionFault>
-    ensures served { IsServed (F.files shelf.now) (seen (C.left channel.old) (C.left channel.new)
+    ensures served { IsServed (F.files shelf.now) (seen_of (C.left channel.old) (C.left channel.new)
         (C.log channel.old) (C.log channel.new)) result }
     ensures broken { C.broken channel.new ≡ broken_after result (C.broken channel.old) }
 {

@@ -1,6 +1,6 @@
 -- Whole dialogues of their parts.
 use Rattle.std.proofs.Common.{◌≡◌, ℕ, Bool, List, [], refl, inl, inr, Option}
-use Rattle.ss_console.specs.Event.{Event, Adds, written}
+use Rattle.ss_console.specs.Event.{Event, Adds, write_events}
 use Rattle.ss_console.specs.declared.cut.Cut.TheVariants.{Read, Write, Count}
 use Rattle.ss_machine.specs.Run.{Input, input_with, run}
 use Rattle.ss_debug.specs.Turn.{DebuggerState, initial_debugger_state}
@@ -36,12 +36,12 @@ starts model data_text d lines from e o i s l = rw e (
 
 -- the parts of a dialogue
 pub holds : (from to : PromptState) (c : Seen) (told : Option (List Event)) (end : PromptEnd) →
-    Adds c.old told (written (greeted c.terminal from)) → EndsWell from to told c →
+    Adds c.old told (write_events (greeted c.terminal from)) → EndsWell from to told c →
     end ≡ end_of_status (run to.input to.debugger.position).status → HoldsFrom from c end
 holds from to c told end g a e = record { told = told; greets = g; to = to; answers = a; end_is = e }
 
 pub breaks : (from to : PromptState) (c : Seen) (told : Option (List Event)) (fault : PromptFault) →
-    Adds c.old told (written (greeted c.terminal from)) → HoldFails from to told c fault → StopsFrom from c fault
+    Adds c.old told (write_events (greeted c.terminal from)) → HoldFails from to told c fault → StopsFrom from c fault
 breaks from to c told fault g a = inl (record { told = told; greets = g; to = to; answers = a })
 
 -- what cuts a dialogue short does not depend on what had happened before the greeting
@@ -55,7 +55,7 @@ fails_behind from to t b a o m n Memory h = h
 
 -- a dialogue that was cut short behind its greeting, of which no line was read within that
 pub breaks_behind : (from to : PromptState) (t u : Bool) (b d a : Option (List (List ℕ)))
-    (o m n : Option (List Event)) (fault : PromptFault) → u ≡ t → d ≡ b → Adds o m (written (greeted t from)) →
+    (o m n : Option (List Event)) (fault : PromptFault) → u ≡ t → d ≡ b → Adds o m (write_events (greeted t from)) →
     HoldFails from to m (seen u d a m n) fault → StopsFrom from (seen t b a o n) fault
 breaks_behind from to t u b d a o m n fault p q g h =
     breaks from to (seen t b a o n) m fault g

@@ -1,7 +1,7 @@
 -- What is written where the words for completion are asked for.
 use Rattle.std.specs.Prelude.{ℕ, ◌≡◌, ◌⊎◌, List}
 use Rattle.ss_program.specs.Program.{ProgramTable}
-use Rattle.ss_console.specs.Event.{Adds, written}
+use Rattle.ss_console.specs.Event.{Adds, write_events}
 use Rattle.ss_console.specs.Puts.{AddsPart}
 use Rattle.ss_console.specs.declared.cut.Cut.TheVariants as cut
 use Rattle.ss_session.specs.Model.{IsOutcome, accepted}
@@ -17,7 +17,7 @@ use Rattle.ssdb.specs.Seen.{Seen}
 abbrev pub TellsWords : List ℕ → Seen → PromptEnd → Type 0
 TellsWords model c end =
     (program : ProgramTable) × IsOutcome model (accepted program)
-    × Adds c.old c.new (written (completions program)) × (c.after ≡ c.before) × (end ≡ Done)
+    × Adds c.old c.new (write_events (completions program)) × (c.after ≡ c.before) × (end ≡ Done)
 
 -- a prefix of them was written; or the model is refused, or memory was
 abbrev pub IsWordsCut : List ℕ → Seen → PromptFault → Type 0

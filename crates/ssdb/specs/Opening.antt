@@ -5,7 +5,7 @@ use Rattle.ss_machine.specs.State.{is_faulted}
 use Rattle.ss_machine.specs.Run.{input_with, run}
 use Rattle.ss_machine.specs.declared.status.Status.{Status}
 use Rattle.ss_debug.specs.Turn.{initial_debugger_state}
-use Rattle.ss_console.specs.Event.{Event, Adds, written}
+use Rattle.ss_console.specs.Event.{Event, Adds, write_events}
 use Rattle.ss_console.specs.Puts.{AddsPart}
 use Rattle.ss_console.specs.Dialogue.{EndsByInput, EndsByLine, EndsByRead, EndsInPrompt, EndsInAnswer, EndsByCount}
 use Rattle.ss_console.specs.declared.cut.Cut.TheVariants.{Read, Write, Count}
@@ -70,7 +70,7 @@ pub record HoldsFrom (from : PromptState) (c : Seen) (end : PromptEnd) : Type 0 
   -- what had happened behind the greeting
   pub told : Option (List Event)
   -- a terminal is greeted
-  pub greets : Adds c.old told (written (greeted c.terminal from))
+  pub greets : Adds c.old told (write_events (greeted c.terminal from))
   -- where the answers led
   pub to : PromptState
   -- the answers, up to the end of input or a line that ends
@@ -83,7 +83,7 @@ pub record BreaksFrom (from : PromptState) (c : Seen) (fault : PromptFault) : Ty
   -- what had happened behind the greeting
   pub told : Option (List Event)
   -- a terminal is greeted
-  pub greets : Adds c.old told (written (greeted c.terminal from))
+  pub greets : Adds c.old told (write_events (greeted c.terminal from))
   -- where the answers led
   pub to : PromptState
   -- the answers, and the call that failed

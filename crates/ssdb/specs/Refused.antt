@@ -5,7 +5,7 @@ use Rattle.ss_words.specs.declared.fault.TextRule.{TextRule}
 use Rattle.ss_words.specs.Faults.{text_rule_code}
 use Rattle.ss_check.specs.declared.fault.CheckRule.{CheckRule}
 use Rattle.ss_check.specs.CheckRules.{check_rule_code}
-use Rattle.ss_console.specs.Event.{Adds, written}
+use Rattle.ss_console.specs.Event.{Adds, write_events}
 use Rattle.ss_console.specs.Puts.{AddsPart}
 use Rattle.ss_console.specs.declared.cut.Cut.TheVariants as cut
 use Rattle.ss_session.specs.Model.{IsOutcome, refused_text, refused_check}
@@ -50,7 +50,7 @@ IsTold model text =
 -- what was written of a refused model, by what stopped the program: all that is said of it, a prefix of that where
 -- writing failed, nothing where memory was refused
 abbrev pub IsRefusalTold : List ℕ → Seen → PromptFault → Type 0
-IsRefusalTold model c Refused = (text : List ℕ) × IsTold model text × Adds c.old c.new (written text)
+IsRefusalTold model c Refused = (text : List ℕ) × IsTold model text × Adds c.old c.new (write_events text)
 IsRefusalTold model c (Cut cut.Write) = (text : List ℕ) × IsTold model text × AddsPart text c.old c.new
 IsRefusalTold model c (Cut other) = ⊥
 IsRefusalTold model c Memory = Adds c.old c.new []

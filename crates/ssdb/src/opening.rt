@@ -2,7 +2,7 @@
 ghost use Rattle.std.specs.Prelude.{◌≡◌, ◌-◌, ◌^◌, ◌<◌, OnOk, IfOk, IfErr};
 ghost use Rattle.std.specs.Vec.{vec_capacity};
 ghost use Rattle.ss_console.specs.declared.lines.TheConstants.{LINE_LIMIT};
-ghost use Rattle.ss_console.specs.Event.{Adds, written};
+ghost use Rattle.ss_console.specs.Event.{Adds, write_events};
 ghost use Rattle.ss_machine.specs.Run.{run};
 ghost use Rattle.ss_prompt.specs.PromptState.{greeting};
 ghost use Rattle.ssdb.specs.Opening.{greeted, end_of_status, EndsWell, HoldFails, GreetingFails};
@@ -36,7 +36,7 @@ fn put_greeting<S: SetBoard, C: Console>(
 ) -> Result<(), PromptFault>
     requires { (C.faults console.old).puts < 2 ^ 64 - 1 }
     ensures ok { OnOk result (Adds (C.log console.old) (C.log console.new)
-        (written (greeting prompt.now)) × (C.faults console.new ≡ C.faults console.old)) }
+        (write_events (greeting prompt.now)) × (C.faults console.new ≡ C.faults console.old)) }
     ensures err { IfErr result (λ fault. GreetingFails (greeting prompt.now)
         (C.log console.old) (C.log console.new) fault) }
     ensures lines { C.left console.new ≡ C.left console.old }
@@ -59,7 +59,7 @@ fn greet<S: SetBoard, C: Console>(
 ) -> Result<(), PromptFault>
     requires { (C.faults console.old).puts < 2 ^ 64 - 1 }
     ensures ok { OnOk result (Adds (C.log console.old) (C.log console.new)
-        (written (greeted (C.terminal console.old) prompt.now))
+        (write_events (greeted (C.terminal console.old) prompt.now))
         × (C.faults console.new ≡ C.faults console.old)) }
     ensures err { IfErr result (λ fault. GreetingFails (greeted (C.terminal console.old) prompt.now)
         (C.log console.old) (C.log console.new) fault) }
