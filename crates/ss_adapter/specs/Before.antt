@@ -16,24 +16,25 @@ use Rattle.ss_messages.specs.Messages.{Sent, reply, failure, event}
 use Rattle.ss_messages.specs.Bodies.{output_body, without_last}
 use Rattle.ss_adapter.specs.declared.fixed.TheConstants.{CAPABILITIES}
 use Rattle.ss_adapter.specs.Desk.{DeskView}
-use Rattle.ss_adapter.specs.Turn.{terminated}
+use Rattle.ss_adapter.specs.Turn.{answer_to_terminate}
 
 -- what a request is answered with before a run is launched
 unfoldable pub answers_before : Command → List Sent
 answers_before Initialize = reply CAPABILITIES.now ∷ []
 answers_before Disconnect = reply (codes "{}") ∷ []
-answers_before Terminate = terminated
+answers_before Terminate = answer_to_terminate
 answers_before Bad = failure (codes "an argument is missing") ∷ []
 answers_before Unknown = failure (codes "unknown request") ∷ []
 answers_before other = failure (codes "no run is launched") ∷ []
 
 -- what launch is answered with: where the model is accepted
-abbrev pub launched : List Sent
-launched = reply (codes "{}") ∷ event (codes "initialized") (codes "{}") ∷ []
+abbrev pub answer_to_launch : List Sent
+answer_to_launch = reply (codes "{}") ∷ event (codes "initialized") (codes "{}") ∷ []
 
 -- where it is refused, with what is said of it
-abbrev pub refused : List ℕ → List Sent
-refused line = failure (without_last line) ∷ event (codes "output") (output_body (codes "stderr") line) ∷ []
+abbrev pub answer_to_refused_launch : List ℕ → List Sent
+answer_to_refused_launch line =
+    failure (without_last line) ∷ event (codes "output") (output_body (codes "stderr") line) ∷ []
 
 -- a debugger at the start of the run of a model over its data, and a desk on which nothing is set or told
 pub record IsLaunched (model text path : List ℕ) (stops : Stops) (d : DebuggerView) (k : DeskView) : Type 0 where

@@ -60,12 +60,12 @@ exception_by _ = None
 -- ---- questions
 
 -- what a text says behind SHOW
-abbrev pub shown : List ℕ → Command
-shown text = command_of (codes "SHOW " ++ text)
+abbrev pub command_behind_show : List ℕ → Command
+command_behind_show text = command_of (codes "SHOW " ++ text)
 
 -- what it says as the name of a variable
-abbrev pub shown_name : List ℕ → Command
-shown_name text = command_of (codes "SHOW VAR " ++ text)
+abbrev pub command_behind_show_var : List ℕ → Command
+command_behind_show_var text = command_of (codes "SHOW VAR " ++ text)
 
 -- the question of a command
 abbrev pub question_in : Command → Option Question
@@ -79,9 +79,10 @@ attribute_in _ _ = None
 
 -- the same as a text: the name is its last word
 abbrev pub attribute_of : List ℕ → Option Question
-attribute_of text = attribute_in (shown (before_word text)) (shown_name (last_word text))
+attribute_of text = attribute_in (command_behind_show (before_word text)) (command_behind_show_var (last_word text))
 
 -- the question that an expression is: what stands behind SHOW, an attribute, or the name of a variable
 abbrev pub question_of : List ℕ → Option Question
 question_of text =
-    option_or (question_in (shown text)) (option_or (attribute_of text) (question_in (shown_name text)))
+    option_or (question_in (command_behind_show text))
+    (option_or (attribute_of text) (question_in (command_behind_show_var text)))

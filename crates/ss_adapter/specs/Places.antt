@@ -20,17 +20,17 @@ abbrev pub place_lines : ProgramTable → List ℕ
 place_lines p = flat_map section_lines p.sections
 
 -- whether a line comes before the nearest so far
-abbrev pub is_nearer : ℕ → Option ℕ → Bool
-is_nearer line None = nat_lt line (2 ^ 32)
-is_nearer line (Some nearest) = nat_lt line nearest
+abbrev pub is_nearer_line : ℕ → Option ℕ → Bool
+is_nearer_line line None = nat_lt line (2 ^ 32)
+is_nearer_line line (Some nearest) = nat_lt line nearest
 
 -- the nearer of two lines, the first of which may be none, that are not before a line
-abbrev pub nearer : ℕ → Option ℕ → ℕ → Option ℕ
-nearer from nearest line = if nat_le from line && is_nearer line nearest then Some line else nearest
+abbrev pub nearer_line : ℕ → Option ℕ → ℕ → Option ℕ
+nearer_line from nearest line = if nat_le from line && is_nearer_line line nearest then Some line else nearest
 
 -- the nearest line with a place, from a line on
 unfoldable pub next_line : ProgramTable → ℕ → Option ℕ
-next_line p from = fold (nearer from) None (place_lines p)
+next_line p from = fold (nearer_line from) None (place_lines p)
 
 -- the number of the break point of a line, behind those of data break points
 abbrev pub line_id : ℕ → Option ℕ
@@ -72,17 +72,17 @@ with_asked p s line = with_next (codes "no statement stands here") s (next_line 
 -- the line of a place
 abbrev pub spot_line : Option Spot → Option ℕ
 spot_line None = None
-spot_line (Some spot) = nearer 0 None spot.line
+spot_line (Some spot) = nearer_line 0 None spot.line
 
 -- the line of the first place of a section
-abbrev pub first_line : Option SectionTable → Option ℕ
-first_line None = None
-first_line (Some s) = spot_line (slice_get s.places 0)
+abbrev pub first_place_line : Option SectionTable → Option ℕ
+first_place_line None = None
+first_place_line (Some s) = spot_line (slice_get s.places 0)
 
 -- the line of the first place of the section of this name
 abbrev pub named_line : ProgramTable → List ℕ → Option ℕ
 named_line p name =
-    first_line (option_and_then (slice_get p.sections) (position (λ s. bytes_eq name s.name) p.sections))
+    first_place_line (option_and_then (slice_get p.sections) (position (λ s. bytes_eq name s.name) p.sections))
 
 -- the break line for a section that the request names
 abbrev pub with_named : ProgramTable → Setting → List ℕ → Setting
@@ -93,20 +93,20 @@ abbrev pub without_lines : List ℕ → List ℕ → List ℕ
 without_lines breaks set = fold (λ bs line. without_line line bs) breaks set
 
 -- and with those that requests of the other kind set
-abbrev pub cleared : List ℕ → List ℕ → List ℕ → List ℕ
-cleared breaks set kept = fold breaks_after_set (without_lines breaks set) kept
+abbrev pub breaks_left : List ℕ → List ℕ → List ℕ → List ℕ
+breaks_left breaks set kept = fold breaks_after_set (without_lines breaks set) kept
 
 -- no break line of a request is set yet
-abbrev pub unset : List ℕ → List ℕ → List ℕ → Setting
-unset breaks set kept = record { breaks = cleared breaks set kept; set = []; text = [] }
+abbrev pub initial_setting : List ℕ → List ℕ → List ℕ → Setting
+initial_setting breaks set kept = record { breaks = breaks_left breaks set kept; set = []; text = [] }
 
 -- the break lines behind a request that names lines
 abbrev pub setting_of : ProgramTable → List ℕ → List ℕ → List ℕ → List ℕ → Setting
-setting_of p breaks set kept asked = fold (with_asked p) (unset breaks set kept) asked
+setting_of p breaks set kept asked = fold (with_asked p) (initial_setting breaks set kept) asked
 
 -- the break lines behind a request that names sections
 abbrev pub section_setting_of : ProgramTable → List ℕ → List ℕ → List ℕ → List (List ℕ) → Setting
-section_setting_of p breaks set kept names = fold (with_named p) (unset breaks set kept) names
+section_setting_of p breaks set kept names = fold (with_named p) (initial_setting breaks set kept) names
 
 -- what was set, and what is said of it
 abbrev pub IsSetting : DebuggerState → DebuggerState → List ℕ → List ℕ → Setting → Type 0

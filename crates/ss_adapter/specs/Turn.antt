@@ -73,54 +73,55 @@ told_with k report = record {
 }
 
 -- where a movement leads
-abbrev pub moved : AdapterState → DebuggerState → AdapterState
-moved s d = record { input = s.input; debugger = d; desk = told_with s.desk (report_at s.input d) }
+abbrev pub adapter_state_at : AdapterState → DebuggerState → AdapterState
+adapter_state_at s d = record { input = s.input; debugger = d; desk = told_with s.desk (report_at s.input d) }
 
 -- ---- what is sent
 
 -- the part of a report that is not told yet
-abbrev pub untold : ℕ → List ℕ → List Sent
-untold told report =
+abbrev pub untold_output : ℕ → List ℕ → List Sent
+untold_output told report =
     if nat_lt told (length report)
     then event (codes "output") (output_body (codes "stdout") (drop told report)) ∷ []
     else []
 
 -- the run stands where the debugger is, for this reason, and at the break point of this number, if at one
-abbrev pub stopped : List ℕ → List ℕ → Option ℕ → Sent
-stopped reason text hit = event (codes "stopped") (stopped_body reason text hit)
+abbrev pub stopped_event : List ℕ → List ℕ → Option ℕ → Sent
+stopped_event reason text hit = event (codes "stopped") (stopped_body reason text hit)
 
 -- what is said at the change of a question: the movement's answer, and the question
 abbrev pub change_text : List ℕ → List ℕ → List ℕ
 change_text answer question = without_last answer ++ codes ": " ++ question
 
 -- the movement with this answer ended at the change of the data break point in this place, which is number 1 more
-abbrev pub changed : List ℕ → ℕ → List ℕ → Sent
-changed answer place question = stopped (codes "data breakpoint") (change_text answer question) (Some (place + 1))
+abbrev pub change_event : List ℕ → ℕ → List ℕ → Sent
+change_event answer place question =
+    stopped_event (codes "data breakpoint") (change_text answer question) (Some (place + 1))
 
 -- the run is over for the editor
-abbrev pub over : List Sent
-over = event (codes "terminated") (codes "{}") ∷ event (codes "exited") NO_EXIT.now ∷ []
+abbrev pub exit_events : List Sent
+exit_events = event (codes "terminated") (codes "{}") ∷ event (codes "exited") NO_EXIT.now ∷ []
 
 -- it ended where the debugger is: the run stops there, or is over, where it doesn't stop at its end
-abbrev pub ended : Input → DebuggerState → Bool → List ℕ → List Sent
-ended t d at_end answer =
-    if is_over at_end (run t d.position).status then over
-    else stopped (reason_at t d.breaks d.position) (without_last answer) (hit_at t d.breaks d.position) ∷ []
+abbrev pub stop_events : Input → DebuggerState → Bool → List ℕ → List Sent
+stop_events t d at_end answer =
+    if is_over at_end (run t d.position).status then exit_events
+    else stopped_event (reason_at t d.breaks d.position) (without_last answer) (hit_at t d.breaks d.position) ∷ []
 
 -- the one or the other, by the data break point in that place, if there is one
 abbrev pub end_by : Input → DebuggerState → Bool → List ℕ → ℕ → Option (List ℕ) → List Sent
-end_by t d at_end answer place None = ended t d at_end answer
-end_by t d at_end answer place (Some question) = changed answer place question ∷ []
+end_by t d at_end answer place None = stop_events t d at_end answer
+end_by t d at_end answer place (Some question) = change_event answer place question ∷ []
 
 -- by the place, if it ended at a change
 abbrev pub end_of : Input → DebuggerState → Bool → List (List ℕ) → List ℕ → Option ℕ → List Sent
-end_of t d at_end watched answer None = ended t d at_end answer
+end_of t d at_end watched answer None = stop_events t d at_end answer
 end_of t d at_end watched answer (Some place) = end_by t d at_end answer place (slice_get watched place)
 
 -- what follows a movement to d with this answer: first what was printed, then where it stopped
 abbrev pub behind_movement : Input → DeskView → DebuggerState → List ℕ → Option ℕ → List Sent
 behind_movement t k d answer place =
-    untold k.told (report_at t d) ++ end_of t d k.stops.at_end k.watched answer place
+    untold_output k.told (report_at t d) ++ end_of t d k.stops.at_end k.watched answer place
 
 -- what follows a movement by its answer
 abbrev pub behind_going : AdapterState → Going → List ℕ → List Sent
@@ -128,16 +129,16 @@ behind_going s g answer =
     behind_movement s.input s.desk (state_behind s.input s.debugger g) answer (watched_by g answer)
 
 -- a reply with a body, and a movement behind it
-abbrev pub gone : AdapterState → List ℕ → Going → List Sent
-gone s body g = reply body ∷ behind_going s g (going_answer s.input s.debugger g)
+abbrev pub reply_with_going : AdapterState → List ℕ → Going → List Sent
+reply_with_going s body g = reply body ∷ behind_going s g (going_answer s.input s.debugger g)
 
 -- to where the run stops
-abbrev pub running : AdapterState → Going
-running s = run_going s.input s.debugger s.desk.watched Forward
+abbrev pub going_to_stop : AdapterState → Going
+going_to_stop s = run_going s.input s.debugger s.desk.watched Forward
 
 -- a reply, and where the run stands
-abbrev pub here : Input → ℕ → List ℕ → List Sent
-here t p reason = reply (codes "{}") ∷ stopped reason (without_last (state_line t p)) None ∷ []
+abbrev pub reply_with_stop : Input → ℕ → List ℕ → List Sent
+reply_with_stop t p reason = reply (codes "{}") ∷ stopped_event reason (without_last (state_line t p)) None ∷ []
 
 -- the console is a prompt over the debugger
 abbrev pub at_console : AdapterState → PromptState
@@ -174,18 +175,18 @@ behind_command s c true =
 behind_command s c false = point_behind s c (point_of s.input.program c)
 
 -- a command of the console: what the prompt answers, and what follows it
-abbrev pub obeyed : AdapterState → PromptCommand → List Sent
-obeyed s c = reply (result_body (console_answer s c)) ∷ behind_command s c (is_movement c)
+abbrev pub answer_to_line : AdapterState → PromptCommand → List Sent
+answer_to_line s c = reply (result_body (console_answer s c)) ∷ behind_command s c (is_movement c)
 
 -- a question that is answered
-abbrev pub asked : Input → ℕ → Option Question → List Sent
-asked t p (Some q) = reply (result_body (without_last (answer_at t q p))) ∷ []
-asked t p None = failure (codes "no question") ∷ []
+abbrev pub answer_to_question : Input → ℕ → Option Question → List Sent
+answer_to_question t p (Some q) = reply (result_body (without_last (answer_at t q p))) ∷ []
+answer_to_question t p None = failure (codes "no question") ∷ []
 
 -- what is told of a fault
-abbrev pub excepted : Option (List ℕ) → List Sent
-excepted (Some body) = reply body ∷ []
-excepted None = failure (codes "no fault") ∷ []
+abbrev pub answer_on_fault : Option (List ℕ) → List Sent
+answer_on_fault (Some body) = reply body ∷ []
+answer_on_fault None = failure (codes "no fault") ∷ []
 
 -- the first of some lines
 unfoldable pub first_lines : ℕ → List ℕ → List ℕ
@@ -206,57 +207,61 @@ source_messages report reference =
     if nat_eq reference 1 then reply (content_body report) ∷ [] else failure (codes "no source") ∷ []
 
 -- a reply, and the run is over
-abbrev pub terminated : List Sent
-terminated = reply (codes "{}") ∷ over
+abbrev pub answer_to_terminate : List Sent
+answer_to_terminate = reply (codes "{}") ∷ exit_events
 
 -- configurationDone
-abbrev pub configuring : AdapterState → List Sent
-configuring s =
-    if s.desk.stops.at_start then here s.input s.debugger.position (codes "entry") else gone s (codes "{}") (running s)
+abbrev pub answer_to_configuration : AdapterState → List Sent
+answer_to_configuration s =
+    if s.desk.stops.at_start then reply_with_stop s.input s.debugger.position (codes "entry")
+    else reply_with_going s (codes "{}") (going_to_stop s)
 
 -- a page of the frames of a state, and how many there are
-abbrev pub framed : Input → State → List ℕ → ℕ → ℕ → List Sent
-framed t s path start levels =
+abbrev pub answer_with_frames : Input → State → List ℕ → ℕ → ℕ → List Sent
+answer_with_frames t s path start levels =
     reply (frames_body (frames_page t.program s path start levels) (frame_count s)) ∷ []
 
 -- the words that may stand where a word is typed, by the section that runs
-abbrev pub completed : ProgramTable → State → List ℕ → ℕ → List Sent
-completed p s text column = reply (list_body (codes "targets") (completions p s.frame.section text column)) ∷ []
+abbrev pub answer_with_completions : ProgramTable → State → List ℕ → ℕ → List Sent
+answer_with_completions p s text column =
+    reply (list_body (codes "targets") (completions p s.frame.section text column)) ∷ []
 
 -- what a request is answered with that asks about the run
-unfoldable pub looked : AdapterState → Command → List Sent
-looked s Initialize = reply CAPABILITIES.now ∷ []
-looked s (Launch model input stops) = failure (codes "a run is launched already") ∷ []
-looked s Threads = reply THREADS.now ∷ []
-looked s (StackTrace start levels) = framed s.input (run s.input s.debugger.position) s.desk.path start levels
-looked s (Scopes frame) =
+unfoldable pub answer_about_run : AdapterState → Command → List Sent
+answer_about_run s Initialize = reply CAPABILITIES.now ∷ []
+answer_about_run s (Launch model input stops) = failure (codes "a run is launched already") ∷ []
+answer_about_run s Threads = reply THREADS.now ∷ []
+answer_about_run s (StackTrace start levels) =
+    answer_with_frames s.input (run s.input s.debugger.position) s.desk.path start levels
+answer_about_run s (Scopes frame) =
     reply (list_body (codes "scopes") (scopes_text s.input s.debugger.position frame)) ∷ []
-looked s (Variables wanted) =
+answer_about_run s (Variables wanted) =
     reply (list_body (codes "variables") (variables_text s.input s.debugger.position wanted)) ∷ []
-looked s (DataBreakpointInfo reference name) = reply (info_of s.input.program reference name) ∷ []
-looked s (Completions text column) = completed s.input.program (run s.input s.debugger.position) text column
-looked s (Ask text) = asked s.input s.debugger.position (question_of text)
-looked s (Source reference) = source_messages (report_at s.input s.debugger) reference
-looked s LoadedSources = reply (sources_body s.desk.path) ∷ []
-looked s ExceptionInfo = excepted (exception_by (run s.input s.debugger.position).status)
-looked s Pause = here s.input s.debugger.position (codes "pause")
-looked s Terminate = terminated
-looked s Bad = failure (codes "an argument is missing") ∷ []
-looked s Unknown = failure (codes "unknown request") ∷ []
-looked s other = reply (codes "{}") ∷ []
+answer_about_run s (DataBreakpointInfo reference name) = reply (info_of s.input.program reference name) ∷ []
+answer_about_run s (Completions text column) =
+    answer_with_completions s.input.program (run s.input s.debugger.position) text column
+answer_about_run s (Ask text) = answer_to_question s.input s.debugger.position (question_of text)
+answer_about_run s (Source reference) = source_messages (report_at s.input s.debugger) reference
+answer_about_run s LoadedSources = reply (sources_body s.desk.path) ∷ []
+answer_about_run s ExceptionInfo = answer_on_fault (exception_by (run s.input s.debugger.position).status)
+answer_about_run s Pause = reply_with_stop s.input s.debugger.position (codes "pause")
+answer_about_run s Terminate = answer_to_terminate
+answer_about_run s Bad = failure (codes "an argument is missing") ∷ []
+answer_about_run s Unknown = failure (codes "unknown request") ∷ []
+answer_about_run s other = reply (codes "{}") ∷ []
 
 -- what a request is answered with that asks for no movement
 unfoldable pub told_of : AdapterState → Command → List Sent
 told_of s (SetBreakpoints lines) = reply (list_body (codes "breakpoints") (setting_in s lines).text) ∷ []
 told_of s (SetFunctionBreakpoints names) = reply (list_body (codes "breakpoints") (sections_in s names).text) ∷ []
 told_of s (SetDataBreakpoints ids) = reply (list_body (codes "breakpoints") (watching_of ids).text) ∷ []
-told_of s ConfigurationDone = configuring s
-told_of s (Obey text) = obeyed s (prompt_command_of text)
-told_of s other = looked s other
+told_of s ConfigurationDone = answer_to_configuration s
+told_of s (Obey text) = answer_to_line s (prompt_command_of text)
+told_of s other = answer_about_run s other
 
 -- what a request is answered with: where it asks for a movement, what follows that
 abbrev pub answers_by : AdapterState → Command → Option Going → List Sent
-answers_by s command (Some g) = gone s (codes "{}") g
+answers_by s command (Some g) = reply_with_going s (codes "{}") g
 answers_by s command None = told_of s command
 
 -- what a request is answered with
@@ -336,8 +341,8 @@ behind_watching s watched = record {
 }
 
 -- once configured, the run stops where it stands when it is configured again
-abbrev pub configured : AdapterState → AdapterState
-configured s = record {
+abbrev pub once_configured : AdapterState → AdapterState
+once_configured s = record {
   input = s.input;
   debugger = s.debugger;
   desk = record {
@@ -355,7 +360,8 @@ configured s = record {
 -- behind configurationDone
 abbrev pub behind_configuring : AdapterState → AdapterState
 behind_configuring s =
-    configured (if s.desk.stops.at_start then s else moved s (state_behind s.input s.debugger (running s)))
+    once_configured
+    (if s.desk.stops.at_start then s else adapter_state_at s (state_behind s.input s.debugger (going_to_stop s)))
 
 -- behind a request that asks for no movement
 unfoldable pub left_by : AdapterState → Command → AdapterState
@@ -368,7 +374,7 @@ left_by s other = s
 
 -- behind a request that asks for a movement, or none
 abbrev pub state_by : AdapterState → Command → Option Going → AdapterState
-state_by s command (Some g) = moved s (state_behind s.input s.debugger g)
+state_by s command (Some g) = adapter_state_at s (state_behind s.input s.debugger g)
 state_by s command None = left_by s command
 
 -- behind a request

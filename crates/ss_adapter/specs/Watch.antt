@@ -26,16 +26,16 @@ pub record Watching : Type 0 where
   pub text : List ℕ
 
 -- one that is not set, for this reason
-abbrev pub unwatched : Watching → List ℕ → Watching
-unwatched w reason = record { watched = w.watched; text = w.text ++ unset_item reason }
+abbrev pub with_refusal : Watching → List ℕ → Watching
+with_refusal w reason = record { watched = w.watched; text = w.text ++ unset_item reason }
 
 -- one more, which is a question or is none: its number is its place, counted from 1 on
 abbrev pub with_question : Watching → List ℕ → Bool → Watching
-with_question w id false = unwatched w (codes "no question")
+with_question w id false = with_refusal w (codes "no question")
 with_question w id true =
     if nat_lt (length w.watched) WATCH_LIMIT
     then record { watched = w.watched ++ id ∷ []; text = w.text ++ watched_item (length w.watched + 1) }
-    else unwatched w (codes "too many data break points")
+    else with_refusal w (codes "too many data break points")
 
 -- one more
 unfoldable pub with_watched : Watching → List ℕ → Watching

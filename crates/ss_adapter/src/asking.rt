@@ -8,8 +8,9 @@ ghost use Rattle.ss_messages.specs.Messages.{posted_all, reply};
 ghost use Rattle.ss_scopes.specs.Variables.{scopes_text, variables_text};
 ghost use Rattle.ss_adapter.specs.Looking.{exception_by, question_of};
 ghost use Rattle.ss_adapter.specs.Watch.{info_of};
-ghost use Rattle.ss_adapter.specs.Turn.{adapter_state_of, report_at, asked, excepted, source_messages, framed};
-ghost use Rattle.ss_adapter.specs.Turn.{looked, completed, terminated};
+ghost use Rattle.ss_adapter.specs.Turn.{adapter_state_of, report_at, answer_to_question, answer_on_fault};
+ghost use Rattle.ss_adapter.specs.Turn.{source_messages, answer_with_frames, answer_with_completions};
+ghost use Rattle.ss_adapter.specs.Turn.{answer_about_run, answer_to_terminate};
 
 use crate::completions::completions;
 use crate::desk::Desk;
@@ -38,7 +39,7 @@ fn answer_question<S: SetBoard>(
 ) -> Result<(), AllocError>
     requires { post.old.sent < 2 ^ 64 - 1 }
     ensures { OnOk result (post.new ≡ posted_all request.now post.old
-        (asked debugger.now.machine.input (position debugger.now.machine) question)) }
+        (answer_to_question debugger.now.machine.input (position debugger.now.machine) question)) }
 {
     match question {
         Some(question) => {
@@ -60,7 +61,8 @@ fn ask<S: SetBoard>(
 ) -> Result<(), AllocError>
     requires { post.old.sent < 2 ^ 64 - 1 }
     ensures { OnOk result (post.new ≡ posted_all request.now post.old
-        (asked debugger.now.machine.input (position debugger.now.machine) (question_of text.now))) }
+        (answer_to_question debugger.now.machine.input (position debugger.now.machine)
+        (question_of text.now))) }
 {
     let question = question(post.alloc(), text)?;
     answer_question(debugger, request, post, question)
@@ -74,7 +76,7 @@ fn tell_exception<S: SetBoard>(
     post: &mut Post,
 ) -> Result<(), AllocError>
     requires { post.old.sent < 2 ^ 64 - 1 }
-    ensures { OnOk result (post.new ≡ posted_all request.now post.old (excepted
+    ensures { OnOk result (post.new ≡ posted_all request.now post.old (answer_on_fault
         (exception_by (run debugger.now.machine.input (position debugger.now.machine)).status))) }
 {
     match exception(post.alloc(), debugger.machine())? {
@@ -114,7 +116,7 @@ fn tell_frames<S: SetBoard>(
     levels: u64,
 ) -> Result<(), AllocError>
     requires { post.old.sent < 2 ^ 64 - 1 }
-    ensures { OnOk result (post.new ≡ posted_all request.now post.old (framed
+    ensures { OnOk result (post.new ≡ posted_all request.now post.old (answer_with_frames
         debugger.now.machine.input (run debugger.now.machine.input (position debugger.now.machine))
         path.now start levels)) }
 {
@@ -198,7 +200,7 @@ fn tell_completions<S: SetBoard>(
     column: u64,
 ) -> Result<(), AllocError>
     requires { post.old.sent < 2 ^ 64 - 1 }
-    ensures { OnOk result (post.new ≡ posted_all request.now post.old (completed
+    ensures { OnOk result (post.new ≡ posted_all request.now post.old (answer_with_completions
         debugger.now.machine.input.program
         (run debugger.now.machine.input (position debugger.now.machine)) text.now column)) }
 {
@@ -214,14 +216,14 @@ fn tell_completions<S: SetBoard>(
 #[tactic(auto, unfolding(ss_messages::specs::Messages::posted_all))]
 pub fn terminate(request: &Request, post: &mut Post) -> Result<(), AllocError>
     requires { post.old.sent + 2 < 2 ^ 64 - 1 }
-    ensures { OnOk result (post.new ≡ posted_all request.now post.old terminated) }
+    ensures { OnOk result (post.new ≡ posted_all request.now post.old answer_to_terminate) }
 {
     post.reply(request, NOTHING)?;
     tell_over(request, post)
 }
 
 /// Answers a request that asks about the run.
-#[tactic(auto, unfolding(ss_messages::specs::Messages::posted_all, crate::specs::Turn::looked))]
+#[tactic(auto, unfolding(ss_messages::specs::Messages::posted_all, crate::specs::Turn::answer_about_run))]
 pub fn look<S: SetBoard>(
     debugger: &Debugger<S>,
     desk: &Desk,
@@ -230,7 +232,7 @@ pub fn look<S: SetBoard>(
 ) -> Result<(), AllocError>
     requires { post.old.sent + 2 < 2 ^ 64 - 1 }
     ensures { OnOk result (post.new ≡ posted_all request.now post.old
-        (looked (adapter_state_of debugger.now desk.now) request.now.command)) }
+        (answer_about_run (adapter_state_of debugger.now desk.now) request.now.command)) }
 {
     match &request.command {
         Command::Initialize => post.reply(request, CAPABILITIES),

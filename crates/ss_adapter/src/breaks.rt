@@ -4,7 +4,8 @@ ghost use Rattle.ss_debug.specs.View.{debugger_state_of};
 ghost use Rattle.ss_debug.specs.BreakLines.{breaks_after_set};
 ghost use Rattle.ss_debug.specs.Turn.{debugger_state_with};
 ghost use Rattle.ss_messages.specs.Bodies.{unset_item};
-ghost use Rattle.ss_adapter.specs.Places.{nearer, next_line, first_line, named_line, without_lines, cleared};
+ghost use Rattle.ss_adapter.specs.Places.{nearer_line, next_line, first_place_line, named_line};
+ghost use Rattle.ss_adapter.specs.Places.{without_lines, breaks_left};
 ghost use Rattle.ss_adapter.specs.Places.{with_next, with_asked, with_named, setting_of, section_setting_of};
 ghost use Rattle.ss_adapter.specs.Places.{IsSetting};
 
@@ -16,8 +17,8 @@ use ss_program::{Program, Section, Spot};
 use std::alloc::{AllocError, Global};
 
 /// The nearer of two lines, the first of which may be none, that are not before a line.
-fn nearer(from: u64, nearest: Option<u32>, line: usize) -> Option<u32>
-    ensures { result ≡ nearer from nearest line }
+fn nearer_line(from: u64, nearest: Option<u32>, line: usize) -> Option<u32>
+    ensures { result ≡ nearer_line from nearest line }
 {
     if (line as u64) < from {
         return nearest;
@@ -31,11 +32,11 @@ fn nearer(from: u64, nearest: Option<u32>, line: usize) -> Option<u32>
 
 /// The nearest line with a place among these, or the one so far.
 fn nearest_in(from: u64, nearest: Option<u32>, places: &[Spot]) -> Option<u32>
-    ensures { result ≡ fold (nearer from) nearest (map (λ spot. spot.line) places.now) }
+    ensures { result ≡ fold (nearer_line from) nearest (map (λ spot. spot.line) places.now) }
 {
     let mut best = nearest;
     for spot in places {
-        best = nearer(from, best, spot.line);
+        best = nearer_line(from, best, spot.line);
     }
     best
 }
@@ -62,22 +63,22 @@ fn find_section(sections: &[Section], name: &[u8]) -> Option<usize>
 }
 
 /// The line of the first place of a section.
-fn first_line(section: &Section) -> Option<u32>
-    ensures { result ≡ first_line (Some section.now) }
+fn first_place_line(section: &Section) -> Option<u32>
+    ensures { result ≡ first_place_line (Some section.now) }
 {
     match section.places.get(0) {
         None => None,
-        Some(spot) => nearer(0, None, spot.line),
+        Some(spot) => nearer_line(0, None, spot.line),
     }
 }
 
 /// The line of the first place of the section with this number.
 fn section_line(sections: &[Section], number: usize) -> Option<u32>
-    ensures { result ≡ first_line (slice_get sections.now number) }
+    ensures { result ≡ first_place_line (slice_get sections.now number) }
 {
     match sections.get(number) {
         None => None,
-        Some(section) => first_line(section),
+        Some(section) => first_place_line(section),
     }
 }
 
@@ -138,7 +139,7 @@ fn clear<S: SetBoard>(
     ensures input { debugger.new.machine.input ≡ debugger.old.machine.input }
     ensures state { OnOk result (debugger_state_of debugger.new
         ≡ debugger_state_with (debugger_state_of debugger.old)
-        (cleared debugger.old.breaks set.now kept.now)) }
+        (breaks_left debugger.old.breaks set.now kept.now)) }
 {
     let mut scrap = Vec::new(alloc);
     clear_lines(debugger, set, &mut scrap)?;

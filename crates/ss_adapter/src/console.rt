@@ -8,7 +8,7 @@ ghost use Rattle.ss_messages.specs.Messages.{posted_all, reply};
 ghost use Rattle.ss_adapter.specs.Console.{has_place, point_told, first_line};
 ghost use Rattle.ss_adapter.specs.Console.{desk_with, desk_showing};
 ghost use Rattle.ss_adapter.specs.Turn.{adapter_state_of, console_answer, console_after};
-ghost use Rattle.ss_adapter.specs.Turn.{behind_command, left_at, desk_after, obeyed, behind_line};
+ghost use Rattle.ss_adapter.specs.Turn.{behind_command, left_at, desk_after, answer_to_line, behind_line};
 
 use crate::breaks::next_line;
 use crate::desk::{Desk, WATCH_LIMIT};
@@ -207,7 +207,7 @@ pub fn obey_line<S: SetBoard>(
     requires { post.old.sent + 3 < 2 ^ 64 - 1 }
     ensures input { debugger.new.machine.input ≡ debugger.old.machine.input }
     ensures sent { OnOk result (post.new ≡ posted_all request.now post.old
-        (obeyed (adapter_state_of debugger.old desk.old) (prompt_command_of line.now))) }
+        (answer_to_line (adapter_state_of debugger.old desk.old) (prompt_command_of line.now))) }
     ensures state { OnOk result (adapter_state_of debugger.new desk.new
         ≡ behind_line (adapter_state_of debugger.old desk.old) (prompt_command_of line.now)) }
 {

@@ -3,7 +3,8 @@ ghost use Rattle.std.specs.Prelude.{◌≡◌, ◌+◌, ◌-◌, ◌^◌, ◌<�
 ghost use Rattle.ss_debug.specs.View.{debugger_state_of};
 ghost use Rattle.ss_messages.specs.Messages.{posted_all};
 ghost use Rattle.ss_adapter.specs.Going.{state_behind};
-ghost use Rattle.ss_adapter.specs.Turn.{adapter_state_of, moved, gone, configuring, behind_configuring};
+ghost use Rattle.ss_adapter.specs.Turn.{adapter_state_of, adapter_state_at, reply_with_going};
+ghost use Rattle.ss_adapter.specs.Turn.{answer_to_configuration, behind_configuring};
 
 use crate::desk::Desk;
 use crate::going::{Going, make_watched, run_going};
@@ -26,9 +27,9 @@ pub fn go<S: SetBoard>(
     requires { post.old.sent + 3 < 2 ^ 64 - 1 }
     ensures input { debugger.new.machine.input ≡ debugger.old.machine.input }
     ensures sent { OnOk result (post.new ≡ posted_all request.now post.old
-        (gone (adapter_state_of debugger.old desk.old) (codes "{}") going)) }
+        (reply_with_going (adapter_state_of debugger.old desk.old) (codes "{}") going)) }
     ensures state { OnOk result (adapter_state_of debugger.new desk.new
-        ≡ moved (adapter_state_of debugger.old desk.old)
+        ≡ adapter_state_at (adapter_state_of debugger.old desk.old)
         (state_behind debugger.old.machine.input (debugger_state_of debugger.old) going)) }
 {
     let mut answer = Vec::new(post.alloc());
@@ -48,7 +49,7 @@ pub fn configure<S: SetBoard>(
     requires { post.old.sent + 3 < 2 ^ 64 - 1 }
     ensures input { debugger.new.machine.input ≡ debugger.old.machine.input }
     ensures sent { OnOk result (post.new ≡ posted_all request.now post.old
-        (configuring (adapter_state_of debugger.old desk.old))) }
+        (answer_to_configuration (adapter_state_of debugger.old desk.old))) }
     ensures state { OnOk result (adapter_state_of debugger.new desk.new
         ≡ behind_configuring (adapter_state_of debugger.old desk.old)) }
 {

@@ -4,7 +4,7 @@ ghost use Rattle.ss_session.specs.Load.{IsLoadFault};
 ghost use Rattle.ss_session.specs.declared.load.LoadFault.{LoadFault as Fault};
 ghost use Rattle.ss_session.specs.declared.load.LoadFault.TheVariants.{Memory};
 ghost use Rattle.ss_messages.specs.Messages.{posted_all};
-ghost use Rattle.ss_adapter.specs.Before.{launched, refused, IsLaunched, fault_line};
+ghost use Rattle.ss_adapter.specs.Before.{answer_to_launch, answer_to_refused_launch, IsLaunched, fault_line};
 
 use crate::desk::Desk;
 use ss_debug::Debugger;
@@ -29,7 +29,7 @@ fn fault_line(alloc: Global, fault: &LoadFault) -> Result<Vec<u8>, AllocError>
 fn refuse(request: &Request, post: &mut Post, fault: &LoadFault) -> Result<(), AllocError>
     requires { post.old.sent + 1 < 2 ^ 64 - 1 }
     ensures { OnOk result (post.new
-        ≡ posted_all request.now post.old (refused (fault_line fault.now))) }
+        ≡ posted_all request.now post.old (answer_to_refused_launch (fault_line fault.now))) }
 {
     let line = fault_line(post.alloc(), fault)?;
     post.fail(request, without_last(&line))?;
@@ -41,7 +41,7 @@ fn refuse(request: &Request, post: &mut Post, fault: &LoadFault) -> Result<(), A
 #[tactic(auto, unfolding(ss_messages::specs::Messages::posted_all))]
 fn accept(request: &Request, post: &mut Post) -> Result<(), AllocError>
     requires { post.old.sent + 1 < 2 ^ 64 - 1 }
-    ensures { OnOk result (post.new ≡ posted_all request.now post.old launched) }
+    ensures { OnOk result (post.new ≡ posted_all request.now post.old answer_to_launch) }
 {
     post.reply(request, NOTHING)?;
     post.event(request, b"initialized", NOTHING)
@@ -61,9 +61,10 @@ pub fn launch(
     requires { post.old.sent + 1 < 2 ^ 64 - 1 }
     ensures run { IfOk result (λ opened. MatchOption opened
         ((fault : Fault) × (fault ≢ Memory) × IsLoadFault fault model.now
-        × (post.new ≡ posted_all request.now post.old (refused (fault_line fault))))
+        × (post.new ≡ posted_all request.now post.old
+        (answer_to_refused_launch (fault_line fault))))
         (λ run. IsLaunched model.now text.now path.now stops run.0 run.1
-        × (post.new ≡ posted_all request.now post.old launched))) }
+        × (post.new ≡ posted_all request.now post.old answer_to_launch))) }
 {
     let alloc = post.alloc();
     let desk = Desk::new(alloc, path.to_vec(alloc)?, model.to_vec(alloc)?, stops);

@@ -3,8 +3,9 @@ ghost use Rattle.std.specs.Prelude.{◌≡◌, ◌+◌, ◌-◌, ◌^◌, ◌<�
 ghost use Rattle.ss_machine.specs.Moment.{position};
 ghost use Rattle.ss_debug.specs.View.{debugger_state_of};
 ghost use Rattle.ss_messages.specs.Messages.{posted_with, posted_all};
-ghost use Rattle.ss_adapter.specs.Turn.{told_with, report_at, untold, stopped, behind_movement, here};
-ghost use Rattle.ss_adapter.specs.Turn.{change_text, changed, over, ended, end_by, end_of};
+ghost use Rattle.ss_adapter.specs.Turn.{told_with, report_at, untold_output, stopped_event, behind_movement};
+ghost use Rattle.ss_adapter.specs.Turn.{reply_with_stop};
+ghost use Rattle.ss_adapter.specs.Turn.{change_text, change_event, exit_events, stop_events, end_by, end_of};
 
 use crate::desk::Desk;
 use crate::fixed::NO_EXIT;
@@ -24,7 +25,7 @@ fn tell_report<S: SetBoard>(
 ) -> Result<(), AllocError>
     requires { post.old.sent < 2 ^ 64 - 1 }
     ensures sent { OnOk result (post.new ≡ posted_all request.now post.old
-        (untold desk.old.told (report_at debugger.now.machine.input
+        (untold_output desk.old.told (report_at debugger.now.machine.input
         (debugger_state_of debugger.now)))) }
     ensures count { OnOk result (post.new.sent ≤ post.old.sent + 1) }
     ensures desk { OnOk result (desk.new ≡ told_with desk.old
@@ -51,7 +52,7 @@ fn tell_stop(
 ) -> Result<(), AllocError>
     requires { post.old.sent < 2 ^ 64 - 1 }
     ensures { OnOk result (post.new
-        ≡ posted_with request.now post.old (stopped reason.now text.now hit)) }
+        ≡ posted_with request.now post.old (stopped_event reason.now text.now hit)) }
 {
     let body = stopped_body(post.alloc(), reason, text, hit)?;
     post.event(request, b"stopped", &body)
@@ -79,7 +80,7 @@ fn tell_change(
     requires sent { post.old.sent < 2 ^ 64 - 1 }
     requires place { place < 2 ^ 64 - 1 }
     ensures { OnOk result (post.new
-        ≡ posted_with request.now post.old (changed answer.now place question.now)) }
+        ≡ posted_with request.now post.old (change_event answer.now place question.now)) }
 {
     let text = change_text(post.alloc(), answer, question)?;
     tell_stop(
@@ -95,7 +96,7 @@ fn tell_change(
 #[tactic(auto, unfolding(ss_messages::specs::Messages::posted_all))]
 pub fn tell_over(request: &Request, post: &mut Post) -> Result<(), AllocError>
     requires { post.old.sent + 1 < 2 ^ 64 - 1 }
-    ensures { OnOk result (post.new ≡ posted_all request.now post.old over) }
+    ensures { OnOk result (post.new ≡ posted_all request.now post.old exit_events) }
 {
     post.event(request, b"terminated", NOTHING)?;
     post.event(request, b"exited", NO_EXIT)
@@ -112,7 +113,7 @@ fn tell_ended<S: SetBoard>(
     answer: &[u8],
 ) -> Result<(), AllocError>
     requires { post.old.sent + 1 < 2 ^ 64 - 1 }
-    ensures { OnOk result (post.new ≡ posted_all request.now post.old (ended
+    ensures { OnOk result (post.new ≡ posted_all request.now post.old (stop_events
         debugger.now.machine.input (debugger_state_of debugger.now) at_end answer.now)) }
 {
     if is_over(debugger.machine(), at_end) {
@@ -196,7 +197,7 @@ pub fn tell_here<S: SetBoard>(
 ) -> Result<(), AllocError>
     requires { post.old.sent + 1 < 2 ^ 64 - 1 }
     ensures { OnOk result (post.new ≡ posted_all request.now post.old
-        (here debugger.now.machine.input (position debugger.now.machine) reason.now)) }
+        (reply_with_stop debugger.now.machine.input (position debugger.now.machine) reason.now)) }
 {
     post.reply(request, NOTHING)?;
     let line = debugger.answer_to(&Question::Where)?;

@@ -15,7 +15,7 @@ use Rattle.ss_messages.specs.declared.request.Request.{Request}
 use Rattle.ss_messages.specs.declared.request.Stops.{Stops}
 use Rattle.ss_adapter.specs.declared.turns.Further.{Further}
 use Rattle.ss_adapter.specs.Desk.{DeskView}
-use Rattle.ss_adapter.specs.Before.{IsLaunched, launched, refused as refused_with, fault_line, answers_before}
+use Rattle.ss_adapter.specs.Before.{IsLaunched, answer_to_launch, answer_to_refused_launch as refused_with, fault_line, answers_before}
 use Rattle.ss_adapter.specs.Turn.{AdapterState, adapter_state_of, answers, state_after, further_of}
 use Rattle.ss_serve.specs.Meaning.{IsAnswer}
 use Rattle.ssdap.specs.Shelves.{Stands, Given}
@@ -43,7 +43,7 @@ Launches request path model text stops old new run =
     MatchOption run
     ((fault : LoadFault) × (fault ≢ Memory) × IsLoadFault fault model
     × (new ≡ posted_all request old (refused_with (fault_line fault))))
-    (λ r. IsLaunched model text path stops r.0 r.1 × (new ≡ posted_all request old launched))
+    (λ r. IsLaunched model text path stops r.0 r.1 × (new ≡ posted_all request old answer_to_launch))
 
 -- that is one opening
 opens : (files : Option (List ℕ → Option (List ℕ))) (request : Request) (path : List ℕ)

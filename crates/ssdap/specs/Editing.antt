@@ -16,7 +16,7 @@ use Rattle.ss_messages.specs.declared.request.Stops.{Stops}
 use Rattle.ss_messages.specs.Messages.{Sent, PostView, posted_all, failure}
 use Rattle.ss_adapter.specs.declared.turns.Further.{Further}
 use Rattle.ss_adapter.specs.declared.turns.Further.TheVariants.{On, Ended}
-use Rattle.ss_adapter.specs.Before.{answers_before, launched, refused as refused_with, fault_line}
+use Rattle.ss_adapter.specs.Before.{answers_before, answer_to_launch, answer_to_refused_launch as refused_with, fault_line}
 use Rattle.ss_adapter.specs.Turn.{AdapterState, answers, state_after, further_of}
 use Rattle.ss_serve.specs.Meaning.{Meaning}
 use Rattle.ss_serve.specs.Seen.{Seen}
@@ -82,7 +82,7 @@ abbrev pub opening_messages : Opening → List Sent
 opening_messages no_model = failure (codes "cannot read the model") ∷ []
 opening_messages no_data = failure (codes "cannot read the data") ∷ []
 opening_messages (refused fault) = refused_with (fault_line fault)
-opening_messages (opened s) = launched
+opening_messages (opened s) = answer_to_launch
 
 -- the run behind it
 abbrev pub opening_run : Opening → Option AdapterState
