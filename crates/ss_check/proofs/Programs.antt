@@ -7,7 +7,7 @@ use Rattle.ss_routines.specs.Places.{Section}
 use Rattle.ss_program.specs.Program.{ClassTable, ProgramTable, SectionTable, SetTable}
 use Rattle.ss_check.specs.Declarations.{Declared}
 use Rattle.ss_check.specs.Declarations.{heads, declared_by_program}
-use Rattle.ss_check.specs.Resolved.{Rankings, class_table, rankings, resolved, resolved_section, set_table}
+use Rattle.ss_check.specs.Resolved.{Rankings, class_table, rankings, program_resolved, resolved_section, set_table}
 use Rattle.ss_check.specs.ResolvedNames.{Names, names, number}
 
 -- d: what the tree says; v: its tables; r: its rankings
@@ -22,6 +22,6 @@ pub program_is : (p : Decls) (qs : List Section) (d : Declared) (v : Names) (r :
       sets = sets;
       priority = priority;
       sections = sections;
-    }) (resolved p qs)
+    }) (program_resolved p qs)
 program_is p qs d v r globals classes sets priority sections whole tabled ranked g c s o q =
     rw (g, c, s, o, q, ranked, tabled, whole) refl

@@ -11,7 +11,7 @@ use Rattle.ss_program.specs.ProgramSound.{IsSound}
 use Rattle.ss_check.specs.Breach.{breach}
 use Rattle.ss_check.specs.Declarations.{headed_items, heads, declared_by_program}
 use Rattle.ss_check.specs.Readable.{AreFew, AreOfTree}
-use Rattle.ss_check.specs.Resolved.{rankings, class_table, set_table, resolved_section, resolved}
+use Rattle.ss_check.specs.Resolved.{rankings, class_table, set_table, resolved_section, program_resolved}
 use Rattle.ss_check.specs.ResolvedNames.{names}
 use Rattle.ss_check.proofs.SoundLists.{In}
 use Rattle.ss_check.proofs.SoundLimits.{few_classes, few_sets, few_globals}
@@ -26,7 +26,7 @@ as_many lines k (t ∷ ts) = ap suc (as_many lines (k + length (spell_section t)
 
 pub sound_resolved : (decls : Decls) (qs : List Section) → preamble.IsWithin (map (λ i. i.item) decls.items) →
     AreOfTree qs → AreFew qs →
-    breach decls qs ≡ None → IsSound (resolved decls qs)
+    breach decls qs ≡ None → IsSound (program_resolved decls qs)
 sound_resolved decls qs w t f b =
     let k = kept decls qs b in
     let is = decls.items in

@@ -22,7 +22,7 @@ use Rattle.ss_check.specs.Facts.{Fact, is_among, each_once, fact}
 use Rattle.ss_check.specs.Declarations.{HeadedItem, headed_items, included_names, owners_in, members_in, disciplines_in}
 use Rattle.ss_check.specs.Declarations.{ties_in, sets_in, external_in, priority_in}
 use Rattle.ss_check.specs.Breach.{breach}
-use Rattle.ss_check.specs.Resolved.{resolved}
+use Rattle.ss_check.specs.Resolved.{program_resolved}
 use Rattle.ss_check.specs.NamedTree.{several, name_at}
 
 -- ---- names for numbers
@@ -178,4 +178,4 @@ pub record IsOfItems (p : ProgramTable) (w : Written) : Type 0 where
 abbrev pub TablesGiveTheItems : Type 0
 TablesGiveTheItems =
     (decls : Decls) (qs : List Section) → breach decls qs ≡ None →
-    IsOfItems (resolved decls qs) (items_written (headed_items decls.items))
+    IsOfItems (program_resolved decls qs) (items_written (headed_items decls.items))

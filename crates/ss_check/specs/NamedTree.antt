@@ -65,7 +65,7 @@ use Rattle.ss_program.specs.Program.{class_of, set_of, section_of, DefineTable, 
 use Rattle.ss_program.specs.ProgramExpr as tree
 use Rattle.ss_program.specs.ProgramCondition as tree_condition
 use Rattle.ss_check.specs.Breach.{breach}
-use Rattle.ss_check.specs.Resolved.{resolved}
+use Rattle.ss_check.specs.Resolved.{program_resolved}
 
 -- ---- lists
 
@@ -411,4 +411,4 @@ named_sections p = map (named_section p) p.sections
 abbrev pub TablesGiveTheText : Type 0
 TablesGiveTheText =
     (decls : Decls) (qs : List spots.Section) → breach decls qs ≡ None →
-    named_sections (resolved decls qs) ≡ qs
+    named_sections (program_resolved decls qs) ≡ qs

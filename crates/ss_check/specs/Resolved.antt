@@ -473,7 +473,7 @@ resolved_with d v r qs = record {
 }
 
 -- a program of these items and sections
-abbrev pub resolved : Decls → List spots.Section → ProgramTable
-resolved decls qs =
+abbrev pub program_resolved : Decls → List spots.Section → ProgramTable
+program_resolved decls qs =
     resolved_with (declared_by_program decls.items qs) (names (declared_by_program decls.items qs) (heads qs))
     (rankings decls.items) qs

@@ -16,7 +16,7 @@ use Rattle.ss_program.specs.declared.kinds.Owner.TheVariants.{OwnedBy}
 use Rattle.ss_program.specs.Program.{ClassTable, SetTable, ProgramTable}
 use Rattle.ss_check.specs.Breach.{breach}
 use Rattle.ss_check.specs.Examples.{define, high, one, preamble, section_at, two}
-use Rattle.ss_check.specs.Resolved.{resolved}
+use Rattle.ss_check.specs.Resolved.{program_resolved}
 
 -- ---- names
 
@@ -25,8 +25,8 @@ abbrev pub arrival : Name
 arrival = codes "ARRIVAL"
 
 -- an event class without
-abbrev pub closing : Name
-closing = codes "CLOSING"
+abbrev pub closing_event : Name
+closing_event = codes "CLOSING"
 
 -- a permanent class
 abbrev pub shop : Name
@@ -68,8 +68,8 @@ total = codes "TOTAL"
 -- DEFINE TOTAL AS INTEGER VARIABLES
 abbrev pub shop_items : List Item
 shop_items =
-    Orders (PriorityOrder (two arrival closing)) ∷
-    Headed EventNotices (Some (one closing)) ∷
+    Orders (PriorityOrder (two arrival closing_event)) ∷
+    Headed EventNotices (Some (one closing_event)) ∷
     OfEvery arrival (one (Has (two weight load))) ∷
     Orders (BreakTies arrival (high load)) ∷
     Orders (ExternalEvents (one arrival)) ∷
@@ -87,14 +87,14 @@ abbrev pub shop_sections : List Section
 shop_sections =
     section_at 20 MainHead [] ∷
     section_at 30 (EventHead arrival Unwritten false) [] ∷
-    section_at 40 (EventHead closing Unwritten false) [] ∷
+    section_at 40 (EventHead closing_event Unwritten false) [] ∷
     []
 
 -- ---- the tables
 
 -- the global variables
 abbrev pub shop_variables : List Name
-shop_variables = closing ∷ arrival ∷ shop ∷ codes "N.SHOP" ∷ job ∷ total ∷ []
+shop_variables = closing_event ∷ arrival ∷ shop ∷ codes "N.SHOP" ∷ job ∷ total ∷ []
 
 -- section 2, no ties, not external
 abbrev pub closing_kind : ClassKind
@@ -107,7 +107,7 @@ arrival_kind = Event (record { section = 1; ties = record { rank = High; attribu
 -- the classes, each with the number of its variable
 abbrev pub shop_classes : List ClassTable
 shop_classes =
-    record { name = closing; kind = closing_kind; variable = 0; attributes = [] } ∷
+    record { name = closing_event; kind = closing_kind; variable = 0; attributes = [] } ∷
     record { name = arrival; kind = arrival_kind; variable = 1; attributes = weight ∷ load ∷ [] } ∷
     record { name = shop; kind = Permanent 3; variable = 2; attributes = [] } ∷
     record { name = job; kind = Temporary; variable = 4; attributes = size ∷ age ∷ [] } ∷
@@ -127,7 +127,7 @@ shop_sets =
 
 -- the program
 abbrev pub shop_program : ProgramTable
-shop_program = resolved (preamble shop_items) shop_sections
+shop_program = program_resolved (preamble shop_items) shop_sections
 
 -- the preamble breaks no rule, and its program has these tables
 abbrev pub PreambleHasTables : Type 0

@@ -36,7 +36,7 @@ pub fn check(alloc: Global, decls: Decls, sections: Sections) -> Result<Program,
     requires { IsWithin (items_of (preamble.decls_view decls)) }
     ensures sound { IfOk result (λ _. rules.breach (preamble.decls_view decls) sections ≡ None) }
     ensures ok { IfOk result
-        (λ program. program ≡ resolved.resolved (preamble.decls_view decls) sections) }
+        (λ program. program ≡ resolved.program_resolved (preamble.decls_view decls) sections) }
     ensures err { IfErr result
         (λ f. IsBreach f (rules.breach (preamble.decls_view decls) sections)) }
 {
@@ -68,10 +68,10 @@ fn resolve_program(
         (map view.section_view sections.items) }
     requires pictures { list_any (λ q. list_any (λ s. has_wrong_picture s.place) q.places)
         (map view.section_view sections.items) ≡ false }
-    requires sound { IsSound (resolved.resolved (preamble.decls_view decls.now)
+    requires sound { IsSound (resolved.program_resolved (preamble.decls_view decls.now)
         (map view.section_view sections.items)) }
     ensures { IfOk result (λ program. program
-        ≡ resolved.resolved (preamble.decls_view decls.now)
+        ≡ resolved.program_resolved (preamble.decls_view decls.now)
         (map view.section_view sections.items)) }
 {
     match NameTables::new(alloc, whole, &sections) {
@@ -99,10 +99,10 @@ fn resolve_named(
         ≡ names_of whole.now (declared.heads (map view.section_view sections.items)) }
     requires pictures { list_any (λ q. list_any (λ s. has_wrong_picture s.place) q.places)
         (map view.section_view sections.items) ≡ false }
-    requires sound { IsSound (resolved.resolved (preamble.decls_view decls.now)
+    requires sound { IsSound (resolved.program_resolved (preamble.decls_view decls.now)
         (map view.section_view sections.items)) }
     ensures { IfOk result (λ program. program
-        ≡ resolved.resolved (preamble.decls_view decls.now)
+        ≡ resolved.program_resolved (preamble.decls_view decls.now)
         (map view.section_view sections.items)) }
 {
     match classes_and_sets(alloc, whole, decls, &names) {

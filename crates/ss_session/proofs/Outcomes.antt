@@ -21,7 +21,7 @@ use Rattle.ss_routines.proofs.AlwaysAnswered.{always}
 use Rattle.ss_routines.proofs.Unique.{one_answer}
 use Rattle.ss_check.specs.declared.fault.CheckRule.{CheckRule}
 use Rattle.ss_check.specs.Breach.{breach}
-use Rattle.ss_check.specs.Resolved.{resolved}
+use Rattle.ss_check.specs.Resolved.{program_resolved}
 use Rattle.ss_session.specs.Model.{Outcome, refused_text, refused_check, accepted, AreProgram, Spells, IsOutcome}
 use Rattle.ss_session.specs.Refused.{IsRefused}
 use Rattle.ss_session.specs.Laws.{ModelHasOutcome, OutcomeIsUnique, IsRefusedInPart}
@@ -46,7 +46,7 @@ words_said model = said (found_in_text model) (found_in_text model)
 
 from_breach : (model : List ℕ) (d : Decls) (ss : List Section) → Spells model d ss →
     (b : Option (CheckRule × ℕ)) → breach d ss ≡ b → (o : Outcome) × IsOutcome model o
-from_breach model d ss s None e = (accepted (resolved d ss), (d, ss, s, e, refl))
+from_breach model d ss s None e = (accepted (program_resolved d ss), (d, ss, s, e, refl))
 from_breach model d ss s (Some (rule, n)) e = (refused_check rule n, (d, ss, s, e))
 
 from_sections : (model : List ℕ) (ws : List WordAt) → words_of model ≡ Ok ws → (d : Decls) (n : ℕ) →
@@ -169,7 +169,7 @@ check_accepted : (r : CheckRule) (m : ℕ) (d e : Decls) (ss us : List Section) 
 check_accepted r m d e ss us p f g = subst IsSome (sym f ∙ ap breach_in p ∙ g) tt
 
 abbrev program_in : Decls × List Section → Outcome
-program_in (d, ss) = accepted (resolved d ss)
+program_in (d, ss) = accepted (program_resolved d ss)
 
 pub one_outcome : OutcomeIsUnique
 one_outcome model (refused_text r m) (refused_text s n) a b = text_text model r s m n a b

@@ -15,7 +15,7 @@ use Rattle.ss_preamble.specs.Refused.{HasPreamble, no_decls, AreDecls}
 use Rattle.ss_check.specs.declared.fault.CheckRule.{CheckRule}
 use Rattle.ss_check.specs.CheckRules.{check_rule_code}
 use Rattle.ss_check.specs.Breach.{breach}
-use Rattle.ss_check.specs.Resolved.{resolved}
+use Rattle.ss_check.specs.Resolved.{program_resolved}
 use Rattle.ss_program.specs.Program.{ProgramTable}
 use Rattle.std.specs.Prelude.{codes}
 use Rattle.ss_machine.specs.Run.{input_with}
@@ -50,7 +50,7 @@ module _ (model : List ℕ) (ws : List WordAt) (ps : List PlainAt) (read : words
       (ws, read, rw plain (0, nothing ps none, rw (all_words ps) said))
 
   pub tells_run : (t : Tree) (p : ProgramTable) → IsWithin t → plains ps ≡ spell t →
-      breach no_decls (written (lines ps) t) ≡ None → p ≡ resolved no_decls (written (lines ps) t) →
+      breach no_decls (written (lines ps) t) ≡ None → p ≡ program_resolved no_decls (written (lines ps) t) →
       (commands text : List ℕ) →
       program_transcript (input_with p (codes "")) (obeyed_lines (command_lines commands)) ≡ text →
       HasTranscript model commands text

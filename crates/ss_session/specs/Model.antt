@@ -12,7 +12,7 @@ use Rattle.ss_routines.specs.Places.{Section}
 use Rattle.ss_routines.specs.Refused.{AreSections, words_from}
 use Rattle.ss_check.specs.declared.fault.CheckRule.{CheckRule}
 use Rattle.ss_check.specs.Breach.{breach}
-use Rattle.ss_check.specs.Resolved.{resolved}
+use Rattle.ss_check.specs.Resolved.{program_resolved}
 use Rattle.ss_program.specs.Program.{ProgramTable}
 use Rattle.ss_session.specs.Refused.{IsRefused}
 
@@ -39,7 +39,7 @@ IsOutcome model (refused_text rule line) =
 IsOutcome model (refused_check rule line) =
     (d : Decls) × (ss : List Section) × Spells model d ss × (breach d ss ≡ Some (rule, line))
 IsOutcome model (accepted program) =
-    (d : Decls) × (ss : List Section) × Spells model d ss × (breach d ss ≡ None) × (program ≡ resolved d ss)
+    (d : Decls) × (ss : List Section) × Spells model d ss × (breach d ss ≡ None) × (program ≡ program_resolved d ss)
 
 -- a rule L or P refuses the model
 abbrev pub IsTextRefused : List ℕ → Type 0

@@ -9,9 +9,9 @@ pub struct Fact<T> {
 }
 
 impl<T> Model for Fact<T> {
-    ghost use Rattle.ss_check.specs.Facts.{Fact as NameFact};
+    ghost use Rattle.ss_check.specs.Facts.{Fact as FactData};
 
-    ghost Value = { NameFact T };
+    ghost Value = { FactData T };
 
     ghost view = { λ a. record { name = a.name; what = a.what } };
 }

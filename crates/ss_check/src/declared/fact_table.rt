@@ -21,11 +21,11 @@ pub struct FactTable<T> {
 
 impl<T> Model for FactTable<T> {
     ghost use Rattle.std.specs.Prelude.{List, [], ◌≡◌};
-    ghost use Rattle.ss_check.specs.Facts.{Fact as NameFact};
+    ghost use Rattle.ss_check.specs.Facts.{Fact as FactData};
     ghost use Rattle.ss_program.specs.NameIndex.{IsIndex};
     ghost use Rattle.ss_check.specs.Facts.{names_of, repeats};
 
-    ghost Value = { List (NameFact T) };
+    ghost Value = { List (FactData T) };
 
     ghost view = { λ a. a.facts.items };
 

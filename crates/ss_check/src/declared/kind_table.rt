@@ -25,10 +25,10 @@ impl Model for KindTable {
     ghost use Rattle.ss_check.specs.Facts.{Fact};
     ghost use Rattle.ss_check.specs.FactsView.{facts_view};
     ghost use Rattle.ss_check.specs.KindView.{kind_view};
-    ghost use Rattle.ss_check.specs.NameKind.{NameKind as Kind};
+    ghost use Rattle.ss_check.specs.NameKind.{NameKind as NameKindData};
     ghost use Rattle.ss_check.specs.NameKinds.{one_conflicts};
 
-    ghost Value = { List (Fact Kind) };
+    ghost Value = { List (Fact NameKindData) };
 
     ghost view = { λ a. facts_view kind_view a.table };
 

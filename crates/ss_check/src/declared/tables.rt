@@ -31,9 +31,9 @@ pub struct Counts {
 }
 
 impl Model for Counts {
-    ghost use Rattle.ss_check.specs.Declarations.{Counts as ParameterCounts};
+    ghost use Rattle.ss_check.specs.Declarations.{Counts as CountsData};
 
-    ghost Value = { ParameterCounts };
+    ghost Value = { CountsData };
 
     ghost view = { λ a. record { given = a.given; yielded = a.yielded } };
 }
@@ -113,12 +113,12 @@ impl Tables {
         &mut self,
         alloc: Global,
         heading: Option<Heading>,
-        one: &ItemAt,
+        item_at: &ItemAt,
     ) -> Result<(), AllocError>
         ensures { OnOk result
-            (self.new ≡ with_item self.old (headed_item heading (items.item_at_view one.now))) }
+            (self.new ≡ with_item self.old (headed_item heading (items.item_at_view item_at.now))) }
     {
-        let item = &one.item;
+        let item = &item_at.item;
         add_declarations(alloc, &mut self.kinds, heading, item)?;
         add_attributes(&mut self.attributes, item)?;
         add_owners(alloc, &mut self.owners, item)?;

@@ -24,9 +24,9 @@ impl<'a> Model for Rankings<'a> {
     ghost use Rattle.ss_words.specs.Lists.{all_of, several_view};
     ghost use Rattle.ss_preamble.specs.View.{key_view, set_discipline_view};
     ghost use Rattle.ss_check.specs.FactsView.{facts_view};
-    ghost use Rattle.ss_check.specs.Resolved.{Rankings as Given};
+    ghost use Rattle.ss_check.specs.Resolved.{Rankings as RankingsData};
 
-    ghost Value = { Given };
+    ghost Value = { RankingsData };
 
     ghost view = { λ a. record {
       disciplines = facts_view (λ k. set_discipline_view k.now) a.disciplines;

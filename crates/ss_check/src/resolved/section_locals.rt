@@ -103,12 +103,16 @@ fn add_used(whole: &Tables, locals: &mut NameTable, uses: &[Use<'_>]) -> Result<
 }
 
 /// Adds the name that this takes for a variable, if it does and it is not declared.
-fn add_variable(whole: &Tables, locals: &mut NameTable, one: &Use<'_>) -> Result<(), AllocError>
+fn add_variable(
+    whole: &Tables,
+    locals: &mut NameTable,
+    name_use: &Use<'_>,
+) -> Result<(), AllocError>
     ensures { OnOk result
         (locals.new ≡ fold with_name locals.old (flat_map (resolved.undeclared_name whole.now)
-        (resolved.variable_used (use_view one.now)))) }
+        (resolved.variable_used (use_view name_use.now)))) }
 {
-    match one {
+    match name_use {
         Use::Value {
             name,
             arguments: None,

@@ -25,12 +25,12 @@ use ss_routines::{Article, Details, Exchange, FilePlace, Reference, Simple, Tran
 use std::alloc::{AllocError, Global};
 
 /// A statement that holds no other, with the numbers of its names.
-pub(crate) fn resolve_simple(scope: Scope<'_>, one: &Simple) -> Result<Place, AllocError>
-    requires { has_wrong_picture (written.Simply (view.simple_view one.now)) ≡ false }
+pub(crate) fn resolve_simple(scope: Scope<'_>, statement: &Simple) -> Result<Place, AllocError>
+    requires { has_wrong_picture (written.Simply (view.simple_view statement.now)) ≡ false }
     ensures { IfOk result
-        (λ x. x ≡ in_scope scope.entry resolved.resolved_simple (view.simple_view one.now)) }
+        (λ x. x ≡ in_scope scope.entry resolved.resolved_simple (view.simple_view statement.now)) }
 {
-    match one {
+    match statement {
         Simple::Assign(assign) => Ok(Place::Assign(resolve_assign(scope, assign)?)),
         Simple::Make(making) => {
             let making = resolve_making(scope, making)?;

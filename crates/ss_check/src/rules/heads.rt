@@ -143,7 +143,8 @@ fn add_yielded(list: &mut NameList, names: &[Name]) -> Result<(), AllocError>
 
 /// Adds the names of a list that may be left out.
 fn add_listed(list: &mut NameList, names: &Listing<Name>) -> Result<(), AllocError>
-    ensures { OnOk result (list.new ≡ list.old ++ listing_names (view.listing_view (λ n. n) names.now)) }
+    ensures { OnOk result (list.new
+        ≡ list.old ++ listing_names (view.listing_view (λ n. n) names.now)) }
 {
     match names {
         Listing::Unwritten => Ok(()),

@@ -81,21 +81,21 @@ pub(crate) fn item_rule(
     whole: &Tables,
     before: &mut Tables,
     heading: Option<Heading>,
-    one: &ItemAt,
+    item_at: &ItemAt,
 ) -> Result<Option<CheckRule>, AllocError>
     requires { IsOnce before.old }
     ensures rule { IfOk result
         (λ r. r ≡ rules.item_rule whole.now before.old
-        (headed_item heading (view.item_at_view one.now))) }
+        (headed_item heading (view.item_at_view item_at.now))) }
     ensures tables { OnOk result
-        (before.new ≡ with_item before.old (headed_item heading (view.item_at_view one.now))) }
+        (before.new ≡ with_item before.old (headed_item heading (view.item_at_view item_at.now))) }
 {
-    let item = &one.item;
+    let item = &item_at.item;
     let is_ownerless = names_ownerless_set(whole, before, item);
     let is_memberless = names_memberless_set(whole, before, item);
     let lacks_section = names_without_section(whole, before, item);
     let has_wrong_priority = orders_wrong_priority(alloc, whole, before, item)?;
-    before.add_item(alloc, heading, one)?;
+    before.add_item(alloc, heading, item_at)?;
     let declares_twice = says_twice(before);
     let breaks = ItemBreaks {
         declares_twice,
@@ -166,7 +166,8 @@ fn any_no_event(whole: &Tables, names: &[Name]) -> bool
 /// Whether an item is the first to name a set that has no owner.
 fn names_ownerless_set(whole: &Tables, before: &Tables, item: &Item) -> bool
     ensures { result ≡ list_any (λ s. not (names_set (fact_of before.now.kinds s))
-        && not (is_among s (names_of whole.now.owners))) (declared.sets_in (view.item_view item.now)) }
+        && not (is_among s (names_of whole.now.owners)))
+        (declared.sets_in (view.item_view item.now)) }
 {
     names_new_without(&whole.owners, &before.kinds, item)
 }
@@ -174,7 +175,8 @@ fn names_ownerless_set(whole: &Tables, before: &Tables, item: &Item) -> bool
 /// Whether an item is the first to name a set that has no class of members.
 fn names_memberless_set(whole: &Tables, before: &Tables, item: &Item) -> bool
     ensures { result ≡ list_any (λ s. not (names_set (fact_of before.now.kinds s))
-        && not (is_among s (names_of whole.now.members))) (declared.sets_in (view.item_view item.now)) }
+        && not (is_among s (names_of whole.now.members)))
+        (declared.sets_in (view.item_view item.now)) }
 {
     names_new_without(&whole.members, &before.kinds, item)
 }

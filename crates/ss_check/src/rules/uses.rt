@@ -19,10 +19,10 @@ pub(crate) fn any_wrong_class(whole: &Tables, uses: &[Use<'_>]) -> bool
     uses.iter().any(|one| is_wrong_class(whole, one))
 }
 
-fn is_wrong_class(whole: &Tables, one: &Use<'_>) -> bool
-    ensures { result ≡ rules.is_wrong_class whole.now (use_view one.now) }
+fn is_wrong_class(whole: &Tables, name_use: &Use<'_>) -> bool
+    ensures { result ≡ rules.is_wrong_class whole.now (use_view name_use.now) }
 {
-    match one {
+    match name_use {
         Use::OfClass { need, name } => !serves(*need, whole.kinds.get(name)),
         _ => false,
     }
@@ -35,10 +35,10 @@ pub(crate) fn any_misused(whole: &Tables, uses: &[Use<'_>]) -> bool
     uses.iter().any(|one| is_misused(whole, one))
 }
 
-fn is_misused(whole: &Tables, one: &Use<'_>) -> bool
-    ensures { result ≡ rules.is_misused whole.now (use_view one.now) }
+fn is_misused(whole: &Tables, name_use: &Use<'_>) -> bool
+    ensures { result ≡ rules.is_misused whole.now (use_view name_use.now) }
 {
-    match one {
+    match name_use {
         Use::Value {
             name,
             arguments: None,
@@ -137,10 +137,10 @@ pub(crate) fn any_wrong_count(whole: &Tables, uses: &[Use<'_>]) -> bool
     uses.iter().any(|one| is_wrong_count(whole, one))
 }
 
-fn is_wrong_count(whole: &Tables, one: &Use<'_>) -> bool
-    ensures { result ≡ rules.is_wrong_count whole.now (use_view one.now) }
+fn is_wrong_count(whole: &Tables, name_use: &Use<'_>) -> bool
+    ensures { result ≡ rules.is_wrong_count whole.now (use_view name_use.now) }
 {
-    match one {
+    match name_use {
         Use::Value {
             name,
             arguments: None,
@@ -166,10 +166,10 @@ pub(crate) fn any_fixed(whole: &Tables, uses: &[Use<'_>]) -> bool
     uses.iter().any(|one| is_fixed(whole, one))
 }
 
-fn is_fixed(whole: &Tables, one: &Use<'_>) -> bool
-    ensures { result ≡ rules.is_fixed whole.now (use_view one.now) }
+fn is_fixed(whole: &Tables, name_use: &Use<'_>) -> bool
+    ensures { result ≡ rules.is_fixed whole.now (use_view name_use.now) }
 {
-    match one {
+    match name_use {
         Use::Target { name, .. } => names_fixed(whole.kinds.get(name)),
         Use::LoopVariable(name) => !names_variable(whole.kinds.get(name)),
         _ => false,

@@ -50,10 +50,10 @@ pub struct UseList<'a> {
 
 impl<'a> Model for UseList<'a> {
     ghost use Rattle.std.specs.Prelude.{List, map};
-    ghost use Rattle.ss_check.specs.Uses.{Use as NameUse};
+    ghost use Rattle.ss_check.specs.Uses.{Use as UseData};
     ghost use Rattle.ss_check.specs.UseView.{use_view};
 
-    ghost Value = { List NameUse };
+    ghost Value = { List UseData };
 
     ghost view = { λ a. map use_view a.list.items };
 }
@@ -69,10 +69,10 @@ impl<'a> UseList<'a> {
     }
 
     /// Puts a use at the end.
-    pub fn add(&mut self, one: Use<'a>) -> Result<(), AllocError>
-        ensures { OnOk result (self.new ≡ self.old ++ use_view one.entry ∷ []) }
+    pub fn add(&mut self, name_use: Use<'a>) -> Result<(), AllocError>
+        ensures { OnOk result (self.new ≡ self.old ++ use_view name_use.entry ∷ []) }
     {
-        self.list.push(one)?;
+        self.list.push(name_use)?;
         Ok(())
     }
 

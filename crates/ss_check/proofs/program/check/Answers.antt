@@ -3,7 +3,7 @@ use Rattle.std.specs.Prelude.{map}
 use Rattle.ss_preamble.specs.View.{decls_view}
 use Rattle.ss_routines.specs.View.{section_view}
 use Rattle.ss_check.specs.Readable.{AreOfTree}
-use Rattle.ss_check.specs.Resolved.{resolved}
+use Rattle.ss_check.specs.Resolved.{program_resolved}
 use Rattle.ss_check.proofs.Pictures.{pictures_right}
 use Rattle.ss_check.proofs.Sound.{sound_resolved}
 use Rattle.ss_check.proofs.SoundSizes.{few_sections}
@@ -23,4 +23,4 @@ resolve_program-program-requires c =
 
 pub returns-in_ok-program-in-Ok-clause-ok : goal.returns-in_ok-program-in-Ok-clause-ok
 returns-in_ok-program-in-Ok-clause-ok c =
-    c.in_ok-program-in-Ok.ensures ∙ ap (resolved (decls_view c.args.decls)) c.into_list-sections.ensures.list
+    c.in_ok-program-in-Ok.ensures ∙ ap (program_resolved (decls_view c.args.decls)) c.into_list-sections.ensures.list

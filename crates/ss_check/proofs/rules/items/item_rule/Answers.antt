@@ -9,7 +9,7 @@ returns-clause-rule c =
     c.lowest.ensures
     ∙ rw (c.repeats_owner.ensures, c.repeats_member.ensures, c.joins_system.ensures)
     (item_rule_is c.args.whole.now c.args.before.now c.add_item.new.self
-    (headed_item c.args.heading (item_at_view c.args.one.now))
+    (headed_item c.args.heading (item_at_view c.args.item_at.now))
     c.says_twice-declares_twice.result c.names_wrong_class.result c.names_ownerless_set-is_ownerless.result
     c.names_memberless_set-is_memberless.result
     c.has_wrong_keys_unless.result c.names_without_section-lacks_section.result
