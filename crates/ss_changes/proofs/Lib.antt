@@ -1,7 +1,7 @@
 pub mod Unfoldings
 pub mod Orders
-pub mod Standing
+pub mod Returns
 pub mod StateLaws
 pub mod Notices
-pub mod Exact
+pub mod Exactness
 pub mod Saying

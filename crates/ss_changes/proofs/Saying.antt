@@ -21,7 +21,7 @@ use Rattle.ss_changes.specs.Changes.{changes_between, changed_at}
 use Rattle.ss_changes.specs.Texts.{first_changes, all_changes, changed_text, stop_changes, stop_changes_ahead}
 use Rattle.ss_changes.specs.View.{HasReturned, program_of, state_of, state_before, changed_among, told_against}
 use Rattle.ss_changes.proofs.Orders.{changes_append, told_between}
-use Rattle.ss_changes.proofs.Standing.{same_changed}
+use Rattle.ss_changes.proofs.Returns.{same_changed}
 
 -- what follows from what holds where a call succeeded
 pub on_ok : {A B P Q : Type 0} (r : Result A B) → OnOk r P → (P → Q) → OnOk r Q

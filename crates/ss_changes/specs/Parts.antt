@@ -8,7 +8,7 @@ use Rattle.ss_events.specs.Rules.{rules_of}
 use Rattle.ss_events.specs.Agenda.{Pending, in_order}
 use Rattle.ss_machine.specs.State.{State}
 use Rattle.ss_machine.specs.Frames.{frame_place}
-use Rattle.ss_inspect.specs.Living.{living}
+use Rattle.ss_inspect.specs.Living.{living_numbers}
 use Rattle.ss_changes.specs.declared.part.Part.{Part}
 use Rattle.ss_changes.specs.declared.part.Part.TheVariants.{Global, Local, Attribute, Entity, Notice, Taken, Entry}
 use Rattle.ss_changes.specs.declared.part.Part.TheVariants.{Clock, Report}
@@ -67,7 +67,7 @@ attributes_of p c k = below_of (attribute_part c k) (length (class_of p c).attri
 
 -- the attributes of the entities of class c that live in a state
 abbrev pub attribute_parts : ProgramTable → State → ℕ → List Part
-attribute_parts p u c = each_of (attributes_of p c) (living u.store c)
+attribute_parts p u c = each_of (attributes_of p c) (living_numbers u.store c)
 
 -- an entity of class c
 abbrev pub entity_part : ℕ → ℕ → List Part
@@ -75,7 +75,7 @@ entity_part c k = Entity c k ∷ []
 
 -- the entities of class c that live in a state
 abbrev pub entities_in : State → ℕ → List Part
-entities_in s c = each_of (entity_part c) (living s.store c)
+entities_in s c = each_of (entity_part c) (living_numbers s.store c)
 
 -- those of some parts that are not there in a state
 abbrev pub absent_in : ProgramTable → State → List Part → List Part
@@ -94,7 +94,7 @@ list_part n k = parts.List n k ∷ []
 -- the owners of lists in a state: the system, which has number 0, or the entities of a class that live
 abbrev pub owners_in : State → Owner → List ℕ
 owners_in u System = 0 ∷ []
-owners_in u (OwnedBy c) = living u.store c
+owners_in u (OwnedBy c) = living_numbers u.store c
 
 -- the lists of set n in a state
 abbrev pub list_parts : ProgramTable → State → ℕ → List Part

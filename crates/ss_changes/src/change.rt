@@ -4,7 +4,10 @@ use crate::value::PartValue;
 /// A part of two states whose values differ.
 #[derive(Drop)]
 pub struct Change {
+    /// The part.
     pub part: Part,
+    /// Its value in the state before the step.
     pub before: PartValue,
+    /// Its value in the state behind it.
     pub after: PartValue,
 }

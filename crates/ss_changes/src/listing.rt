@@ -11,7 +11,7 @@ use crate::part::Part;
 use crate::reading::value_of;
 use crate::rows::{attribute_count, set_owner};
 use crate::value::is_there;
-use ss_inspect::living;
+use ss_inspect::living_numbers;
 use ss_links::SetBoard;
 use ss_machine::Machine;
 use ss_program::Owner;
@@ -69,7 +69,7 @@ pub fn attributes_now<S: SetBoard>(
         ≡ attribute_parts machine.now.input.program machine.now.state class) }
 {
     let count = attribute_count(machine.program(), class);
-    let numbers = living(alloc, machine, class)?;
+    let numbers = living_numbers(alloc, machine, class)?;
     let mut parts = Vec::new(alloc);
     for entity in &numbers {
         push_attributes(&mut parts, class, *entity, count)?;
@@ -85,7 +85,7 @@ pub fn entities_now<S: SetBoard>(
 ) -> Result<Vec<Part>, AllocError>
     ensures { IfOk result (λ parts. parts.items ≡ entities_in machine.now.state class) }
 {
-    let numbers = living(alloc, machine, class)?;
+    let numbers = living_numbers(alloc, machine, class)?;
     let mut parts = Vec::new(alloc);
     for entity in &numbers {
         parts.push(Part::Entity {
@@ -124,7 +124,7 @@ fn owners<S: SetBoard>(
 {
     match owner {
         Owner::System => Vec::from_slice(alloc, &[0]),
-        Owner::OwnedBy(class) => living(alloc, machine, class),
+        Owner::OwnedBy(class) => living_numbers(alloc, machine, class),
     }
 }
 

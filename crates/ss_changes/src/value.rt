@@ -10,6 +10,7 @@ use std::marker::Model;
 /// The members of a list, first to last.
 #[derive(Drop)]
 pub struct Members {
+    /// Their numbers.
     pub numbers: Vec<u32>,
 }
 

@@ -1,7 +1,7 @@
 pub mod Unfoldings
-pub mod Ordered
+pub mod TextSequences
 pub mod Numbers
 pub mod Members
-pub mod Existing
+pub mod LivingNumbers
 pub mod Shapes
 pub mod Telling

@@ -4,8 +4,8 @@ use Rattle.std.proofs.lemmas.Option.{slice_get_past}
 use Rattle.ss_links.specs.Seats.{has}
 use Rattle.ss_debug.specs.Entities.{lines_below}
 use Rattle.ss_store.specs.Store.{Store, made_of, exists, greatest_number}
-use Rattle.ss_inspect.specs.Living.{living_at, living}
-use Rattle.ss_inspect.proofs.Ordered.{none_past}
+use Rattle.ss_inspect.specs.Living.{living_at, living_numbers}
+use Rattle.ss_inspect.proofs.TextSequences.{none_past}
 
 -- there is no entity past the greatest number
 pub none_there : (st : Store) (c i : ℕ) → greatest_number st c ≤ i → exists st c (suc i) ≡ false
@@ -18,5 +18,6 @@ none_living : (st : Store) (c i : ℕ) → greatest_number st c ≤ i → living
 none_living st c i h = rw (none_there st c i h) refl
 
 -- those that live are all up to any limit that none is past
-pub all_living : (st : Store) (c m : ℕ) → greatest_number st c ≤ m → lines_below (living_at st c) m ≡ living st c
+pub all_living : (st : Store) (c m : ℕ) → greatest_number st c ≤ m →
+    lines_below (living_at st c) m ≡ living_numbers st c
 all_living st c m h = none_past (living_at st c) (greatest_number st c) m h (none_living st c)

@@ -11,7 +11,7 @@ use Rattle.ss_store.specs.Store.{Store, Entity, entity, exists, members_of, memb
 use Rattle.ss_store.specs.Store.{greatest_number}
 use Rattle.ss_debug.specs.Entities.{shape_of, lines_below}
 use Rattle.ss_inspect.specs.Lists.{owned_list_with}
-use Rattle.ss_inspect.proofs.Ordered.{none_past}
+use Rattle.ss_inspect.proofs.TextSequences.{none_past}
 use Rattle.ss_inspect.proofs.Numbers.{none_there}
 
 get_range : {X : Type 0} (f : ℕ → X) (a n i : ℕ) → i < n → slice_get (map f (range_with_len a n)) i ≡ Some (f (a + i))

@@ -10,13 +10,13 @@ abbrev pub living_at : Store → ℕ → ℕ → List ℕ
 living_at st c i = if exists st c (suc i) then suc i ∷ [] else []
 
 -- the entities of class c that live, the least number first
-abbrev pub living : Store → ℕ → List ℕ
-living st c = texts_below (living_at st c) (greatest_number st c)
+abbrev pub living_numbers : Store → ℕ → List ℕ
+living_numbers st c = texts_below (living_at st c) (greatest_number st c)
 
 -- the entities of a class that live, or that there is no such class
 abbrev pub class_living_text : List ℕ → Store → Option ℕ → List ℕ
 class_living_text name st None = no_such_text (codes "CLASS") name
-class_living_text name st (Some c) = name ++ codes ": " ++ members_text (living st c) ++ 10 ∷ []
+class_living_text name st (Some c) = name ++ codes ": " ++ members_text (living_numbers st c) ++ 10 ∷ []
 
 -- the answer to SHOW c in state p
 unfoldable pub living_text : List ℕ → Input → ℕ → List ℕ

@@ -12,7 +12,7 @@ use Rattle.ss_program.specs.Program.{ProgramTable, class_of, set_of, section_of}
 use Rattle.ss_store.specs.Store.{Store}
 use Rattle.ss_machine.specs.Run.{Input, run}
 use Rattle.ss_inspect.specs.Texts.{texts_below, lines_or}
-use Rattle.ss_inspect.specs.Living.{living}
+use Rattle.ss_inspect.specs.Living.{living_numbers}
 
 -- the word of a class's kind
 abbrev pub kind_word : ClassKind → List ℕ
@@ -24,7 +24,7 @@ kind_word (OfEvent e) = codes "EVENT"
 abbrev pub class_line : ProgramTable → Store → ℕ → List ℕ
 class_line p st c =
     (class_of p c).name ++ codes " " ++ kind_word (class_of p c).kind ++ codes ": "
-    ++ decimal (length (living st c)) ++ 10 ∷ []
+    ++ decimal (length (living_numbers st c)) ++ 10 ∷ []
 
 -- the answer to SHOW CLASSES in state p
 unfoldable pub classes_text : Input → ℕ → List ℕ

@@ -3,7 +3,7 @@ ghost use Rattle.std.specs.Prelude.{◌≡◌, ◌++◌, ◌-◌, ◌<◌, ◌�
 ghost use Rattle.ss_store.specs.Tables.{class_of};
 ghost use Rattle.ss_machine.specs.Moment.{position};
 ghost use Rattle.ss_store.specs.Store.{greatest_number};
-ghost use Rattle.ss_inspect.specs.Living.{living_at, living, living_text};
+ghost use Rattle.ss_inspect.specs.Living.{living_at, living_numbers, living_text};
 
 use crate::texts::{push_members, push_no_such};
 use ss_debug::find_class;
@@ -45,7 +45,7 @@ fn living_within<S: SetBoard>(
     limit: u32,
 ) -> Result<Vec<u32>, AllocError>
     requires { greatest_number store.now.state class ≤ limit }
-    ensures { IfOk result (λ numbers. numbers.items ≡ living store.now.state class) }
+    ensures { IfOk result (λ numbers. numbers.items ≡ living_numbers store.now.state class) }
 {
     let mut numbers = Vec::new(alloc);
     for below in 0..limit {
@@ -69,7 +69,7 @@ fn one_if_living<S: SetBoard>(store: &Store<S>, class: usize, below: u32) -> u32
 /// How many entities of a class live, none of which is past a limit.
 fn count_living_within<S: SetBoard>(store: &Store<S>, class: usize, limit: u32) -> u32
     requires { greatest_number store.now.state class ≤ limit }
-    ensures { result ≡ length (living store.now.state class) }
+    ensures { result ≡ length (living_numbers store.now.state class) }
 {
     let mut count = 0u32;
     for below in 0..limit {
@@ -82,21 +82,22 @@ fn count_living_within<S: SetBoard>(store: &Store<S>, class: usize, limit: u32) 
 /// once at each number that an entity of the class may have.
 ///
 /// `AllocError` where the room for them was refused.
-pub fn living<S: SetBoard>(
+pub fn living_numbers<S: SetBoard>(
     alloc: Global,
     machine: &Machine<S>,
     class: usize,
 ) -> Result<Vec<u32>, AllocError>
-    ensures { IfOk result (λ numbers. numbers.items ≡ living machine.now.state.store class) }
+    ensures { IfOk result (λ numbers. numbers.items
+        ≡ living_numbers machine.now.state.store class) }
 {
     let store = machine.store();
     living_within(alloc, store, class, number_limit(store, class))
 }
 
 /// How many entities of the class with this number live. It takes no memory, and as long as
-/// [`living`].
+/// [`living_numbers`].
 pub fn count_living<S: SetBoard>(machine: &Machine<S>, class: usize) -> u32
-    ensures { result ≡ length (living machine.now.state.store class) }
+    ensures { result ≡ length (living_numbers machine.now.state.store class) }
 {
     let store = machine.store();
     count_living_within(store, class, number_limit(store, class))
@@ -118,7 +119,7 @@ pub fn push_living<S: SetBoard>(
     let Some(class) = find_class(machine.program(), name) else {
         return push_no_such(text, b"CLASS", name);
     };
-    let numbers = living(alloc, machine, class)?;
+    let numbers = living_numbers(alloc, machine, class)?;
     text.extend_from_slice(name)?;
     text.extend_from_slice(b": ")?;
     push_members(text, &numbers)?;

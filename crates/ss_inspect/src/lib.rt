@@ -20,7 +20,7 @@ mod texts;
 
 pub use attribute::{push_attribute, push_by_variable, variable_value};
 pub use counts::{members_page, push_count};
-pub use entities::{count_living, living, push_living};
+pub use entities::{count_living, living_numbers, push_living};
 pub use frames::{push_calls, push_globals, push_locals};
 pub use laws::the_living_are_those_that_exist;
 pub use places::push_places;

@@ -8,7 +8,7 @@ use Rattle.ss_program.specs.Program.{ProgramTable, class_of, set_of, is_same_own
 use Rattle.ss_store.specs.Store.{Store, exists, attribute_of, members_of}
 use Rattle.ss_debug.specs.Entities.{shape_of}
 use Rattle.ss_inspect.specs.Texts.{texts_below, name_at}
-use Rattle.ss_inspect.specs.Living.{living}
+use Rattle.ss_inspect.specs.Living.{living_numbers}
 use Rattle.ss_messages.specs.Bodies.{variable_item}
 use Rattle.ss_messages.specs.Shown.{paged_item}
 use Rattle.ss_scopes.specs.References.{class_reference, set_reference}
@@ -31,7 +31,8 @@ entity_items p c i (k ∷ ks) = entity_item p c i k ++ entity_items p c (suc i) 
 -- a page of the entities of class c that live, the least number first
 abbrev pub living_page : ProgramTable → Store → ℕ → ℕ → ℕ → List ℕ
 living_page p st c start count =
-    entity_items p c start (take (page_size start count (length (living st c))) (drop start (living st c)))
+    entity_items p c start
+    (take (page_size start count (length (living_numbers st c))) (drop start (living_numbers st c)))
 
 -- the same, if there is such a class
 abbrev pub class_page : ProgramTable → Store → ℕ → ℕ → ℕ → List ℕ

@@ -6,7 +6,7 @@ use Rattle.ss_program.specs.Program.{ProgramTable, class_of, set_of}
 use Rattle.ss_store.specs.Store.{Store, members_of}
 use Rattle.ss_debug.specs.Entities.{shape_of}
 use Rattle.ss_inspect.specs.Texts.{texts_below}
-use Rattle.ss_inspect.specs.Living.{living}
+use Rattle.ss_inspect.specs.Living.{living_numbers}
 use Rattle.ss_inspect.specs.Lists.{members_page}
 use Rattle.ss_messages.specs.Shown.{paged_item}
 use Rattle.ss_scopes.specs.References.{class_reference, set_reference}
@@ -16,7 +16,8 @@ use Rattle.ss_scopes.specs.Entities.{entity_name, entity_items, list_item}
 -- class number c: how many of its entities live
 abbrev pub class_item : ProgramTable → Store → ℕ → List ℕ
 class_item p st c =
-    paged_item (class_of p c).name (decimal (length (living st c))) (class_reference c 0) (length (living st c))
+    paged_item (class_of p c).name (decimal (length (living_numbers st c))) (class_reference c 0)
+    (length (living_numbers st c))
 
 -- the classes in order of declaration
 abbrev pub class_items : ProgramTable → Store → List ℕ
@@ -26,7 +27,8 @@ class_items p st = texts_below (class_item p st) (length p.classes)
 abbrev pub set_item_by : ProgramTable → Store → ℕ → Owner → List ℕ
 set_item_by p st s System = list_item p st (set_of p s).name s 0
 set_item_by p st s (OwnedBy c) =
-    paged_item (set_of p s).name (decimal (length (living st c))) (set_reference s 0) (length (living st c))
+    paged_item (set_of p s).name (decimal (length (living_numbers st c))) (set_reference s 0)
+    (length (living_numbers st c))
 
 -- the same
 abbrev pub set_item : ProgramTable → Store → ℕ → List ℕ
@@ -50,7 +52,7 @@ lists_of p st s c (k ∷ ks) = list_item p st (entity_name p c k) s k ++ lists_o
 -- a page of the lists of set number s for the entities of class c that live
 abbrev pub lists_page : ProgramTable → Store → ℕ → ℕ → ℕ → ℕ → List ℕ
 lists_page p st s c start count =
-    lists_of p st s c (take (page_size start count (length (living st c))) (drop start (living st c)))
+    lists_of p st s c (take (page_size start count (length (living_numbers st c))) (drop start (living_numbers st c)))
 
 -- a page of the members or lists of set number s
 abbrev pub set_part : ProgramTable → Store → ℕ → ℕ → ℕ → Owner → List ℕ

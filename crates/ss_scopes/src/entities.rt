@@ -16,7 +16,7 @@ use crate::pages::numbers_on;
 use crate::rows::{attributes_of, name_at};
 use itoa::Buffer;
 use ss_debug::{class_name, member_class, push_number, set_name, set_owner};
-use ss_inspect::living;
+use ss_inspect::living_numbers;
 use ss_links::SetBoard;
 use ss_machine::Machine;
 use ss_messages::{paged_item, variable_item};
@@ -98,7 +98,7 @@ fn push_living<S: SetBoard>(
     ensures { OnOk result (out.new.items ≡ out.old.items
         ++ living_page machine.now.input.program machine.now.state.store class start count) }
 {
-    let numbers = living(alloc, machine, class)?;
+    let numbers = living_numbers(alloc, machine, class)?;
     let page = numbers_on(&numbers, start, count);
     push_entities(alloc, out, machine.program(), class, start as u64, page)
 }

@@ -10,7 +10,7 @@ use crate::group::{class_reference, set_reference};
 use crate::pages::{numbers_on, page_size};
 use itoa::Buffer;
 use ss_debug::{class_name, member_class, set_name, set_owner};
-use ss_inspect::{count_living, living, members_page};
+use ss_inspect::{count_living, living_numbers, members_page};
 use ss_links::SetBoard;
 use ss_machine::Machine;
 use ss_messages::paged_item;
@@ -171,7 +171,7 @@ fn push_lists<S: SetBoard>(
     ensures { OnOk result (out.new.items ≡ out.old.items
         ++ lists_page machine.now.input.program machine.now.state.store set class start count) }
 {
-    let numbers = living(alloc, machine, class)?;
+    let numbers = living_numbers(alloc, machine, class)?;
     let page = numbers_on(&numbers, start, count);
     push_lists_of(alloc, out, machine, set, class, page)
 }

@@ -6,7 +6,7 @@ use Rattle.ss_changes.specs.declared.part.Part.TheVariants.{Taken, Entry, Clock,
 use Rattle.ss_changes.specs.Parts.{below_of, global_part, local_parts, attribute_parts, entity_parts, list_parts}
 use Rattle.ss_changes.specs.Parts.{notice_parts, parts_of}
 use Rattle.ss_changes.specs.View.{program_of, state_of, state_before, changed_among}
-use Rattle.ss_changes.proofs.Standing.{stayed, returned_on}
+use Rattle.ss_changes.proofs.Returns.{stayed, returned_on}
 use Rattle.ss_changes.proofs.Saying.{next_section}
 use Rattle.ss_changes.proofs.changes.last_changes.Goals as goal
 

@@ -1,6 +1,6 @@
 use Rattle.std.proofs.Common.{refl}
 use Rattle.ss_changes.specs.Parts.{attribute_parts}
-use Rattle.ss_changes.proofs.Standing.{returned_on, still_kept, changes_more}
+use Rattle.ss_changes.proofs.Returns.{returned_on, still_kept, changes_more}
 use Rattle.ss_changes.proofs.changes.push_all_attributes.Goals as goal
 
 pub push_attributes-requires : goal.push_attributes-requires

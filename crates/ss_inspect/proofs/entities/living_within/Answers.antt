@@ -1,6 +1,6 @@
 use Rattle.std.proofs.Common.{◌≡◌, [], refl, arith, ◌∙◌}
 use Rattle.ss_inspect.specs.Living.{living_at}
-use Rattle.ss_inspect.proofs.Ordered.{text_more}
+use Rattle.ss_inspect.proofs.TextSequences.{text_more}
 use Rattle.ss_inspect.proofs.Numbers.{all_living}
 use Rattle.ss_inspect.proofs.entities.living_within.Goals as goal
 

@@ -1,6 +1,6 @@
 use Rattle.std.proofs.Common.{refl}
 use Rattle.ss_inspect.specs.Frames.{frame_line}
-use Rattle.ss_inspect.proofs.Ordered.{text_more}
+use Rattle.ss_inspect.proofs.TextSequences.{text_more}
 use Rattle.ss_inspect.proofs.frames.push_frames.Goals as goal
 
 pub loop-depth-preserved : goal.loop-depth-preserved

@@ -1,6 +1,6 @@
 use Rattle.std.proofs.Common.{refl}
 use Rattle.ss_inspect.specs.Frames.{listed_local}
-use Rattle.ss_inspect.proofs.Ordered.{text_more}
+use Rattle.ss_inspect.proofs.TextSequences.{text_more}
 use Rattle.ss_inspect.proofs.frames.push_listed_locals.Goals as goal
 
 pub loop-number-preserved : goal.loop-number-preserved

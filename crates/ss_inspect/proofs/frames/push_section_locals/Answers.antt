@@ -1,6 +1,6 @@
 use Rattle.std.proofs.Common.{refl}
 use Rattle.ss_inspect.specs.Frames.{local_line}
-use Rattle.ss_inspect.proofs.Ordered.{text_more}
+use Rattle.ss_inspect.proofs.TextSequences.{text_more}
 use Rattle.ss_inspect.proofs.frames.push_section_locals.Goals as goal
 
 pub loop-number-preserved : goal.loop-number-preserved

@@ -1,7 +1,7 @@
 use Rattle.std.proofs.Common.{refl, w64, to_z, of_z}
 use Rattle.ss_store.specs.Store.{number_of}
 use Rattle.ss_inspect.specs.Lists.{class_lists_with}
-use Rattle.ss_inspect.proofs.Ordered.{text_more}
+use Rattle.ss_inspect.proofs.TextSequences.{text_more}
 use Rattle.ss_inspect.proofs.places.push_lists_with.Goals as goal
 
 pub loop-set-preserved : goal.loop-set-preserved

@@ -4,7 +4,7 @@ use Rattle.std.proofs.lemmas.Int.{to_z-of_z}
 use Rattle.ss_store.specs.Store.{number_of, greatest_number}
 use Rattle.ss_debug.specs.Entities.{lines_below}
 use Rattle.ss_inspect.specs.Lists.{list_with, owned_list_with}
-use Rattle.ss_inspect.proofs.Ordered.{text_more}
+use Rattle.ss_inspect.proofs.TextSequences.{text_more}
 use Rattle.ss_inspect.proofs.Shapes.{all_lists}
 use Rattle.ss_inspect.proofs.places.push_owned_lists_with.Goals as goal
 

@@ -1,6 +1,6 @@
 use Rattle.std.proofs.Common.{refl}
 use Rattle.ss_inspect.specs.Tables.{class_line}
-use Rattle.ss_inspect.proofs.Ordered.{text_more}
+use Rattle.ss_inspect.proofs.TextSequences.{text_more}
 use Rattle.ss_inspect.proofs.tables.push_all_classes.Goals as goal
 
 pub loop-class-preserved : goal.loop-class-preserved

@@ -1,6 +1,6 @@
 use Rattle.std.proofs.Common.{refl}
 use Rattle.ss_inspect.specs.Tables.{section_line}
-use Rattle.ss_inspect.proofs.Ordered.{text_more}
+use Rattle.ss_inspect.proofs.TextSequences.{text_more}
 use Rattle.ss_inspect.proofs.tables.push_all_sections.Goals as goal
 
 pub loop-number-preserved : goal.loop-number-preserved

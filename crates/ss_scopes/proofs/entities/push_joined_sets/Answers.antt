@@ -1,5 +1,5 @@
 use Rattle.std.proofs.Common.{refl}
-use Rattle.ss_inspect.proofs.Ordered.{text_more}
+use Rattle.ss_inspect.proofs.TextSequences.{text_more}
 use Rattle.ss_scopes.specs.Entities.{joined_item}
 use Rattle.ss_scopes.proofs.entities.push_joined_sets.Goals as goal
 

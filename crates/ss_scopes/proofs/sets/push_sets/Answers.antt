@@ -1,5 +1,5 @@
 use Rattle.std.proofs.Common.{refl}
-use Rattle.ss_inspect.proofs.Ordered.{text_more}
+use Rattle.ss_inspect.proofs.TextSequences.{text_more}
 use Rattle.ss_scopes.specs.Sets.{set_item}
 use Rattle.ss_scopes.proofs.sets.push_sets.Goals as goal
 

@@ -8,7 +8,7 @@ use Rattle.ss_links.specs.Seats.{has}
 use Rattle.ss_links.proofs.SeatLaws.{has-append}
 use Rattle.ss_debug.specs.Entities.{lines_below}
 use Rattle.ss_store.specs.Store.{Store, exists, greatest_number}
-use Rattle.ss_inspect.specs.Living.{living_at, living}
+use Rattle.ss_inspect.specs.Living.{living_at, living_numbers}
 use Rattle.ss_inspect.proofs.Numbers.{none_there}
 
 -- the number at a place is told just where it exists
@@ -64,10 +64,10 @@ not_past st c zero h = refl
 not_past st c (suc i) h = none_there st c i (omega (arith, h))
 
 -- the numbers that are told are those that exist
-pub living_exist : (st : Store) (c k : ℕ) → has (living st c) k ≡ exists st c k
+pub living_exist : (st : Store) (c k : ℕ) → has (living_numbers st c) k ≡ exists st c k
 living_exist st c k = split (nat_lt (greatest_number st c) k) refl
   where
-    split : (b : Bool) → nat_lt (greatest_number st c) k ≡ b → has (living st c) k ≡ exists st c k
+    split : (b : Bool) → nat_lt (greatest_number st c) k ≡ b → has (living_numbers st c) k ≡ exists st c k
     split true e =
         let more : greatest_number st c < k = ltb-true (greatest_number st c) k e in
         past st c (greatest_number st c) k more ∙ sym (not_past st c k more)
