@@ -28,7 +28,7 @@ impl<W: io::Write + Drop> Outlet for Stream<W> {
 
     ghost failures = { λ s. s.failures };
 
-    #[tactic(auto, using(crate::proofs::Kept::kept_appends_none))]
+    #[tactic(auto, using(crate::proofs::EmptyAppends::kept_appends_none))]
     fn put(&mut self, piece: &[u8]) -> Result<usize, PutFault> {
         match self.writer.write(piece) {
             Ok(0) => {

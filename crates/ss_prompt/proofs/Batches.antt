@@ -11,7 +11,7 @@ use Rattle.ss_console.specs.Laws.{answers}
 use Rattle.ss_prompt.specs.declared.commands.PromptCommand.TheVariants.{Plain}
 use Rattle.ss_prompt.specs.PromptState.{PromptState}
 use Rattle.ss_prompt.specs.Plain.{plain_next, plain_said, plain_stop}
-use Rattle.ss_prompt.specs.Prompting.{prompting, prompt_answer, prompt_state_after}
+use Rattle.ss_prompt.specs.Prompting.{prompt_meaning, prompt_answer, prompt_state_after}
 use Rattle.ss_prompt.specs.Reading.{prompt_command_of}
 use Rattle.ss_prompt.specs.Laws.{ArePlain, AnswersFirst, PlainLinesAnswerTheBatch, PlainLinesLeadAsTheBatch}
 use Rattle.ss_prompt.proofs.Plains.{plain_lines}
@@ -26,12 +26,12 @@ up_to false t d lines text h = h
 -- what a line is answered that is the plain command c, and what those behind it are
 abbrev with_rest : PromptState → Command → List (List ℕ) → List ℕ
 with_rest s c lines =
-    plain_said s c ++ (if is_quit c then [] else answers prompting (plain_next s c) lines)
+    plain_said s c ++ (if is_quit c then [] else answers prompt_meaning (plain_next s c) lines)
 
 -- the answers to a line and to those behind it
 answered_line : (s : PromptState) (line : List ℕ) (lines : List (List ℕ)) →
     prompt_command_of line ≡ Plain (command_of line) →
-    answers prompting s (line ∷ lines) ≡ with_rest s (command_of line) lines
+    answers prompt_meaning s (line ∷ lines) ≡ with_rest s (command_of line) lines
 unfolding answers prompt_answer prompt_state_after
 answered_line s line lines e = rw e refl
 
@@ -40,12 +40,12 @@ unfolding ArePlain AnswersFirst answers
 plain_batch s [] h = refl
 plain_batch s (line ∷ lines) h =
     let c = command_of line in
-    let rest : List ℕ = if is_quit c then [] else answers prompting (plain_next s c) lines in (
+    let rest : List ℕ = if is_quit c then [] else answers prompt_meaning (plain_next s c) lines in (
       plain_stop s c,
       rest,
       answered_line s line lines (plain_lines line h.0),
       up_to (is_quit c) s.input (debugger_state_after s.input s.debugger c) (obeyed_lines lines)
-          (answers prompting (plain_next s c) lines) (plain_batch (plain_next s c) lines h.1),
+          (answers prompt_meaning (plain_next s c) lines) (plain_batch (plain_next s c) lines h.1),
     )
 
 -- the state behind a line
@@ -58,6 +58,6 @@ pub plain_led : PlainLinesLeadAsTheBatch
 unfolding ArePlain state_after_all debugger_state_after_lines
 plain_led s [] h = refl
 plain_led s (line ∷ lines) h =
-    ap (λ (v : PromptState). (state_after_all prompting v (map answered lines)).debugger)
+    ap (λ (v : PromptState). (state_after_all prompt_meaning v (map answered lines)).debugger)
     (led_line s line (plain_lines line h.0))
     ∙ plain_led (plain_next s (command_of line)) lines h.1

@@ -4,9 +4,9 @@ pub mod Unfoldings
 pub mod Plains
 pub mod Refusals
 pub mod Batches
-pub mod Kepts
-pub mod Besides
+pub mod KeptLines
+pub mod NeighbourStates
 pub mod SameRuns
-pub mod Lents
+pub mod Desks
 pub mod SourceLines
 pub mod Others

@@ -7,7 +7,7 @@ use Rattle.std.proofs.lemmas.Bool.Decides.{nat_tests}
 use Rattle.ss_console.specs.Lines.{lines, onto_first}
 use Rattle.ss_debug.specs.CommandLines.{separates, line_separators, command_lines}
 use Rattle.ss_prompt.specs.Source.{without_return, source_lines}
-use Rattle.ss_prompt.proofs.Kepts.{lines_same}
+use Rattle.ss_prompt.proofs.KeptLines.{lines_same}
 
 -- ---- the first line of a text
 

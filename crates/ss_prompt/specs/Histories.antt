@@ -31,9 +31,9 @@ rows_in (Forget n) = Some n
 rows_in _ = None
 
 -- a question with a number of rows, where both are there
-abbrev pub wanted : Option Question → Option ℕ → Option (Question × ℕ)
-wanted (Some x) (Some n) = Some (x, n)
-wanted _ _ = None
+abbrev pub question_with_rows : Option Question → Option ℕ → Option (Question × ℕ)
+question_with_rows (Some x) (Some n) = Some (x, n)
+question_with_rows _ _ = None
 
 -- the question of a line, if it is not too long
 abbrev pub asked_in : Option (List ℕ) → Option Question
@@ -42,12 +42,12 @@ asked_in (Some line) = asked_of (command_words line)
 
 -- a question, with as many rows as there are unless it is said
 abbrev pub plainly : List (List ℕ) → Option (Question × ℕ)
-plainly words = wanted (asked_of words) (Some ROWS_UNLESS_SAID)
+plainly words = question_with_rows (asked_of words) (Some ROWS_UNLESS_SAID)
 
 -- a question and, as its last word, a number of rows
 abbrev pub with_rows : List (List ℕ) → Option (Question × ℕ)
 with_rows words =
-    wanted (asked_in (line_behind [] (all_but_last words)))
+    question_with_rows (asked_in (line_behind [] (all_but_last words)))
     (rows_in (command_behind (codes "FORGET") (only_last words)))
 
 -- whether some words are two

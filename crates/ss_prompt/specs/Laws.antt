@@ -14,7 +14,7 @@ use Rattle.ss_prompt.specs.declared.commands.PromptCommand.TheVariants.{Plain}
 use Rattle.ss_prompt.specs.Points.{is_movement, point_of}
 use Rattle.ss_prompt.specs.Reading.{prompt_command_of}
 use Rattle.ss_prompt.specs.PromptState.{PromptState}
-use Rattle.ss_prompt.specs.Prompting.{prompt_answer, prompt_state_after, prompting}
+use Rattle.ss_prompt.specs.Prompting.{prompt_answer, prompt_state_after, prompt_meaning}
 
 -- a line is a command of docs/DEBUGGER.md
 abbrev pub IsPlain : List ℕ → Type 0
@@ -48,13 +48,13 @@ AnswersFirst t d (line ∷ lines) text =
 abbrev pub PlainLinesAnswerTheBatch : Type 0
 PlainLinesAnswerTheBatch =
     (s : PromptState) (lines : List (List ℕ)) → ArePlain lines →
-    AnswersFirst s.input s.debugger (obeyed_lines lines) (answers prompting s lines)
+    AnswersFirst s.input s.debugger (obeyed_lines lines) (answers prompt_meaning s lines)
 
 -- and they lead to the state of which a transcript tells the report
 abbrev pub PlainLinesLeadAsTheBatch : Type 0
 PlainLinesLeadAsTheBatch =
     (s : PromptState) (lines : List (List ℕ)) → ArePlain lines →
-    (state_after_all prompting s (map answered lines)).debugger
+    (state_after_all prompt_meaning s (map answered lines)).debugger
     ≡ debugger_state_after_lines s.input s.debugger lines
 
 -- the lines that a console gives are those of a batch
@@ -69,7 +69,8 @@ KeptLinesSayTheSame = (line : List ℕ) → prompt_command_of (kept_part line) �
 abbrev pub PlainTextsAnswerTheBatch : Type 0
 PlainTextsAnswerTheBatch =
     (s : PromptState) (text : List ℕ) → ArePlain (command_lines text) →
-    AnswersFirst s.input s.debugger (obeyed_lines (command_lines text)) (answers prompting s (map kept_part (lines text)))
+    AnswersFirst s.input s.debugger (obeyed_lines (command_lines text))
+    (answers prompt_meaning s (map kept_part (lines text)))
 
 -- a command that names no line of the model leaves the break lines as they are
 abbrev pub OthersLeaveTheBreakLines : Type 0

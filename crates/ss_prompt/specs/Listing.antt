@@ -12,10 +12,10 @@ abbrev pub mark_of : ℕ → ℕ → List ℕ
 mark_of present l = if nat_eq l present then codes "> " else codes ": "
 
 -- so many lines from one on, each behind its number and a mark
-abbrev pub listed : List (List ℕ) → ℕ → ℕ → ℕ → List ℕ
-listed lines present from zero = []
-listed lines present from (suc k) =
-    listed lines present from k ++ marked_line lines (mark_of present (from + k)) (from + k)
+abbrev pub listed_lines : List (List ℕ) → ℕ → ℕ → ℕ → List ℕ
+listed_lines lines present from zero = []
+listed_lines lines present from (suc k) =
+    listed_lines lines present from k ++ marked_line lines (mark_of present (from + k)) (from + k)
 
 -- the line of the present place
 abbrev pub present_line : PromptState → ℕ
@@ -23,7 +23,7 @@ present_line s = line_at s.input s.debugger.position
 
 -- the lines from one to another that there are
 abbrev pub listed_to : List (List ℕ) → ℕ → ℕ → ℕ → List ℕ
-listed_to lines present from to = listed lines present from (min (length lines) to + 1 - from)
+listed_to lines present from to = listed_lines lines present from (min (length lines) to + 1 - from)
 
 -- line l with the five before it and the five behind it
 abbrev pub listed_about : List (List ℕ) → ℕ → ℕ → List ℕ

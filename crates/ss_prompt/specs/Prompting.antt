@@ -75,8 +75,8 @@ abbrev pub refusal_text : PromptState → List ℕ
 refusal_text s = refusal_at s.input s.debugger.position
 
 -- a dialogue with the debugger
-abbrev pub prompting : Meaning
-prompting = record {
+abbrev pub prompt_meaning : Meaning
+prompt_meaning = record {
   State = PromptState;
   position = λ s. s.debugger.position;
   said = λ s line. prompt_answer s (prompt_command_of line);

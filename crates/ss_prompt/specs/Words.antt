@@ -8,15 +8,15 @@ use Rattle.ss_debug.specs.declared.commands.Question.{Question}
 use Rattle.ss_debug.specs.declared.commands.Question.TheVariants.{Variable}
 
 -- a line with one more word, behind a blank
-abbrev pub appended : List ℕ → List ℕ → List ℕ
-appended [] word = word
-appended (b ∷ line) word = (b ∷ line) ++ 32 ∷ word
+abbrev pub line_with_word : List ℕ → List ℕ → List ℕ
+line_with_word [] word = word
+line_with_word (b ∷ line) word = (b ∷ line) ++ 32 ∷ word
 
 -- the same, if it is no longer than a line may be
 unfoldable pub with_word : Option (List ℕ) → List ℕ → Option (List ℕ)
 with_word None word = None
 with_word (Some line) word =
-    if nat_le (length (appended line word)) LINE_LIMIT then Some (appended line word) else None
+    if nat_le (length (line_with_word line word)) LINE_LIMIT then Some (line_with_word line word) else None
 
 -- a line of some words behind a beginning, if it is no longer than a line may be
 abbrev pub line_behind : List ℕ → List (List ℕ) → Option (List ℕ)

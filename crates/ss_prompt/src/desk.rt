@@ -124,14 +124,15 @@ impl<'a> PromptDesk<'a> {
     }
 
     /// Appends what the last step changed; where a movement went back, what the next one will.
-    #[tactic(auto, using(crate::proofs::Besides::beside), unfolding(crate::specs::Stops::HasLookedBeside))]
+    #[tactic(auto, using(crate::proofs::NeighbourStates::beside), unfolding(crate::specs::Stops::HasLookedBeside))]
     fn push_changes<S: SetBoard>(
         &self,
         debugger: &mut Debugger<S>,
         is_back: bool,
         answer: &mut Vec<u8>,
     ) -> Result<(), AllocError>
-        ensures place { OnOk result (state_at debugger.new self.now ≡ state_at debugger.old self.now) }
+        ensures place { OnOk result (state_at debugger.new self.now
+            ≡ state_at debugger.old self.now) }
         ensures said { OnOk result (answer.new.items
             ≡ answer.old.items ++ changes_told is_back (state_at debugger.old self.now)) }
         ensures memory { OnErr result
@@ -152,7 +153,8 @@ impl<'a> PromptDesk<'a> {
         is_back: bool,
         answer: &mut Vec<u8>,
     ) -> Result<(), AllocError>
-        ensures place { OnOk result (state_at debugger.new self.now ≡ state_at debugger.old self.now) }
+        ensures place { OnOk result (state_at debugger.new self.now
+            ≡ state_at debugger.old self.now) }
         ensures said { OnOk result (answer.new.items
             ≡ answer.old.items ++ stop_text is_back (state_at debugger.old self.now)) }
         ensures memory { OnErr result
@@ -256,13 +258,14 @@ impl<'a> PromptDesk<'a> {
     }
 
     /// SHOW CHANGED.
-    #[tactic(auto, using(crate::proofs::Besides::behind), unfolding(crate::specs::Stops::HasLookedBeside))]
+    #[tactic(auto, using(crate::proofs::NeighbourStates::behind), unfolding(crate::specs::Stops::HasLookedBeside))]
     fn changed<S: SetBoard>(
         &self,
         debugger: &mut Debugger<S>,
         answer: &mut Vec<u8>,
     ) -> Result<(), AllocError>
-        ensures place { OnOk result (state_at debugger.new self.now ≡ state_at debugger.old self.now) }
+        ensures place { OnOk result (state_at debugger.new self.now
+            ≡ state_at debugger.old self.now) }
         ensures said { OnOk result (answer.new.items
             ≡ answer.old.items ++ changed_said (state_at debugger.old self.now)) }
         ensures memory { OnErr result
@@ -279,7 +282,8 @@ impl<'a> PromptDesk<'a> {
         question: &Question,
         answer: &mut Vec<u8>,
     ) -> Result<(), AllocError>
-        ensures place { OnOk result (state_at debugger.new self.now ≡ state_at debugger.old self.now) }
+        ensures place { OnOk result (state_at debugger.new self.now
+            ≡ state_at debugger.old self.now) }
         ensures said { OnOk result (answer.new.items
             ≡ answer.old.items ++ why_said (state_at debugger.old self.now) question.now) }
         ensures memory { OnErr result
@@ -302,7 +306,8 @@ impl<'a> PromptDesk<'a> {
         rows: u64,
         answer: &mut Vec<u8>,
     ) -> Result<(), AllocError>
-        ensures place { OnOk result (state_at debugger.new self.now ≡ state_at debugger.old self.now) }
+        ensures place { OnOk result (state_at debugger.new self.now
+            ≡ state_at debugger.old self.now) }
         ensures said { OnOk result (answer.new.items
             ≡ answer.old.items ++ history_said (state_at debugger.old self.now) question.now rows) }
         ensures memory { OnErr result

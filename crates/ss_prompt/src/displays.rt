@@ -45,7 +45,8 @@ pub(crate) fn display(
     question: Question,
     answer: &mut Vec<u8>,
 ) -> Result<(), AllocError>
-    ensures displays { OnOk result (displays.new.items ≡ displays_with displays.old.items question) }
+    ensures displays { OnOk result (displays.new.items
+        ≡ displays_with displays.old.items question) }
     ensures said { OnOk result (answer.new.items
         ≡ answer.old.items ++ display_text displays.old.items (asked question)) }
     ensures memory { OnErr result (displays.new.items ≡ displays.old.items) }

@@ -1,6 +1,6 @@
 //! Lines of the model are listed.
 ghost use Rattle.std.specs.Prelude.{◌≡◌, ◌+◌, ◌<◌, ◌^◌, ◌++◌, ◌∷◌, [], map, codes, decimal, OnOk};
-ghost use Rattle.ss_prompt.specs.Listing.{mark_of, listed, listed_to, listed_about};
+ghost use Rattle.ss_prompt.specs.Listing.{mark_of, listed_lines, listed_to, listed_about};
 
 use crate::source::push_marked_line;
 use itoa::Buffer;
@@ -26,7 +26,7 @@ fn push_lines(
 ) -> Result<(), AllocError>
     requires { from + count < 2 ^ 64 }
     ensures { OnOk result (text.new.items ≡ text.old.items
-        ++ listed (map (λ line. line.now) lines.now) present from count) }
+        ++ listed_lines (map (λ line. line.now) lines.now) present from count) }
 {
     for k in 0..count {
         let line = from + k;

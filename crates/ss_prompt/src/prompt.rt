@@ -2,7 +2,7 @@
 ghost use Rattle.std.specs.Prelude.{◌≡◌, ◌++◌, [], map, OnOk};
 ghost use Rattle.ss_machine.specs.Run.{run};
 ghost use Rattle.ss_prompt.specs.PromptState.{prompt_state_of, greeting};
-ghost use Rattle.ss_prompt.specs.Prompting.{prompting};
+ghost use Rattle.ss_prompt.specs.Prompting.{prompt_meaning};
 
 use crate::desk::PromptDesk;
 use crate::read::prompt_command;
@@ -69,7 +69,7 @@ impl<'a, S: SetBoard> Prompt<'a, S> {
 }
 
 impl<'a, S: SetBoard> Answerer for Prompt<'a, S> {
-    ghost meaning = { prompting };
+    ghost meaning = { prompt_meaning };
 
     ghost state = { λ p. p };
 

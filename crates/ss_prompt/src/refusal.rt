@@ -25,10 +25,12 @@ fn put_parts<'a, C: Console>(
 ) -> Result<(), PutFault>
     requires { (C.faults console.old).puts < 2 ^ 64 - 1 }
     ensures ok { OnOk result (Adds (C.log console.old) (C.log console.new)
-        (write_events (joined_texts (refusal_parts position.now clock.now word.now number.now section.now line.now)))
+        (write_events (joined_texts (refusal_parts position.now clock.now word.now number.now
+        section.now line.now)))
         × (C.faults console.new ≡ C.faults console.old)) }
     ensures err { OnErr result (AddsPart
-        (joined_texts (refusal_parts position.now clock.now word.now number.now section.now line.now))
+        (joined_texts (refusal_parts position.now clock.now word.now number.now
+        section.now line.now))
         (C.log console.old) (C.log console.new)
         × (C.faults console.new ≡ one_more_put (C.faults console.old))) }
     ensures lines { C.left console.new ≡ C.left console.old }
@@ -64,7 +66,8 @@ fn put_with<S: SetBoard, C: Console>(
 ) -> Result<(), PutFault>
     requires { (C.faults console.old).puts < 2 ^ 64 - 1 }
     ensures ok { OnOk result (Adds (C.log console.old) (C.log console.new)
-        (write_events (joined_texts (refusal_with machine.now.input (position machine.now) word.now number.now)))
+        (write_events (joined_texts (refusal_with machine.now.input (position machine.now)
+        word.now number.now)))
         × (C.faults console.new ≡ C.faults console.old)) }
     ensures err { OnErr result (AddsPart
         (joined_texts (refusal_with machine.now.input (position machine.now) word.now number.now))

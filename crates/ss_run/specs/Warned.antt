@@ -5,11 +5,11 @@ use Rattle.ss_names.specs.Unused.{program_warnings}
 use Rattle.ss_names.specs.Warnings.{warnings}
 
 -- the warnings of a model's words, and behind them those of its program, where it is one
-abbrev pub warned : List ℕ → Outcome → List ℕ
-warned model (refused_text rule line) = warnings model
-warned model (refused_check rule line) = warnings model
-warned model (accepted program) = warnings model ++ program_warnings program model
+abbrev pub warnings_of : List ℕ → Outcome → List ℕ
+warnings_of model (refused_text rule line) = warnings model
+warnings_of model (refused_check rule line) = warnings model
+warnings_of model (accepted program) = warnings model ++ program_warnings program model
 
 -- a text is the warnings of a model
 abbrev pub IsWarned : List ℕ → List ℕ → Type 0
-IsWarned model text = (outcome : Outcome) × IsOutcome model outcome × (text ≡ warned model outcome)
+IsWarned model text = (outcome : Outcome) × IsOutcome model outcome × (text ≡ warnings_of model outcome)

@@ -135,7 +135,8 @@ fn trace_to_end<S: SetBoard, P: Progress, T: Outlet>(
     requires start { position debugger.old.machine ≡ 0 }
     requires room { T.failures trace.old < 2 ^ 64 - 1 }
     ensures input { OnOk result (debugger.new.machine.input ≡ debugger.old.machine.input) }
-    ensures end { OnOk result (IsRunEnd debugger.old.machine.input (position debugger.new.machine)) }
+    ensures end { OnOk result (IsRunEnd debugger.old.machine.input
+        (position debugger.new.machine)) }
     ensures rows { OnOk result (HasTraced debugger.old.machine.input questions.now 0
         (position debugger.new.machine)
         (record { taken = T.taken trace.old; failures = T.failures trace.old })
@@ -166,7 +167,8 @@ fn trace_all<S: SetBoard, P: Progress, T: Outlet>(
     requires start { position debugger.old.machine ≡ 0 }
     requires room { T.failures trace.old < 2 ^ 64 - 1 }
     ensures input { OnOk result (debugger.new.machine.input ≡ debugger.old.machine.input) }
-    ensures end { OnOk result (IsRunEnd debugger.old.machine.input (position debugger.new.machine)) }
+    ensures end { OnOk result (IsRunEnd debugger.old.machine.input
+        (position debugger.new.machine)) }
     ensures ok { OnOk result (IsTraced debugger.old.machine.input questions.now
         (record { taken = T.taken trace.old; failures = T.failures trace.old })
         (record { taken = T.taken trace.new; failures = T.failures trace.new })) }

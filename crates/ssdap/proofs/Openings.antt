@@ -15,11 +15,12 @@ use Rattle.ss_messages.specs.declared.request.Request.{Request}
 use Rattle.ss_messages.specs.declared.request.Stops.{Stops}
 use Rattle.ss_adapter.specs.declared.turns.Further.{Further}
 use Rattle.ss_adapter.specs.Desk.{DeskView}
-use Rattle.ss_adapter.specs.Before.{IsLaunched, answer_to_launch, answer_to_refused_launch as refused_with, fault_line, answers_before}
+use Rattle.ss_adapter.specs.Before.{IsLaunched, answer_to_launch, answer_to_refused_launch, fault_line, answers_before}
 use Rattle.ss_adapter.specs.Turn.{AdapterState, adapter_state_of, answers, state_after, further_of}
 use Rattle.ss_serve.specs.Meaning.{IsAnswer}
 use Rattle.ssdap.specs.Shelves.{Stands, Given}
-use Rattle.ssdap.specs.Editing.{editing, editing_state, go_behind, IsStart, Opens, Opening, no_model, no_data, refused}
+use Rattle.ssdap.specs.Editing.{editor_meaning, editing_state, go_behind, IsStart, Opens, Opening, no_model}
+use Rattle.ssdap.specs.Editing.{no_data, refused}
 use Rattle.ssdap.specs.Editing.{opened, IsOpened, opening_messages, AnswersBefore}
 
 abbrev state_of : Input → DebuggerState → DeskView → AdapterState
@@ -42,7 +43,7 @@ abbrev Launches : Request → List ℕ → List ℕ → List ℕ → Stops → P
 Launches request path model text stops old new run =
     MatchOption run
     ((fault : LoadFault) × (fault ≢ Memory) × IsLoadFault fault model
-    × (new ≡ posted_all request old (refused_with (fault_line fault))))
+    × (new ≡ posted_all request old (answer_to_refused_launch (fault_line fault))))
     (λ r. IsLaunched model text path stops r.0 r.1 × (new ≡ posted_all request old answer_to_launch))
 
 -- that is one opening
@@ -80,7 +81,7 @@ launch_opens files request path data_path stops model text old new (Err fault) a
 pub turned : (files : Option (List ℕ → Option (List ℕ))) (s to : AdapterState) (request : Request)
     (old new : PostView) (further : Further) → new ≡ posted_all request old (answers s request.command) →
     to ≡ state_after s request.command → further ≡ further_of request.command →
-    IsAnswer editing (editing_state files (Some s)) (editing_state files (Some to)) request old new
+    IsAnswer editor_meaning (editing_state files (Some s)) (editing_state files (Some to)) request old new
     (go_behind further)
 turned files s to request old new further p e f = record {
   sent = answers s request.command;
@@ -118,7 +119,7 @@ no_data_is files request path data_path stops model old new s g p = record {
 pub launched_is : (files : Option (List ℕ → Option (List ℕ))) (request : Request) (path : List ℕ)
     (data_path : Option (List ℕ)) (stops : Stops) (old new : PostView) (run : Option AdapterState) →
     request.command ≡ Launch path data_path stops → IsOpened files request path data_path stops old new run →
-    IsAnswer editing (editing_state files None) (editing_state files run) request old new go.On
+    IsAnswer editor_meaning (editing_state files None) (editing_state files run) request old new go.On
 unfolding AnswersBefore
 launched_is files request path data_path stops old new run e o = record {
   sent = opening_messages o.opening;
@@ -131,7 +132,7 @@ launched_is files request path data_path stops old new run e o = record {
 pub before_is : (files : Option (List ℕ → Option (List ℕ))) (request : Request) (old new : PostView)
     (further : Further) → AnswersBefore files request.command (answers_before request.command) None →
     new ≡ posted_all request old (answers_before request.command) → further ≡ further_of request.command →
-    IsAnswer editing (editing_state files None) (editing_state files None) request old new (go_behind further)
+    IsAnswer editor_meaning (editing_state files None) (editing_state files None) request old new (go_behind further)
 before_is files request old new further a p f = record {
   sent = answers_before request.command;
   answers = (a, refl);

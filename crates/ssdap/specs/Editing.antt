@@ -16,7 +16,7 @@ use Rattle.ss_messages.specs.declared.request.Stops.{Stops}
 use Rattle.ss_messages.specs.Messages.{Sent, PostView, posted_all, failure}
 use Rattle.ss_adapter.specs.declared.turns.Further.{Further}
 use Rattle.ss_adapter.specs.declared.turns.Further.TheVariants.{On, Ended}
-use Rattle.ss_adapter.specs.Before.{answers_before, answer_to_launch, answer_to_refused_launch as refused_with, fault_line}
+use Rattle.ss_adapter.specs.Before.{answers_before, answer_to_launch, answer_to_refused_launch, fault_line}
 use Rattle.ss_adapter.specs.Turn.{AdapterState, answers, state_after, further_of}
 use Rattle.ss_serve.specs.Meaning.{Meaning}
 use Rattle.ss_serve.specs.Seen.{Seen}
@@ -81,7 +81,7 @@ Opens files path data_path stops (opened s) =
 abbrev pub opening_messages : Opening → List Sent
 opening_messages no_model = failure (codes "cannot read the model") ∷ []
 opening_messages no_data = failure (codes "cannot read the data") ∷ []
-opening_messages (refused fault) = refused_with (fault_line fault)
+opening_messages (refused fault) = answer_to_refused_launch (fault_line fault)
 opening_messages (opened s) = answer_to_launch
 
 -- the run behind it
@@ -118,8 +118,8 @@ abbrev pub go_behind : Further → Go
 go_behind further = go_of (is_ended further)
 
 -- what answers the requests of an editor
-abbrev pub editing : Meaning
-editing = record {
+abbrev pub editor_meaning : Meaning
+editor_meaning = record {
   State = EditingState;
   Answers = Answers;
   ends = λ request. is_ended (further_of request.command);
@@ -143,4 +143,4 @@ pub record IsOpened (files : Option (List ℕ → Option (List ℕ))) (request :
 
 -- a session before whose start no run is launched, and no message is sent
 abbrev pub IsServed : Option (List ℕ → Option (List ℕ)) → Seen → Result (Unit {0}) SessionFault → Type 0
-IsServed files c result = (last : EditingState) × HasEnded editing (editing_state files None) last 0 c result
+IsServed files c result = (last : EditingState) × HasEnded editor_meaning (editing_state files None) last 0 c result

@@ -2,7 +2,7 @@
 ghost use Rattle.std.specs.Prelude.{◌≡◌, ◌<◌, ◌^◌, None, option_map, IfOk};
 ghost use Rattle.ss_adapter.specs.Turn.{adapter_state_of};
 ghost use Rattle.ss_serve.specs.Meaning.{IsAnswer};
-ghost use Rattle.ssdap.specs.Editing.{editing, editing_state, go_behind, IsOpened};
+ghost use Rattle.ssdap.specs.Editing.{editor_meaning, editing_state, go_behind, IsOpened};
 ghost use Rattle.ssdap.specs.Shelves.{Given};
 
 use crate::shelf::Shelf;
@@ -107,7 +107,7 @@ fn answer_before<F: Shelf>(
 ) -> Result<Go, AllocError>
     requires none { run.old ≡ None }
     requires room { post.old.sent < 2 ^ 53 }
-    ensures { IfOk result (λ go. IsAnswer editing (editing_state (F.files shelf.now) None)
+    ensures { IfOk result (λ go. IsAnswer editor_meaning (editing_state (F.files shelf.now) None)
         (editing_state (F.files shelf.now) (option_map (λ r. adapter_state_of r.0 r.1) run.new))
         request.now post.old post.new go) }
 {
@@ -122,7 +122,7 @@ fn answer_before<F: Shelf>(
 }
 
 impl<F: Shelf> Answerer for Adapter<'_, F> {
-    ghost meaning = { editing };
+    ghost meaning = { editor_meaning };
 
     ghost state = { λ a. editing_state (F.files a.shelf.now)
         (option_map (λ r. adapter_state_of r.0 r.1) a.run) };

@@ -11,9 +11,9 @@ use Rattle.ssdb.specs.declared.end.PromptEnd.{PromptEnd}
 use Rattle.ssdb.specs.declared.end.PromptFault.{PromptFault}
 use Rattle.ssdb.specs.declared.end.PromptFault.TheVariants.{Refused, Cut, Memory}
 use Rattle.ssdb.specs.Refused.{IsRefusalWritten}
-use Rattle.ssdb.specs.Seen.{Seen, seen}
+use Rattle.ssdb.specs.Seen.{Seen, seen_of}
 use Rattle.ss_prompt.specs.Source.{source_lines}
-use Rattle.ssdb.specs.Opening.{greeted, end_of_status, IsStart, EndsWell, HoldFails, HoldsFrom, StopsFrom}
+use Rattle.ssdb.specs.Opening.{greeting_at, end_of_status, IsStart, EndsWell, HoldFails, HoldsFrom, StopsFrom}
 use Rattle.ssdb.specs.Opening.{GreetingFails, IsHeld, IsStopped}
 
 abbrev state_of : List ℕ → List (List ℕ) → Input → DebuggerState → PromptState
@@ -36,17 +36,19 @@ starts model data_text d lines from e o i s l = rw e (
 
 -- the parts of a dialogue
 pub holds : (from to : PromptState) (c : Seen) (told : Option (List Event)) (end : PromptEnd) →
-    Adds c.old told (write_events (greeted c.terminal from)) → EndsWell from to told c →
+    Adds c.old told (write_events (greeting_at c.terminal from)) → EndsWell from to told c →
     end ≡ end_of_status (run to.input to.debugger.position).status → HoldsFrom from c end
 holds from to c told end g a e = record { told = told; greets = g; to = to; answers = a; end_is = e }
 
 pub breaks : (from to : PromptState) (c : Seen) (told : Option (List Event)) (fault : PromptFault) →
-    Adds c.old told (write_events (greeted c.terminal from)) → HoldFails from to told c fault → StopsFrom from c fault
+    Adds c.old told (write_events (greeting_at c.terminal from)) → HoldFails from to told c fault →
+    StopsFrom from c fault
 breaks from to c told fault g a = inl (record { told = told; greets = g; to = to; answers = a })
 
 -- what cuts a dialogue short does not depend on what had happened before the greeting
 fails_behind : (from to : PromptState) (t : Bool) (b a : Option (List (List ℕ))) (o m n : Option (List Event))
-    (fault : PromptFault) → HoldFails from to m (seen t b a m n) fault → HoldFails from to m (seen t b a o n) fault
+    (fault : PromptFault) → HoldFails from to m (seen_of t b a m n) fault →
+    HoldFails from to m (seen_of t b a o n) fault
 fails_behind from to t b a o m n (Cut Read) h = h
 fails_behind from to t b a o m n (Cut Write) h = h
 fails_behind from to t b a o m n (Cut Count) h = h
@@ -55,15 +57,15 @@ fails_behind from to t b a o m n Memory h = h
 
 -- a dialogue that was cut short behind its greeting, of which no line was read within that
 pub breaks_behind : (from to : PromptState) (t u : Bool) (b d a : Option (List (List ℕ)))
-    (o m n : Option (List Event)) (fault : PromptFault) → u ≡ t → d ≡ b → Adds o m (write_events (greeted t from)) →
-    HoldFails from to m (seen u d a m n) fault → StopsFrom from (seen t b a o n) fault
+    (o m n : Option (List Event)) (fault : PromptFault) → u ≡ t → d ≡ b → Adds o m (write_events (greeting_at t from)) →
+    HoldFails from to m (seen_of u d a m n) fault → StopsFrom from (seen_of t b a o n) fault
 breaks_behind from to t u b d a o m n fault p q g h =
-    breaks from to (seen t b a o n) m fault g
+    breaks from to (seen_of t b a o n) m fault g
     (fails_behind from to t b a o m n fault (rw (p, q) at h))
 
 -- a greeting that was cut short, before which no line was read
 pub greeting_stops : (from : PromptState) (c : Seen) (fault : PromptFault) →
-    GreetingFails (greeted c.terminal from) c.old c.new fault → c.after ≡ c.before → StopsFrom from c fault
+    GreetingFails (greeting_at c.terminal from) c.old c.new fault → c.after ≡ c.before → StopsFrom from c fault
 greeting_stops from c fault g l = inr (g, l)
 
 -- a dialogue over a model

@@ -11,7 +11,7 @@ use Rattle.ss_console.specs.Dialogue.{EndsByInput, EndsByLine, EndsByRead, EndsI
 use Rattle.ss_console.specs.declared.cut.Cut.TheVariants.{Read, Write, Count}
 use Rattle.ss_session.specs.Model.{IsOutcome, accepted}
 use Rattle.ss_prompt.specs.PromptState.{PromptState, greeting}
-use Rattle.ss_prompt.specs.Prompting.{prompting}
+use Rattle.ss_prompt.specs.Prompting.{prompt_meaning}
 use Rattle.ssdb.specs.declared.end.PromptEnd.{PromptEnd}
 use Rattle.ssdb.specs.declared.end.PromptEnd.TheVariants.{Done, Faulted}
 use Rattle.ssdb.specs.declared.end.PromptFault.{PromptFault}
@@ -21,8 +21,8 @@ use Rattle.ssdb.specs.Seen.{Seen}
 use Rattle.ss_prompt.specs.Source.{source_lines}
 
 -- what is told before the first line: at a terminal a greeting
-abbrev pub greeted : Bool → PromptState → List ℕ
-greeted terminal s = if terminal then greeting s else []
+abbrev pub greeting_at : Bool → PromptState → List ℕ
+greeting_at terminal s = if terminal then greeting s else []
 
 -- whether a run is faulted
 abbrev pub end_of_status : Status → PromptEnd
@@ -46,16 +46,16 @@ IsStart model data_text from =
 -- how a dialogue ends behind the greeting: by the end of input, or by a line
 abbrev pub EndsWell : PromptState → PromptState → Option (List Event) → Seen → Type 0
 EndsWell from to told c =
-    EndsByInput prompting c.terminal from to c.before c.after told c.new
-    ⊎ EndsByLine prompting c.terminal from to c.before c.after told c.new
+    EndsByInput prompt_meaning c.terminal from to c.before c.after told c.new
+    ⊎ EndsByLine prompt_meaning c.terminal from to c.before c.after told c.new
 
 -- what cut it short behind the greeting: a reading, a writing, or the count of lines
 abbrev pub HoldFails : PromptState → PromptState → Option (List Event) → Seen → PromptFault → Type 0
-HoldFails from to told c (Cut Read) = EndsByRead prompting c.terminal from to c.before told c.new
+HoldFails from to told c (Cut Read) = EndsByRead prompt_meaning c.terminal from to c.before told c.new
 HoldFails from to told c (Cut Write) =
-    EndsInPrompt prompting c.terminal from to c.before c.after told c.new
-    ⊎ EndsInAnswer prompting c.terminal from to c.before c.after told c.new
-HoldFails from to told c (Cut Count) = EndsByCount prompting c.terminal from to c.before c.after told c.new
+    EndsInPrompt prompt_meaning c.terminal from to c.before c.after told c.new
+    ⊎ EndsInAnswer prompt_meaning c.terminal from to c.before c.after told c.new
+HoldFails from to told c (Cut Count) = EndsByCount prompt_meaning c.terminal from to c.before c.after told c.new
 HoldFails from to told c fault = ⊥
 
 -- what cut it short within the greeting: a prefix of that is written, or nothing where memory was refused
@@ -70,7 +70,7 @@ pub record HoldsFrom (from : PromptState) (c : Seen) (end : PromptEnd) : Type 0 
   -- what had happened behind the greeting
   pub told : Option (List Event)
   -- a terminal is greeted
-  pub greets : Adds c.old told (write_events (greeted c.terminal from))
+  pub greets : Adds c.old told (write_events (greeting_at c.terminal from))
   -- where the answers led
   pub to : PromptState
   -- the answers, up to the end of input or a line that ends
@@ -83,7 +83,7 @@ pub record BreaksFrom (from : PromptState) (c : Seen) (fault : PromptFault) : Ty
   -- what had happened behind the greeting
   pub told : Option (List Event)
   -- a terminal is greeted
-  pub greets : Adds c.old told (write_events (greeted c.terminal from))
+  pub greets : Adds c.old told (write_events (greeting_at c.terminal from))
   -- where the answers led
   pub to : PromptState
   -- the answers, and the call that failed
@@ -93,7 +93,7 @@ pub record BreaksFrom (from : PromptState) (c : Seen) (fault : PromptFault) : Ty
 abbrev pub StopsFrom : PromptState → Seen → PromptFault → Type 0
 StopsFrom from c fault =
     BreaksFrom from c fault
-    ⊎ (GreetingFails (greeted c.terminal from) c.old c.new fault × (c.after ≡ c.before))
+    ⊎ (GreetingFails (greeting_at c.terminal from) c.old c.new fault × (c.after ≡ c.before))
 
 -- a whole dialogue over an accepted model and its data
 abbrev pub IsHeld : List ℕ → List ℕ → Seen → PromptEnd → Type 0

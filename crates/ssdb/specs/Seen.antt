@@ -16,7 +16,7 @@ pub record Seen : Type 0 where
   pub new : Option (List Event)
 
 -- the same, of its parts
-abbrev pub seen : Bool → Option (List (List ℕ)) → Option (List (List ℕ)) → Option (List Event) →
+abbrev pub seen_of : Bool → Option (List (List ℕ)) → Option (List (List ℕ)) → Option (List Event) →
     Option (List Event) → Seen
-seen terminal before after old new =
+seen_of terminal before after old new =
     record { terminal = terminal; before = before; after = after; old = old; new = new }

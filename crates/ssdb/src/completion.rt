@@ -1,7 +1,7 @@
 //! The words for who completes words.
 ghost use Rattle.std.specs.Prelude.{◌-◌, ◌^◌, ◌<◌, IfErr, IfOk};
 ghost use Rattle.ssdb.specs.Completion.{TellsWords, IsWordsCut};
-ghost use Rattle.ssdb.specs.Seen.{seen};
+ghost use Rattle.ssdb.specs.Seen.{seen_of};
 
 use crate::end::{PromptEnd, PromptFault};
 use crate::refused::refuse;
@@ -20,9 +20,9 @@ pub fn tell_words<C: Console>(
     console: &mut C,
 ) -> Result<PromptEnd, PromptFault>
     requires { (C.faults console.old).puts < 2 ^ 64 - 1 }
-    ensures ok { IfOk result (λ end. TellsWords model.now (seen (C.terminal console.old)
+    ensures ok { IfOk result (λ end. TellsWords model.now (seen_of (C.terminal console.old)
         (C.left console.old) (C.left console.new) (C.log console.old) (C.log console.new)) end) }
-    ensures err { IfErr result (λ fault. IsWordsCut model.now (seen (C.terminal console.old)
+    ensures err { IfErr result (λ fault. IsWordsCut model.now (seen_of (C.terminal console.old)
         (C.left console.old) (C.left console.new) (C.log console.old) (C.log console.new)) fault) }
 {
     let lines = source_lines(alloc, model)?;

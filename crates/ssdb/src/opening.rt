@@ -5,9 +5,9 @@ ghost use Rattle.ss_console.specs.declared.lines.TheConstants.{LINE_LIMIT};
 ghost use Rattle.ss_console.specs.Event.{Adds, write_events};
 ghost use Rattle.ss_machine.specs.Run.{run};
 ghost use Rattle.ss_prompt.specs.PromptState.{greeting};
-ghost use Rattle.ssdb.specs.Opening.{greeted, end_of_status, EndsWell, HoldFails, GreetingFails};
+ghost use Rattle.ssdb.specs.Opening.{greeting_at, end_of_status, EndsWell, HoldFails, GreetingFails};
 ghost use Rattle.ssdb.specs.Opening.{HoldsFrom, StopsFrom, IsHeld, IsStopped};
-ghost use Rattle.ssdb.specs.Seen.{seen};
+ghost use Rattle.ssdb.specs.Seen.{seen_of};
 
 use crate::end::{PromptEnd, PromptFault};
 use crate::refused::refuse;
@@ -59,9 +59,10 @@ fn greet<S: SetBoard, C: Console>(
 ) -> Result<(), PromptFault>
     requires { (C.faults console.old).puts < 2 ^ 64 - 1 }
     ensures ok { OnOk result (Adds (C.log console.old) (C.log console.new)
-        (write_events (greeted (C.terminal console.old) prompt.now))
+        (write_events (greeting_at (C.terminal console.old) prompt.now))
         × (C.faults console.new ≡ C.faults console.old)) }
-    ensures err { IfErr result (λ fault. GreetingFails (greeted (C.terminal console.old) prompt.now)
+    ensures err { IfErr result (λ fault. GreetingFails
+        (greeting_at (C.terminal console.old) prompt.now)
         (C.log console.old) (C.log console.new) fault) }
     ensures lines { C.left console.new ≡ C.left console.old }
     ensures terminal { C.terminal console.new ≡ C.terminal console.old }
@@ -83,12 +84,12 @@ fn hold<S: SetBoard, C: Console>(
     requires reads { (C.faults console.old).reads < 2 ^ 64 - 1 }
     requires puts { (C.faults console.old).puts < 2 ^ 64 - 1 }
     ensures ok { OnOk result (EndsWell prompt.old prompt.new (C.log console.old)
-        (seen (C.terminal console.old) (C.left console.old) (C.left console.new)
+        (seen_of (C.terminal console.old) (C.left console.old) (C.left console.new)
         (C.log console.old) (C.log console.new))) }
     ensures end { IfOk result
         (λ end. end ≡ end_of_status (run prompt.new.input prompt.new.debugger.position).status) }
     ensures err { IfErr result (λ fault. HoldFails prompt.old prompt.new (C.log console.old)
-        (seen (C.terminal console.old) (C.left console.old) (C.left console.new)
+        (seen_of (C.terminal console.old) (C.left console.old) (C.left console.new)
         (C.log console.old) (C.log console.new)) fault) }
 {
     let mut answer = Vec::new(alloc);
@@ -107,9 +108,9 @@ fn greet_and_hold<S: SetBoard, C: Console>(
     requires room { LINE_LIMIT < vec_capacity line.old }
     requires reads { (C.faults console.old).reads < 2 ^ 64 - 1 }
     requires puts { (C.faults console.old).puts < 2 ^ 64 - 1 }
-    ensures ok { IfOk result (λ end. HoldsFrom prompt.entry (seen (C.terminal console.old)
+    ensures ok { IfOk result (λ end. HoldsFrom prompt.entry (seen_of (C.terminal console.old)
         (C.left console.old) (C.left console.new) (C.log console.old) (C.log console.new)) end) }
-    ensures err { IfErr result (λ fault. StopsFrom prompt.entry (seen (C.terminal console.old)
+    ensures err { IfErr result (λ fault. StopsFrom prompt.entry (seen_of (C.terminal console.old)
         (C.left console.old) (C.left console.new) (C.log console.old) (C.log console.new)) fault) }
 {
     let ended = match greet(alloc, &prompt, console) {
@@ -131,10 +132,11 @@ pub fn open_prompt<C: Console>(
 ) -> Result<PromptEnd, PromptFault>
     requires reads { (C.faults console.old).reads < 2 ^ 64 - 1 }
     requires puts { (C.faults console.old).puts < 2 ^ 64 - 1 }
-    ensures ok { IfOk result (λ end. IsHeld model.now data_text.now (seen (C.terminal console.old)
-        (C.left console.old) (C.left console.new) (C.log console.old) (C.log console.new)) end) }
+    ensures ok { IfOk result (λ end. IsHeld model.now data_text.now
+        (seen_of (C.terminal console.old) (C.left console.old) (C.left console.new)
+        (C.log console.old) (C.log console.new)) end) }
     ensures err { IfErr result (λ fault. IsStopped model.now data_text.now
-        (seen (C.terminal console.old) (C.left console.old) (C.left console.new)
+        (seen_of (C.terminal console.old) (C.left console.old) (C.left console.new)
         (C.log console.old) (C.log console.new)) fault) }
 {
     let mut line = Vec::with_capacity(alloc, LINE_LIMIT + 1)?;

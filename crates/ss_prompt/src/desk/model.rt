@@ -35,7 +35,8 @@ fn break_line<S: SetBoard>(
     ensures said { OnOk result (answer.new.items
         ≡ answer.old.items ++ plain_answer debugger.old.machine.input
         (debugger_state_of debugger.old) (command_on plain.Break line)) }
-    ensures memory { OnErr result (debugger_state_of debugger.new ≡ debugger_state_of debugger.old) }
+    ensures memory { OnErr result (debugger_state_of debugger.new
+        ≡ debugger_state_of debugger.old) }
 {
     if line > LAST_BREAK_LINE as usize {
         obey(debugger, Command::Bad, answer)?;
@@ -59,7 +60,8 @@ fn clear_line<S: SetBoard>(
     ensures said { OnOk result (answer.new.items
         ≡ answer.old.items ++ plain_answer debugger.old.machine.input
         (debugger_state_of debugger.old) (command_on plain.Clear line)) }
-    ensures memory { OnErr result (debugger_state_of debugger.new ≡ debugger_state_of debugger.old) }
+    ensures memory { OnErr result (debugger_state_of debugger.new
+        ≡ debugger_state_of debugger.old) }
 {
     if line > LAST_BREAK_LINE as usize {
         obey(debugger, Command::Bad, answer)?;
@@ -118,7 +120,8 @@ impl<'a> PromptDesk<'a> {
             ≡ on_section_next (state_at debugger.old self.now) plain.Break name.now) }
         ensures said { OnOk result (answer.new.items ≡ answer.old.items
             ++ on_section_said (state_at debugger.old self.now) plain.Break name.now) }
-        ensures memory { OnErr result (state_at debugger.new self.now ≡ state_at debugger.old self.now) }
+        ensures memory { OnErr result (state_at debugger.new self.now
+            ≡ state_at debugger.old self.now) }
     {
         match line_of_section(debugger.machine().program(), name.as_slice()) {
             Some(line) => break_line(debugger, line, answer),
@@ -137,7 +140,8 @@ impl<'a> PromptDesk<'a> {
             ≡ on_section_next (state_at debugger.old self.now) plain.Clear name.now) }
         ensures said { OnOk result (answer.new.items ≡ answer.old.items
             ++ on_section_said (state_at debugger.old self.now) plain.Clear name.now) }
-        ensures memory { OnErr result (state_at debugger.new self.now ≡ state_at debugger.old self.now) }
+        ensures memory { OnErr result (state_at debugger.new self.now
+            ≡ state_at debugger.old self.now) }
     {
         match line_of_section(debugger.machine().program(), name.as_slice()) {
             Some(line) => clear_line(debugger, line, answer),

@@ -1,4 +1,4 @@
-use Rattle.ss_prompt.proofs.Kepts.{lines_same, kept_says, plain_texts}
+use Rattle.ss_prompt.proofs.KeptLines.{lines_same, kept_says, plain_texts}
 use Rattle.ss_prompt.proofs.laws.plain_texts_answer_the_batch.Goals as goal
 
 pub returns-clause-lines : goal.returns-clause-lines

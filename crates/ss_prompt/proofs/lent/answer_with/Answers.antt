@@ -1,5 +1,5 @@
 use Rattle.std.proofs.Common.{map}
-use Rattle.ss_prompt.proofs.Lents.{IsDeskOf, taken, given, lent_is}
+use Rattle.ss_prompt.proofs.Desks.{IsDeskOf, taken, given, lent_is}
 use Rattle.ss_prompt.proofs.lent.answer_with.Goals as goal
 
 pub returns-clause-place : goal.returns-clause-place

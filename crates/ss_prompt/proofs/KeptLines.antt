@@ -16,7 +16,7 @@ use Rattle.ss_debug.specs.CommandLines.{command_lines}
 use Rattle.ss_debug.specs.Command.{command_of, command_of_long_line}
 use Rattle.ss_prompt.specs.PromptState.{PromptState}
 use Rattle.ss_prompt.specs.Reading.{or_own, bad, own_command_of, prompt_command_of}
-use Rattle.ss_prompt.specs.Prompting.{prompting, prompt_state_after}
+use Rattle.ss_prompt.specs.Prompting.{prompt_meaning, prompt_state_after}
 use Rattle.ss_prompt.specs.Laws.{KeptLinesSayTheSame, LinesAreThoseOfTheBatch, PlainTextsAnswerTheBatch}
 use Rattle.ss_prompt.proofs.Batches.{plain_batch}
 
@@ -166,7 +166,8 @@ pub kept_says : KeptLinesSayTheSame
 kept_says line = kept_at line (nat_lt LINE_LIMIT (length line)) refl
 
 -- so they are answered the same
-answers_kept : (s : PromptState) (ls : List (List ℕ)) → answers prompting s (map kept_part ls) ≡ answers prompting s ls
+answers_kept : (s : PromptState) (ls : List (List ℕ)) →
+    answers prompt_meaning s (map kept_part ls) ≡ answers prompt_meaning s ls
 unfolding answers
 answers_kept s [] = refl
 answers_kept s (line ∷ ls) =
