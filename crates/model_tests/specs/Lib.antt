@@ -1,1 +1,3 @@
 pub mod Ground
+pub mod Counting
+pub mod Echoing

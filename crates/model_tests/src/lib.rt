@@ -1,10 +1,12 @@
-//! Tests of ss_report, ss_data, ss_journal, ss_links, ss_store, ss_events, ss_machine and ss_session,
-//! a module each, in one crate of their own: the gate proves a crate once more with its tests, and
-//! reads all that a checked model stands on for each crate that has one.
+//! Tests of ss_report, ss_data, ss_journal, ss_links, ss_store, ss_events, ss_machine, ss_session,
+//! ss_console and ss_serve, a module each, in one crate of their own: the gate proves a crate once
+//! more with its tests, and reads all that a checked model stands on for each crate that has one.
 #![tactic(auto)]
 
 #[cfg(test)]
 mod compare;
+#[cfg(test)]
+mod console;
 #[cfg(test)]
 mod data;
 #[cfg(test)]
@@ -21,6 +23,8 @@ mod machine;
 mod model;
 #[cfg(test)]
 mod report;
+#[cfg(test)]
+mod serve;
 #[cfg(test)]
 mod session;
 #[cfg(test)]

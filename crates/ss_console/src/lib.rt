@@ -4,8 +4,6 @@
 
 mod answerer;
 mod console;
-#[cfg(test)]
-mod counter;
 mod cut;
 mod dialogue;
 mod entry;
@@ -15,8 +13,6 @@ mod memory;
 mod puts;
 mod reply;
 mod stream;
-#[cfg(test)]
-mod tests;
 
 pub use answerer::{Answerer, Go};
 pub use console::{Console, PutFault, ReadFault};

@@ -4,5 +4,4 @@ pub mod Seen
 pub mod Faults
 pub mod Session
 pub mod Steps
-pub mod Echoing
 pub mod Examples

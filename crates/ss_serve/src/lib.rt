@@ -4,15 +4,11 @@
 
 mod answerer;
 mod channel;
-#[cfg(test)]
-mod echo;
 mod examples;
 mod fault;
 mod memory;
 mod session;
 mod stream;
-#[cfg(test)]
-mod tests;
 
 pub use answerer::Answerer;
 pub use channel::{Channel, SendFault, Side};

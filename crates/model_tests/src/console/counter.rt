@@ -1,10 +1,8 @@
 ghost use Rattle.std.specs.Prelude.{◌≡◌, ◌++◌, codes, decimal, OnOk};
-ghost use Rattle.ss_console.specs.Counting.{counter_meaning};
+ghost use Rattle.model_tests.specs.Counting.{counter_meaning};
 
-use crate::answerer::{Answerer, Go};
-use crate::console::{Console, PutFault};
-use crate::puts::put_all;
 use itoa::Buffer;
+use ss_console::{Answerer, Console, Go, PutFault, put_all};
 use std::alloc::AllocError;
 
 /// A small answerer for the tests: it says each line again, behind the number of those before it. A

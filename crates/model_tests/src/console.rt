@@ -1,7 +1,9 @@
-ghost use Rattle.ss_console.specs.Counting.{counter_meaning};
+ghost use Rattle.model_tests.specs.Counting.{counter_meaning};
 
-use crate::counter::Counter;
-use crate::{
+mod counter;
+
+use counter::Counter;
+use ss_console::{
     Answerer, Console, Cut, Entry, Go, LINE_LIMIT, MemoryConsole, PutFault, StreamConsole,
     converse, put_all,
 };

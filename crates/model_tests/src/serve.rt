@@ -1,6 +1,8 @@
-use crate::echo::Echo;
-use crate::{MemoryChannel, SessionFault, StreamChannel, serve};
+mod echo;
+
+use echo::Echo;
 use ss_console::Entry;
+use ss_serve::{MemoryChannel, SessionFault, StreamChannel, serve};
 use std::alloc::{AllocError, Global};
 use std::io::{self, ErrorKind, Read};
 use std::test::Fail;

@@ -1,10 +1,10 @@
 ghost use Rattle.std.specs.Prelude.{◌≡◌};
-ghost use Rattle.ss_serve.specs.Echoing.{echo_meaning};
+ghost use Rattle.model_tests.specs.Echoing.{echo_meaning};
 
-use crate::answerer::Answerer;
 use itoa::Buffer;
 use ss_console::Go;
 use ss_messages::{Command, Post, Request};
+use ss_serve::Answerer;
 use std::alloc::AllocError;
 
 /// A small answerer for the tests: the body of each reply is the number of the requests before.
