@@ -1,6 +1,7 @@
 //! The debugger answers the lines of a dialogue.
 ghost use Rattle.std.specs.Prelude.{◌≡◌, ◌++◌, [], map, OnOk};
 ghost use Rattle.ss_machine.specs.Run.{run};
+ghost use Rattle.ss_debug.specs.View.{debugger_state_of};
 ghost use Rattle.ss_prompt.specs.PromptState.{prompt_state_of, greeting};
 ghost use Rattle.ss_prompt.specs.Prompting.{prompt_meaning};
 
@@ -45,9 +46,14 @@ impl<'a, S: SetBoard> Prompt<'a, S> {
         Prompt { debugger, desk }
     }
 
-    /// Lets go of the debugger, and of all that is kept beside it.
-    pub fn close(self) {
-        drop(self);
+    /// Gives the debugger away, and lets go of what is kept beside it.
+    pub fn into_debugger(self) -> Debugger<S>
+        ensures input { result.machine.input ≡ self.input }
+        ensures state { debugger_state_of result ≡ self.debugger }
+    {
+        let Prompt { debugger, desk } = self;
+        drop(desk);
+        debugger
     }
 
     /// The status of the state to which the lines so far have led.
