@@ -3,13 +3,13 @@ use Rattle.std.specs.Prelude.{ℕ, Bool, List, [], ◌∷◌, ◌++◌, length, 
 use Rattle.std.specs.List.{list_any}
 use Rattle.std.specs.Str.{bytes_eq}
 use Rattle.ss_trace.specs.declared.question.Question.{Question}
-use Rattle.ss_trace.specs.Question.{asked}
+use Rattle.ss_trace.specs.Question.{question_text}
 use Rattle.ss_prompt.specs.declared.displays.TheConstants.{MOST_DISPLAYS}
 use Rattle.ss_prompt.specs.PromptState.{PromptState, with_displays}
 
 -- whether a question that is asked so is among some
 abbrev pub is_among : List Question → List ℕ → Bool
-is_among displays text = list_any (λ d. bytes_eq (asked d) text) displays
+is_among displays text = list_any (λ d. bytes_eq (question_text d) text) displays
 
 -- whether there is no room for one more
 abbrev pub is_full : List Question → Bool
@@ -18,7 +18,7 @@ is_full displays = nat_le MOST_DISPLAYS (length displays)
 -- the questions behind DISPLAY
 abbrev pub displays_with : List Question → Question → List Question
 displays_with displays x =
-    if is_among displays (asked x) then displays else
+    if is_among displays (question_text x) then displays else
     if is_full displays then displays else displays ++ x ∷ []
 
 -- that a question is answered at each stop
@@ -33,7 +33,7 @@ display_text displays text =
 
 -- the same in a state of the prompt
 abbrev pub display_said : PromptState → Question → List ℕ
-display_said s x = display_text s.displays (asked x)
+display_said s x = display_text s.displays (question_text x)
 
 -- the state behind it
 abbrev pub display_next : PromptState → Question → PromptState

@@ -4,7 +4,7 @@ ghost use Rattle.ss_console.specs.Going.{go_of};
 ghost use Rattle.ss_machine.specs.Moment.{position};
 ghost use Rattle.ss_debug.specs.Answer.{state_line};
 ghost use Rattle.ss_debug.specs.Turn.{is_quit as is_plain_quit};
-ghost use Rattle.ss_trace.specs.Question.{asked};
+ghost use Rattle.ss_trace.specs.Question.{question_text};
 ghost use Rattle.ss_prompt.specs.PromptState.{state_at, with_questions, fault_told, source_line};
 ghost use Rattle.ss_prompt.specs.PromptState.{place_text, greeting};
 ghost use Rattle.ss_prompt.specs.Stops.{changes_told, stop_text, changed_said, HasLookedBeside};
@@ -321,7 +321,7 @@ impl<'a> PromptDesk<'a> {
         ensures place { OnOk result (self.new
             ≡ with_questions self.old (displays_with self.old.displays question)) }
         ensures said { OnOk result (answer.new.items
-            ≡ answer.old.items ++ display_text self.old.displays (asked question)) }
+            ≡ answer.old.items ++ display_text self.old.displays (question_text question)) }
         ensures memory { OnErr result (self.new ≡ self.old) }
     {
         display(self.alloc, &mut self.displays, question, answer)

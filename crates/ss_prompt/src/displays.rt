@@ -1,7 +1,7 @@
 //! Questions that are answered at each stop.
 ghost use Rattle.std.specs.Prelude.{◌≡◌, ◌++◌, [], OnOk, OnErr, IfOk};
 ghost use Rattle.ss_machine.specs.Moment.{position};
-ghost use Rattle.ss_trace.specs.Question.{asked};
+ghost use Rattle.ss_trace.specs.Question.{question_text};
 ghost use Rattle.ss_prompt.specs.PromptState.{answers_to};
 ghost use Rattle.ss_prompt.specs.Displays.{is_among, displays_with, display_text, display_set};
 ghost use Rattle.ss_prompt.specs.Displays.{cleared_text};
@@ -17,7 +17,7 @@ pub const MOST_DISPLAYS: usize = 20;
 
 /// A question as it is asked, in upper case and least digits.
 fn asked_text(alloc: Global, question: &Question) -> Result<Vec<u8>, AllocError>
-    ensures { IfOk result (λ text. text.items ≡ asked question.now) }
+    ensures { IfOk result (λ text. text.items ≡ question_text question.now) }
 {
     let mut text = Vec::new(alloc);
     push_asked(question, &mut text)?;
@@ -48,7 +48,7 @@ pub(crate) fn display(
     ensures displays { OnOk result (displays.new.items
         ≡ displays_with displays.old.items question) }
     ensures said { OnOk result (answer.new.items
-        ≡ answer.old.items ++ display_text displays.old.items (asked question)) }
+        ≡ answer.old.items ++ display_text displays.old.items (question_text question)) }
     ensures memory { OnErr result (displays.new.items ≡ displays.old.items) }
 {
     let text = asked_text(alloc, &question)?;

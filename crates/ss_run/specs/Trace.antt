@@ -12,7 +12,7 @@ use Rattle.ss_machine.specs.Run.{Input, run, input_with}
 use Rattle.ss_debug.specs.Move.{is_ready_at, line_at}
 use Rattle.ss_debug.specs.Answer.{section_at}
 use Rattle.ss_trace.specs.declared.question.Question.{Question}
-use Rattle.ss_trace.specs.Question.{changes_at, asked}
+use Rattle.ss_trace.specs.Question.{changes_at, question_text}
 use Rattle.ss_trace.specs.Value.{value_at}
 use Rattle.ss_session.specs.Model.{accepted, IsOutcome}
 use Rattle.ss_session.specs.Texts.{OutletState}
@@ -38,7 +38,7 @@ column_names = map (λ name. name.now) COLUMN_NAMES
 -- it is asked, and its value behind the step
 abbrev pub step_fields : Input → Question → ℕ → List (List ℕ)
 step_fields t x q =
-    decimal q ∷ signed_decimal (run t q).clock ∷ section_at t q ∷ decimal (line_at t q) ∷ asked x
+    decimal q ∷ signed_decimal (run t q).clock ∷ section_at t q ∷ decimal (line_at t q) ∷ question_text x
     ∷ value_at t x (q + 1) ∷ []
 
 -- that row where the question changes, else nothing

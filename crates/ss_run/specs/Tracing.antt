@@ -13,7 +13,7 @@ use Rattle.ss_machine.specs.Run.{Input, run}
 use Rattle.ss_debug.specs.Move.{is_ready_at, line_at}
 use Rattle.ss_debug.specs.Answer.{section_name}
 use Rattle.ss_trace.specs.declared.question.Question.{Question}
-use Rattle.ss_trace.specs.Question.{answer_at, asked}
+use Rattle.ss_trace.specs.Question.{answer_at, question_text}
 use Rattle.ss_trace.specs.Value.{value_in}
 use Rattle.ss_session.specs.Texts.{OutletState}
 use Rattle.ss_session.specs.Written.{WritesPart}
@@ -42,7 +42,7 @@ pub record IsHere (t : Input) (q : ℕ) (here : Here) : Type 0 where
 abbrev pub row_of : ProgramTable → Here → Question → List ℕ → List ℕ
 row_of program here x answer =
     csv_row (decimal here.position ∷ signed_decimal here.clock
-    ∷ section_name (slice_get program.sections here.section) ∷ decimal here.line ∷ asked x ∷ value_in x answer ∷ [])
+    ∷ section_name (slice_get program.sections here.section) ∷ decimal here.line ∷ question_text x ∷ value_in x answer ∷ [])
 
 -- the answers to some questions in state p
 abbrev pub AreAnswers : Input → List Question → ℕ → List (Vec ℕ Global) → Type 0

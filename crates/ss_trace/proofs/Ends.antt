@@ -10,10 +10,10 @@ use Rattle.ss_debug.specs.Move.{is_ready_at, is_on_break, back_end, search_back_
 use Rattle.ss_debug.specs.Move.{MovementShape, forward, back, search_back}
 use Rattle.ss_debug.specs.Turn.{DebuggerState, debugger_state_at, debugger_state_after, debugger_state_after_movement}
 use Rattle.ss_debug.proofs.Moves.{forward_ends, search_back_ends}
-use Rattle.ss_trace.specs.Movements.{Counted, counted, ahead_condition, ahead_end, is_level, frames_at, is_met}
+use Rattle.ss_trace.specs.Movements.{CountedEnd, counted_end, ahead_condition, ahead_end, is_level, frames_at, is_met}
 use Rattle.ss_trace.specs.Movements.{is_met_back}
 use Rattle.ss_trace.specs.Movements.{over, back_over}
-use Rattle.ss_trace.specs.Movements.{Shape, standing, ahead, seek_back, over_by, back_over_by, shape_of}
+use Rattle.ss_trace.specs.Movements.{Shape, debugger_shape, ahead, seek_back, over_by, back_over_by, shape_of}
 use Rattle.ss_trace.specs.Turn.{over_from, back_over_from, state_after_shape}
 use Rattle.ss_trace.specs.Laws.{IsAheadWithin, IsBackWithin, AreReadyBefore, StandsBehindReady, StartIsBehindReady}
 use Rattle.ss_trace.specs.Laws.{CommandsPassNoEnd, MovementsPassNoEnd}
@@ -32,9 +32,9 @@ joined t p n q r first rest = record {
   not_past_an_end = λ j. ready_by _ t p q r first.not_past_an_end rest.not_past_an_end j refl;
 }
 
-over_step : (a b : Bool) (t : Input) (p n q k : ℕ) (c : Counted) → IsAheadWithin t p n q →
+over_step : (a b : Bool) (t : Input) (p n q k : ℕ) (c : CountedEnd) → IsAheadWithin t p n q →
     IsAheadWithin t q (n - (q - p)) c.position →
-    IsAheadWithin t p n (cond (not a) (counted q (suc k)) (cond b (counted q k) c)).position
+    IsAheadWithin t p n (cond (not a) (counted_end q (suc k)) (cond b (counted_end q k) c)).position
 over_step false b t p n q k c first rest = first
 over_step true true t p n q k c first rest = first
 over_step true false t p n q k c first rest = joined t p n q c.position first rest
@@ -65,8 +65,8 @@ over_ends t breaks (suc k) p n o =
     over_step (is_met level p q) (is_on_break t breaks q) t p n q k (over t breaks k q (n - (q - p))) first
     (over_ends t breaks k q (n - (q - p)) first.not_past_the_last)
 
-back_step : (a : Bool) (e p n q k : ℕ) (c : Counted) → IsBackWithin e p n q →
-    IsBackWithin e q (n - (p - q)) c.position → IsBackWithin e p n (cond (not a) (counted q (suc k)) c).position
+back_step : (a : Bool) (e p n q k : ℕ) (c : CountedEnd) → IsBackWithin e p n q →
+    IsBackWithin e q (n - (p - q)) c.position → IsBackWithin e p n (cond (not a) (counted_end q (suc k)) c).position
 back_step false e p n q k c first rest = first
 back_step true e p n q k c first rest = record {
   no_later = omega (arith, first.no_later, rest.no_later);
@@ -138,7 +138,7 @@ stands_moved t d (search_back test word) s = stands_searched t d test GREATEST_B
 -- each movement
 stands_shaped : (t : Input) (d : DebuggerState) (shape : Shape) → StandsBehindReady t d →
     StandsBehindReady t (state_after_shape t d shape)
-stands_shaped t d (standing shape) s = stands_moved t d shape s
+stands_shaped t d (debugger_shape shape) s = stands_moved t d shape s
 stands_shaped t d (ahead test word) s = stands_ahead t d (ahead_condition t d.breaks test) GREATEST_BOUND s
 stands_shaped t d (seek_back test word) s = stands_searched t d test GREATEST_BOUND s
 stands_shaped t d (over_by k) s =

@@ -41,14 +41,14 @@ use Rattle.ss_trace.specs.Question.{answer_at, attribute_text, class_attribute_t
 use Rattle.ss_trace.specs.Question.{kept_named, kept_in_set, kept_of, has_kept}
 use Rattle.ss_trace.specs.Question.{kept_value, count_text, named_count_text, list_count_text}
 use Rattle.ss_trace.specs.Question.{owned_count_text}
-use Rattle.ss_trace.specs.Sight.{seen, seen_at, global_or_local, sight_of_class}
+use Rattle.ss_trace.specs.Sight.{glance_of, glance_at, global_or_local, sight_of_class}
 use Rattle.ss_trace.specs.Sight.{sight_of_attribute, sight_of_kept, sight_of_set}
 use Rattle.ss_trace.specs.Sight.{sight_of_list, members_seen, members_counted}
 use Rattle.ss_trace.specs.Sight.{is_same_number, is_same_count, is_same_entry, is_same_glance}
-use Rattle.ss_trace.specs.declared.touches.Touched.TheVariants.{Nothing}
+use Rattle.ss_trace.specs.declared.touches.Touch.TheVariants.{Nothing}
 use Rattle.ss_trace.specs.Touches.{touched_at, part_of}
 use Rattle.ss_trace.proofs.Counting.{HasCounted}
-use Rattle.ss_trace.proofs.Numbered.{entity_next}
+use Rattle.ss_trace.proofs.SameNumbers.{entity_next}
 use Rattle.ss_trace.proofs.Skips.{lists_counted, events_left, report_left}
 
 -- ---- what a glance holds
@@ -142,7 +142,7 @@ local_is s None = refl
 local_is s (Some i) = refl
 
 value_seen_by : (t : Input) (p : ℕ) (name : List ℕ) (b : Bool) (o : Option ℕ) →
-    seen t.program (run t p) (Shown (shown.Variable name)) (if b then sights.Clock else global_or_local o)
+    glance_of t.program (run t p) (Shown (shown.Variable name)) (if b then sights.Clock else global_or_local o)
     ≡ Number (option_map (variable_in (run t p)) (if b then Some variables.Clock
     else option_or (option_map variables.Global o) (option_map variables.Local (position (bytes_eq name)
     (locals_of (slice_get t.program.sections (run t p).frame.section))))))
@@ -151,12 +151,12 @@ value_seen_by t p name false (Some i) = refl
 value_seen_by t p name false None = ap Number (local_is (run t p) _)
 
 value_seen : (t : Input) (p : ℕ) (name : List ℕ) →
-    seen_at t (Shown (shown.Variable name)) p ≡ Number (option_map (variable_in (run t p)) (variable_named t p name))
+    glance_at t (Shown (shown.Variable name)) p ≡ Number (option_map (variable_in (run t p)) (variable_named t p name))
 value_seen t p name =
     value_seen_by t p name (bytes_eq name (codes "TIME.V")) (position (bytes_eq name) t.program.globals)
 
 variable_left : (t : Input) (name : List ℕ) (p q : ℕ) →
-    seen_at t (Shown (shown.Variable name)) q ≡ seen_at t (Shown (shown.Variable name)) p →
+    glance_at t (Shown (shown.Variable name)) q ≡ glance_at t (Shown (shown.Variable name)) p →
     var_text name t q ≡ var_text name t p
 unfolding var_text
 variable_left t name p q g =
@@ -198,8 +198,8 @@ lined_if class x name b v = if b then attribute_line name v else no_entity_text 
 
 set_kept_left : (p : ProgramTable) (s u : State) (class : List ℕ) (x : ℤ) (name : List ℕ) (c n : ℕ) (q : Question)
     (k : Kept) (b : Bool) →
-    seen p u q (if b then sights.Kept c n k x else sights.Living c x)
-    ≡ seen p s q (if b then sights.Kept c n k x else sights.Living c x) →
+    glance_of p u q (if b then sights.Kept c n k x else sights.Living c x)
+    ≡ glance_of p s q (if b then sights.Kept c n k x else sights.Living c x) →
     lined_if class x name (exists u.store c (number_of x))
     (if b then Some (pos (kept_value (shape_of p n) u.store (number_of x) k)) else None)
     ≡ lined_if class x name (exists s.store c (number_of x))
@@ -212,7 +212,7 @@ set_kept_left p s u class x name c n q k false g =
     unlined class x name (exists u.store c (number_of x)) (exists s.store c (number_of x)) (ap number_in g)
 
 kept_left : (p : ProgramTable) (s u : State) (class : List ℕ) (x : ℤ) (name : List ℕ) (c : ℕ) (q : Question)
-    (k : Option Kept) (o : Option ℕ) → seen p u q (sight_of_kept p c x k o) ≡ seen p s q (sight_of_kept p c x k o) →
+    (k : Option Kept) (o : Option ℕ) → glance_of p u q (sight_of_kept p c x k o) ≡ glance_of p s q (sight_of_kept p c x k o) →
     lined_if class x name (exists u.store c (number_of x)) (kept_by p u.store c (number_of x) k o)
     ≡ lined_if class x name (exists s.store c (number_of x)) (kept_by p s.store c (number_of x) k o)
 kept_left p s u class x name c q None o g =
@@ -223,7 +223,7 @@ kept_left p s u class x name c q (Some k) (Some n) g =
     set_kept_left p s u class x name c n q k (has_kept (set_of p n) c k) g
 
 attribute_left : (p : ProgramTable) (s u : State) (class : List ℕ) (x : ℤ) (name : List ℕ) (c : ℕ) (q : Question)
-    (a : Option ℕ) → seen p u q (sight_of_attribute p c x name a) ≡ seen p s q (sight_of_attribute p c x name a) →
+    (a : Option ℕ) → glance_of p u q (sight_of_attribute p c x name a) ≡ glance_of p s q (sight_of_attribute p c x name a) →
     lined_if class x name (exists u.store c (number_of x)) (attribute_or_kept p u.store c (number_of x) name a)
     ≡ lined_if class x name (exists s.store c (number_of x)) (attribute_or_kept p s.store c (number_of x) name a)
 attribute_left p s u class x name c q (Some a) g =
@@ -238,14 +238,14 @@ attribute_left p s u class x name c q None g =
     ∙ sym (ap (λ (o : Option ℤ). lined_if class x name (exists s.store c (number_of x)) o) old)
 
 class_left : (p : ProgramTable) (s u : State) (class : List ℕ) (x : ℤ) (name : List ℕ) (q : Question) (o : Option ℕ) →
-    seen p u q (sight_of_class p x name o) ≡ seen p s q (sight_of_class p x name o) →
+    glance_of p u q (sight_of_class p x name o) ≡ glance_of p s q (sight_of_class p x name o) →
     class_attribute_text class x name p u.store o ≡ class_attribute_text class x name p s.store o
 class_left p s u class x name q None g = refl
 class_left p s u class x name q (Some c) g =
     attribute_left p s u class x name c q (position (bytes_eq name) (class_of p c).attributes) g
 
 attribute_text_left : (t : Input) (class : List ℕ) (x : ℤ) (name : List ℕ) (p q : ℕ) →
-    seen_at t (Attribute class x name) q ≡ seen_at t (Attribute class x name) p →
+    glance_at t (Attribute class x name) q ≡ glance_at t (Attribute class x name) p →
     attribute_text class x name t q ≡ attribute_text class x name t p
 unfolding attribute_text
 attribute_text_left t class x name p q g =
@@ -320,7 +320,7 @@ owned_count_left name p st new n c x y h e g =
 list_count_left : (name : List ℕ) (owner : Option ℤ) (p : ProgramTable) (s u : State) (n : ℕ) (w : Owner)
     (q : Question) →
     n < length p.sets → (set_of p n).owner ≡ w →
-    seen p u q (sight_of_list p n owner w) ≡ seen p s q (sight_of_list p n owner w) →
+    glance_of p u q (sight_of_list p n owner w) ≡ glance_of p s q (sight_of_list p n owner w) →
     list_count_text name owner p u n w ≡ list_count_text name owner p s n w
 list_count_left name None p s u n System q h e g =
     let long = length_left p s.store u.store n 0 (ap count_in g) in rw long refl
@@ -332,14 +332,14 @@ list_count_left name (Some x) p s u n (OwnedBy c) q h e g =
 
 named_count_left : (name : List ℕ) (owner : Option ℤ) (p : ProgramTable) (s u : State) (q : Question) (o : Option ℕ) →
     ((n : ℕ) → o ≡ Some n → n < length p.sets) →
-    seen p u q (sight_of_set p owner o) ≡ seen p s q (sight_of_set p owner o) →
+    glance_of p u q (sight_of_set p owner o) ≡ glance_of p s q (sight_of_set p owner o) →
     named_count_text name owner p u o ≡ named_count_text name owner p s o
 named_count_left name owner p s u q None h g = refl
 named_count_left name owner p s u q (Some n) h g =
     list_count_left name owner p s u n (set_of p n).owner q (h n refl) refl g
 
 count_left : (t : Input) (name : List ℕ) (owner : Option ℤ) (p q : ℕ) →
-    seen_at t (Count name owner) q ≡ seen_at t (Count name owner) p →
+    glance_at t (Count name owner) q ≡ glance_at t (Count name owner) p →
     count_text name owner t q ≡ count_text name owner t p
 unfolding count_text
 count_left t name owner p q g =
@@ -360,7 +360,7 @@ owned_list_left name p st new n c x y h e k g =
 
 list_left : (name : List ℕ) (owner : Option ℤ) (p : ProgramTable) (s u : State) (n : ℕ) (w : Owner) (q : Question) →
     n < length p.sets → (set_of p n).owner ≡ w → HasCounted s.store u.store →
-    seen p u q (sight_of_list p n owner w) ≡ seen p s q (sight_of_list p n owner w) →
+    glance_of p u q (sight_of_list p n owner w) ≡ glance_of p s q (sight_of_list p n owner w) →
     list_text name owner p u n w ≡ list_text name owner p s n w
 list_left name None p s u n System q h e k g =
     let members = members_left p s.store u.store n 0 k (ap count_in g) in rw members refl
@@ -370,13 +370,13 @@ list_left name (Some x) p s u n (OwnedBy c) q h e k g = owned_list_left name p s
 
 named_left : (name : List ℕ) (owner : Option ℤ) (p : ProgramTable) (s u : State) (q : Question) (o : Option ℕ) →
     ((n : ℕ) → o ≡ Some n → n < length p.sets) → HasCounted s.store u.store →
-    seen p u q (sight_of_set p owner o) ≡ seen p s q (sight_of_set p owner o) →
+    glance_of p u q (sight_of_set p owner o) ≡ glance_of p s q (sight_of_set p owner o) →
     named_list_text name owner p u o ≡ named_list_text name owner p s o
 named_left name owner p s u q None h k g = refl
 named_left name owner p s u q (Some n) h k g = list_left name owner p s u n (set_of p n).owner q (h n refl) refl k g
 
 set_left : (t : Input) (name : List ℕ) (owner : Option ℤ) (p : ℕ) → touched_at t Lists p ≡ Nothing →
-    seen_at t (Shown (shown.Set name owner)) (suc p) ≡ seen_at t (Shown (shown.Set name owner)) p →
+    glance_at t (Shown (shown.Set name owner)) (suc p) ≡ glance_at t (Shown (shown.Set name owner)) p →
     set_text name owner t (suc p) ≡ set_text name owner t p
 unfolding set_text
 set_left t name owner p e g =
@@ -397,7 +397,7 @@ entry_left : (t : Input) (p q : ℕ) → (run t q).entry ≡ (run t p).entry →
 unfolding entry_text
 entry_left t p q e = rw e refl
 
-left : (t : Input) (x : Question) (p : ℕ) → touched_at t (part_of x) p ≡ Nothing → seen_at t x (suc p) ≡ seen_at t x p →
+left : (t : Input) (x : Question) (p : ℕ) → touched_at t (part_of x) p ≡ Nothing → glance_at t x (suc p) ≡ glance_at t x p →
     answer_at t x (suc p) ≡ answer_at t x p
 left t (Shown shown.Clock) p e g = clock_left t p (suc p) (some_eq (ap number_in g))
 left t (Shown shown.Where) p e g = absurd (cc)
@@ -413,7 +413,7 @@ left t (Count name owner) p e g = count_left t name owner p (suc p) g
 
 -- the same, one position further, for what looks the same
 pub unseen : (t : Input) (x : Question) (p q : ℕ) → q ≡ p + 1 → touched_at t (part_of x) p ≡ Nothing →
-    seen_at t x q ≡ seen_at t x p → answer_at t x q ≡ answer_at t x p
+    glance_at t x q ≡ glance_at t x p → answer_at t x q ≡ answer_at t x p
 unseen t x p q h e g =
     let next : q ≡ suc p = omega (arith, h) in
     rw next (left t x p e (rw next at g))

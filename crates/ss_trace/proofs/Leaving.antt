@@ -49,42 +49,42 @@ use Rattle.ss_machine.specs.Statements.Filing.{state_after_filing, state_after_f
 use Rattle.ss_machine.specs.Step.{step, step_at, step_by}
 use Rattle.ss_debug.specs.Entities.{shape_of}
 use Rattle.ss_trace.specs.declared.touches.Part.TheVariants as parts
-use Rattle.ss_trace.specs.declared.touches.Touched.{Touched}
-use Rattle.ss_trace.specs.declared.touches.Touched.TheVariants.{Nothing, Attribute, Attributes, Set, Entities, Anything}
+use Rattle.ss_trace.specs.declared.touches.Touch.{Touch}
+use Rattle.ss_trace.specs.declared.touches.Touch.TheVariants.{Nothing, Attribute, Attributes, Set, Entities, Anything}
 use Rattle.ss_trace.specs.EntityNumbers.{attribute_number}
 use Rattle.ss_trace.specs.Touches.{touched_target, touched_assign, touched_filing, touched_control}
 use Rattle.ss_trace.specs.Touches.{touched_looping, touched_entities}
 use Rattle.ss_trace.specs.Touches.{touched_by, touched_in, touched_at}
-use Rattle.ss_trace.proofs.Changed.{one_left, all_left, one_there, all_there, there_same}
+use Rattle.ss_trace.proofs.OneEntity.{one_left, all_left, one_there, all_there, there_same}
 use Rattle.ss_trace.proofs.Counting.{Counts, CountsIf, HasCounted, counted_same, is_or_not, relisted, filed_counts}
 use Rattle.ss_trace.proofs.Counting.{without_counts}
 use Rattle.ss_trace.proofs.SameLists.{HasSameLists, same_lists, changed_same, same_there, list_same, attribute_same}
 use Rattle.ss_trace.proofs.Skips.{store_at, lists_at}
-use Rattle.ss_trace.proofs.Untouched.{Ignores, IgnoresAttributes, got, then_got, placed, assigned, by_control}
-use Rattle.ss_trace.proofs.Untouched.{by_looping, by_read}
+use Rattle.ss_trace.proofs.PlaceSteps.{Ignores, IgnoresAttributes, got, then_got, placed, assigned, by_control}
+use Rattle.ss_trace.proofs.PlaceSteps.{by_looping, by_read}
 
 -- ---- what stays
 
 -- whether entities may be made or ended
-abbrev pub touches_there : Touched → Bool
+abbrev pub touches_there : Touch → Bool
 touches_there Entities = true
 touches_there _ = false
 
 -- whether the values of attribute a of class c may change
-abbrev pub touches_value : Touched → ℕ → ℕ → Bool
+abbrev pub touches_value : Touch → ℕ → ℕ → Bool
 touches_value (Attribute d b) c a = (d == c) && (b == a)
 touches_value Attributes c a = true
 touches_value Entities c a = true
 touches_value _ c a = false
 
 -- whether lists number n of an owner may
-abbrev pub touches_list : ProgramTable → Touched → Owner → ℕ → Bool
+abbrev pub touches_list : ProgramTable → Touch → Owner → ℕ → Bool
 touches_list p (Set s) w n = is_same_owner (shape_of p s).owner w && ((shape_of p s).list == n)
 touches_list p Entities w n = true
 touches_list p _ w n = false
 
 -- what it does not touch is the same, and a list that changes has more members or fewer
-pub record Leaves (p : ProgramTable) (u : Touched) (st new : Store) : Type 0 where
+pub record Leaves (p : ProgramTable) (u : Touch) (st new : Store) : Type 0 where
   pub there : (c k : ℕ) → touches_there u ≡ false → exists new c k ≡ exists st c k
   pub values : (c k a : ℕ) → touches_value u c a ≡ false → attribute_number new c k a ≡ attribute_number st c k a
   pub one : (w : Owner) (n k : ℕ) → touches_list p u w n ≡ false → list_by w n new k ≡ list_by w n st k
@@ -92,11 +92,11 @@ pub record Leaves (p : ProgramTable) (u : Touched) (st new : Store) : Type 0 whe
   pub counted : (w : Owner) (n k : ℕ) → CountsIf (list_by w n st k) (list_by w n new k)
 
 -- where it may change anything, nothing is said
-abbrev pub LeavesIf : ProgramTable → Touched → Store → Store → Type 0
+abbrev pub LeavesIf : ProgramTable → Touch → Store → Store → Type 0
 LeavesIf p Anything st new = Unit {0}
 LeavesIf p u st new = Leaves p u st new
 
-turned : (p : ProgramTable) (u : Touched) (st new : Store) → Leaves p u st new → Leaves p u new st
+turned : (p : ProgramTable) (u : Touch) (st new : Store) → Leaves p u st new → Leaves p u new st
 turned p u st new h = record {
   there = λ c k e. sym (h.there c k e);
   values = λ c k a e. sym (h.values c k a e);
@@ -105,7 +105,7 @@ turned p u st new h = record {
   counted = λ w n k e. sym (h.counted w n k (sym e));
 }
 
-pub turned_if : (p : ProgramTable) (u : Touched) (st new : Store) → LeavesIf p u st new → LeavesIf p u new st
+pub turned_if : (p : ProgramTable) (u : Touch) (st new : Store) → LeavesIf p u st new → LeavesIf p u new st
 turned_if p Nothing st new h = turned p Nothing st new h
 turned_if p (Attribute c a) st new h = turned p (Attribute c a) st new h
 turned_if p Attributes st new h = turned p Attributes st new h
@@ -113,7 +113,7 @@ turned_if p (Set s) st new h = turned p (Set s) st new h
 turned_if p Entities st new h = turned p Entities st new h
 turned_if p Anything st new h = tt
 
-left_same : (p : ProgramTable) (u : Touched) (st : Store) → Leaves p u st st
+left_same : (p : ProgramTable) (u : Touch) (st : Store) → Leaves p u st st
 left_same p u st = record {
   there = λ c k e. refl;
   values = λ c k a e. refl;
@@ -122,7 +122,7 @@ left_same p u st = record {
   counted = λ w n k e. refl;
 }
 
-left_if_same : (p : ProgramTable) (u : Touched) (st : Store) → LeavesIf p u st st
+left_if_same : (p : ProgramTable) (u : Touch) (st : Store) → LeavesIf p u st st
 left_if_same p Nothing st = left_same p Nothing st
 left_if_same p (Attribute c a) st = left_same p (Attribute c a) st
 left_if_same p Attributes st = left_same p Attributes st
@@ -131,7 +131,7 @@ left_if_same p Entities st = left_same p Entities st
 left_if_same p Anything st = tt
 
 -- stores with the same lists
-by_lists : (p : ProgramTable) (u : Touched) (st new : Store) → HasSameLists st new →
+by_lists : (p : ProgramTable) (u : Touch) (st new : Store) → HasSameLists st new →
     ((c k a : ℕ) → touches_value u c a ≡ false → attribute_number new c k a ≡ attribute_number st c k a) →
     Leaves p u st new
 by_lists p u st new h v = record {
@@ -275,10 +275,10 @@ removed p n st o w =
 
 -- ---- a place
 
-abbrev LeavesBy : ProgramTable → Touched → Store → State → Type 0
+abbrev LeavesBy : ProgramTable → Touch → Store → State → Type 0
 LeavesBy p u st s = LeavesIf p u st s.store
 
-ignores : (p : ProgramTable) (u : Touched) (st : Store) → Ignores (LeavesBy p u st)
+ignores : (p : ProgramTable) (u : Touch) (st : Store) → Ignores (LeavesBy p u st)
 ignores p u st = record {
   frames = λ s f fs h. h;
   status = λ s x h. h;

@@ -15,7 +15,7 @@ use Rattle.ss_program.specs.Program.{ProgramTable, SetTable, set_of, is_same_own
 use Rattle.ss_store.specs.declared.shape.SetShape.{SetShape}
 use Rattle.ss_debug.specs.Entities.{shape_of}
 use Rattle.ss_trace.proofs.Glances.{shape_is}
-use Rattle.ss_trace.proofs.Placed.{both, at_by}
+use Rattle.ss_trace.proofs.NumberPlaces.{both, at_by}
 
 -- ---- two sets have two lists
 

@@ -6,7 +6,7 @@ use Rattle.ss_machine.specs.declared.limits.TheConstants.{LAST_POSITION}
 use Rattle.ss_machine.specs.Run.{Input}
 use Rattle.ss_debug.specs.Move.{is_on_break, stops, stops_back, search_back_end}
 use Rattle.ss_debug.proofs.Moves.{least_within}
-use Rattle.ss_trace.specs.Movements.{counted, is_level, frames_at, ahead_condition, ahead_end, is_met, is_met_back}
+use Rattle.ss_trace.specs.Movements.{counted_end, is_level, frames_at, ahead_condition, ahead_end, is_met, is_met_back}
 use Rattle.ss_trace.specs.Movements.{over, back_over}
 
 -- ---- within the bound
@@ -27,14 +27,14 @@ back_within test a p n q e =
 -- ---- OVER
 
 unmade : (t : Input) (bs : List ℕ) (k p n q : ℕ) → 0 < k → q ≡ ahead_end t bs (is_level t (frames_at t p)) p n →
-    is_met (is_level t (frames_at t p)) p q ≡ false → over t bs k p n ≡ counted q k
+    is_met (is_level t (frames_at t p)) p q ≡ false → over t bs k p n ≡ counted_end q k
 unfolding over
 unmade t bs zero p n q h e f = absurd (omega arith)
 unmade t bs (suc k) p n q h e f = rw (sym e, f) refl
 
 broken : (t : Input) (bs : List ℕ) (k r p n q : ℕ) → r ≡ k + 1 →
     q ≡ ahead_end t bs (is_level t (frames_at t p)) p n → is_met (is_level t (frames_at t p)) p q ≡ true →
-    is_on_break t bs q ≡ true → over t bs r p n ≡ counted q k
+    is_on_break t bs q ≡ true → over t bs r p n ≡ counted_end q k
 unfolding over
 broken t bs k zero p n q h e f b = absurd (omega (arith, h))
 broken t bs k (suc r) p n q h e f b = let same : k ≡ r = omega (arith, h) in rw (same, sym e, f, b) refl
@@ -47,7 +47,7 @@ goes_on t bs k zero p n q h e f b = absurd (omega (arith, h))
 goes_on t bs k (suc r) p n q h e f b = let same : k ≡ r = omega (arith, h) in rw (same, sym e, f, b) refl
 
 -- where none is left it ends where it is
-pub over_none : (t : Input) (bs : List ℕ) (k p n : ℕ) → k ≡ 0 → over t bs k p n ≡ counted p 0
+pub over_none : (t : Input) (bs : List ℕ) (k p n : ℕ) → k ≡ 0 → over t bs k p n ≡ counted_end p 0
 unfolding over
 over_none t bs k p n e = rw e refl
 
@@ -60,12 +60,12 @@ pub record IsOver (u : Input) (cs : List ℕ) (p n q : ℕ) (b : Bool) : Type 0 
 
 -- where one more is not made it ends there
 pub over_unmade : (t u : Input) (bs cs : List ℕ) (k p n q : ℕ) (made : Bool) → u ≡ t → cs ≡ bs → 0 < k →
-    IsOver u cs p n q made → made ≡ false → over t bs k p n ≡ counted q k
+    IsOver u cs p n q made → made ≡ false → over t bs k p n ≡ counted_end q k
 over_unmade t u bs cs k p n q made e f h w m = rw (sym e, sym f) (unmade u cs k p n q h w.ended (sym w.made ∙ m))
 
 -- at a break line it ends where one more is made
 pub over_at_break : (t u : Input) (bs cs : List ℕ) (k r p n q : ℕ) (made : Bool) → u ≡ t → cs ≡ bs → r ≡ k + 1 →
-    IsOver u cs p n q made → made ≡ true → is_on_break u cs q ≡ true → over t bs r p n ≡ counted q k
+    IsOver u cs p n q made → made ≡ true → is_on_break u cs q ≡ true → over t bs r p n ≡ counted_end q k
 over_at_break t u bs cs k r p n q made e f h w m b =
     rw (sym e, sym f) (broken u cs k r p n q h w.ended (sym w.made ∙ m) b)
 
@@ -77,7 +77,7 @@ over_on t u bs cs k r p n q made e f h w m b =
     rw (sym e, sym f) (goes_on u cs k r p n q h w.ended (sym w.made ∙ m) b)
 
 first_of_over : (u b : Bool) (t : Input) (bs : List ℕ) (k p n q r : ℕ) → q ≤ (over t bs k q r).position →
-    q ≤ (cond (not u) (counted q (suc k)) (cond b (counted q k) (over t bs k q r))).position
+    q ≤ (cond (not u) (counted_end q (suc k)) (cond b (counted_end q k) (over t bs k q r))).position
 first_of_over false b t bs k p n q r h = omega arith
 first_of_over true true t bs k p n q r h = omega arith
 first_of_over true false t bs k p n q r h = h
@@ -111,7 +111,7 @@ over_first t u bs cs k p n q e f h o =
 -- ---- BACK OVER
 
 back_unmade : (t : Input) (a k p n q : ℕ) → 0 < k → q ≡ search_back_end (is_level t (frames_at t p)) a p n →
-    is_met_back (is_level t (frames_at t p)) p q ≡ false → back_over t a k p n ≡ counted q k
+    is_met_back (is_level t (frames_at t p)) p q ≡ false → back_over t a k p n ≡ counted_end q k
 unfolding back_over
 back_unmade t a zero p n q h e f = absurd (omega arith)
 back_unmade t a (suc k) p n q h e f = rw (sym e, f) refl
@@ -124,7 +124,7 @@ goes_back_on t a k zero p n q h e f = absurd (omega (arith, h))
 goes_back_on t a k (suc r) p n q h e f = let same : k ≡ r = omega (arith, h) in rw (same, sym e, f) refl
 
 -- where none is left it ends where it is
-pub back_over_none : (t : Input) (a k p n : ℕ) → k ≡ 0 → back_over t a k p n ≡ counted p 0
+pub back_over_none : (t : Input) (a k p n : ℕ) → k ≡ 0 → back_over t a k p n ≡ counted_end p 0
 unfolding back_over
 back_over_none t a k p n e = rw e refl
 
@@ -137,7 +137,7 @@ pub record IsBackOver (u : Input) (a p n q : ℕ) (b : Bool) : Type 0 where
 
 -- where one more is not made it ends there
 pub back_over_unmade : (t u : Input) (a b k p n q : ℕ) (made : Bool) → u ≡ t → b ≡ a → 0 < k →
-    IsBackOver u b p n q made → made ≡ false → back_over t a k p n ≡ counted q k
+    IsBackOver u b p n q made → made ≡ false → back_over t a k p n ≡ counted_end q k
 back_over_unmade t u a b k p n q made e f h w m =
     rw (sym e, sym f) (back_unmade u b k p n q h w.ended (sym w.made ∙ m))
 

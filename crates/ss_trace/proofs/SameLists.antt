@@ -8,7 +8,7 @@ use Rattle.ss_store.specs.Store.{Entity, Store, entity, exists, list_number, lis
 use Rattle.ss_store.specs.Store.{with_changed, with_value, with_attribute}
 use Rattle.ss_machine.proofs.Ranges.{Got}
 use Rattle.ss_machine.proofs.Stores.{unless_got}
-use Rattle.ss_trace.proofs.Changed.{one_left, all_left, there_same}
+use Rattle.ss_trace.proofs.OneEntity.{one_left, all_left, there_same}
 
 -- the lists that an entity owns, if there is one
 abbrev pub lists_in : Option Entity → Option (List (List ℕ))

@@ -18,15 +18,15 @@ use Rattle.ss_store.specs.Store.{number_of, list_holding}
 use Rattle.ss_debug.specs.Entities.{shape_of, member_read}
 use Rattle.ss_trace.specs.declared.attribute.Kept.{Kept}
 use Rattle.ss_trace.specs.declared.attribute.Kept.TheVariants.{First, Last, Number, Predecessor, Successor, Membership}
-use Rattle.ss_trace.specs.declared.touches.Touched.{Touched}
-use Rattle.ss_trace.specs.declared.touches.Touched.TheVariants.{Nothing, Attribute, Attributes, Set, Entities, Anything}
+use Rattle.ss_trace.specs.declared.touches.Touch.{Touch}
+use Rattle.ss_trace.specs.declared.touches.Touch.TheVariants.{Nothing, Attribute, Attributes, Set, Entities, Anything}
 use Rattle.ss_trace.specs.Question.{has_kept, kept_value}
 use Rattle.ss_trace.specs.EntityNumbers.{kept_number, set_numbers}
 use Rattle.ss_trace.specs.EntityNumbers.{entity_numbers}
 use Rattle.ss_trace.specs.Told.{tells, set_place, tells_set}
 use Rattle.ss_trace.proofs.Glances.{shape_is, exists_is}
 use Rattle.ss_trace.proofs.Leaving.{touches_there, touches_list, Leaves}
-use Rattle.ss_trace.proofs.Placed.{both, clash, set_at, is_number}
+use Rattle.ss_trace.proofs.NumberPlaces.{both, clash, set_at, is_number}
 use Rattle.ss_trace.proofs.OneSet.{owner_is}
 
 -- ---- kept attributes
@@ -56,7 +56,7 @@ six : (a b c d e f g h i j k l : ℤ) → a ≡ g → b ≡ h → c ≡ i → d 
     a ∷ b ∷ c ∷ d ∷ e ∷ f ∷ [] ≡ g ∷ h ∷ i ∷ j ∷ k ∷ l ∷ []
 six a b c d e f g h i j k l s t u v w x = rw (s, t, u, v, w, x) refl
 
-none_made : (p : ProgramTable) (u : Touched) (w : Owner) (n : ℕ) → touches_list p u w n ≡ false →
+none_made : (p : ProgramTable) (u : Touch) (w : Owner) (n : ℕ) → touches_list p u w n ≡ false →
     touches_there u ≡ false
 none_made p Nothing w n e = refl
 none_made p (Attribute d b) w n e = refl
@@ -65,7 +65,7 @@ none_made p (Set s) w n e = refl
 none_made p Entities w n e = absurd (cc)
 none_made p Anything w n e = refl
 
-pub set_left : (p : ProgramTable) (u : Touched) (st new : Store) (c k s : ℕ) → Leaves p u st new →
+pub set_left : (p : ProgramTable) (u : Touch) (st new : Store) (c k s : ℕ) → Leaves p u st new →
     touches_list p u (shape_of p s).owner (shape_of p s).list ≡ false →
     set_numbers p new c k s ≡ set_numbers p st c k s
 set_left p u st new c k s h f =
@@ -93,7 +93,7 @@ some_length None = refl
 some_length (Some xs) = refl
 
 -- the same list, where its owner has the same number of members
-list_told : (p : ProgramTable) (u : Touched) (st new : Store) (c k s : ℕ) → Leaves p u st new →
+list_told : (p : ProgramTable) (u : Touch) (st new : Store) (c k s : ℕ) → Leaves p u st new →
     exists new c k ≡ exists st c k → (shape_of p s).owner ≡ OwnedBy c →
     kept_value (shape_of p s) new k Number ≡ kept_value (shape_of p s) st k Number →
     list_by (shape_of p s).owner (shape_of p s).list new k ≡ list_by (shape_of p s).owner (shape_of p s).list st k
@@ -107,7 +107,7 @@ list_told p u st new c k s h t w e =
     h.counted (shape_of p s).owner (shape_of p s).list k (counts_same a b there e)
 
 -- an owner's kept attributes, by whether the class owns the set
-owned_told : (p : ProgramTable) (u : Touched) (st new : Store) (c k s : ℕ) (b : Bool) → Leaves p u st new →
+owned_told : (p : ProgramTable) (u : Touch) (st new : Store) (c k s : ℕ) (b : Bool) → Leaves p u st new →
     exists new c k ≡ exists st c k → (b ≡ true → (shape_of p s).owner ≡ OwnedBy c) →
     (if b then pos (kept_value (shape_of p s) new k Number) else pos 0)
     ≡ (if b then pos (kept_value (shape_of p s) st k Number) else pos 0) → (kept : Kept) →
@@ -231,7 +231,7 @@ member_by p st new c k s false false l f g e =
 
 -- ---- a set
 
-pub set_told : (p : ProgramTable) (u : Touched) (st new : Store) (c k s : ℕ) → Leaves p u st new →
+pub set_told : (p : ProgramTable) (u : Touch) (st new : Store) (c k s : ℕ) → Leaves p u st new →
     exists new c k ≡ exists st c k → s < length p.sets →
     tells_set p st c k (entity_numbers p new c k) s (set_place p c s) ≡ true →
     set_numbers p new c k s ≡ set_numbers p st c k s

@@ -27,13 +27,13 @@ use Rattle.ss_machine.specs.Step.{step, step_at, step_by}
 use Rattle.ss_debug.specs.Answer.{events_text, report_text}
 use Rattle.ss_trace.specs.declared.touches.Part.{Part}
 use Rattle.ss_trace.specs.declared.touches.Part.TheVariants.{Entities, Lists, Notices}
-use Rattle.ss_trace.specs.declared.touches.Touched.TheVariants.{Nothing}
-use Rattle.ss_trace.specs.Touches.{touched, touched_by, touched_in, touched_at}
+use Rattle.ss_trace.specs.declared.touches.Touch.TheVariants.{Nothing}
+use Rattle.ss_trace.specs.Touches.{touched_part, touched_by, touched_in, touched_at}
 use Rattle.ss_trace.proofs.Counting.{HasCounted, counted_same, attribute_counted, filed, removed, made, ended}
-use Rattle.ss_trace.proofs.Untouched.{Ignores, IgnoresAttributes, IgnoresLength, by_assign, by_plain_assign}
-use Rattle.ss_trace.proofs.Untouched.{by_branch, by_cases, by_looping, by_call, by_control, by_read, by_output}
-use Rattle.ss_trace.proofs.Stored.{KeepsStores, IgnoresTime, any_store, by_create, by_every, by_destroy, by_filing}
-use Rattle.ss_trace.proofs.Stored.{by_timing}
+use Rattle.ss_trace.proofs.PlaceSteps.{Ignores, IgnoresAttributes, IgnoresLength, by_assign, by_plain_assign}
+use Rattle.ss_trace.proofs.PlaceSteps.{by_branch, by_cases, by_looping, by_call, by_control, by_read, by_output}
+use Rattle.ss_trace.proofs.StoreSteps.{KeepsStores, IgnoresTime, any_store, by_create, by_every, by_destroy, by_filing}
+use Rattle.ss_trace.proofs.StoreSteps.{by_timing}
 
 all_got : {A : Type 0} (P : A → Type 0) (r : Result A RunFault) → ((x : A) → P x) → Got P r
 all_got P (Ok x) h = h x
@@ -139,7 +139,7 @@ report_time bytes = record { agenda = λ s a p. p; clock = λ s x p. p }
 
 -- ---- one place
 
-agenda_at : (a : Agenda) (q : ProgramTable) (s : State) (w : Ways) (x : Place) → touched Notices x ≡ Nothing →
+agenda_at : (a : Agenda) (q : ProgramTable) (s : State) (w : Ways) (x : Place) → touched_part Notices x ≡ Nothing →
     HasAgenda a s → HasAgenda a (step_at q s w x)
 agenda_at a q s w (places.Assign x) e p = by_assign (agenda_ignores a) (agenda_attributes a) q s w x p
 agenda_at a q s w (places.Making (Create c b t)) e p =
@@ -181,7 +181,7 @@ report_at bytes q s w (places.Timing x) p =
 report_at bytes q s w (places.Read ts) p = by_read (report_ignores bytes) (report_attributes bytes) q s w ts p
 
 -- one that assigns to no attribute, and neither makes nor ends, files nor removes, nor yields
-pub store_at : (st : Store) (q : ProgramTable) (s : State) (w : Ways) (x : Place) → touched Entities x ≡ Nothing →
+pub store_at : (st : Store) (q : ProgramTable) (s : State) (w : Ways) (x : Place) → touched_part Entities x ≡ Nothing →
     HasStore st s → HasStore st (step_at q s w x)
 store_at st q s w (places.Assign a) e p = by_plain_assign (store_ignores st) q s w a e p
 store_at st q s w (places.Making (Create c b t)) e p = absurd (cc)
@@ -204,7 +204,7 @@ store_at st q s w (places.Timing x) e p = absurd (cc)
 store_at st q s w (places.Read ts) e p = absurd (cc)
 
 -- one that makes no class as a whole
-pub lists_at : (q : ProgramTable) (s : State) (w : Ways) (x : Place) → touched Lists x ≡ Nothing → HasLists s.store s →
+pub lists_at : (q : ProgramTable) (s : State) (w : Ways) (x : Place) → touched_part Lists x ≡ Nothing → HasLists s.store s →
     HasLists s.store (step_at q s w x)
 lists_at q s w (places.Assign a) e p =
     by_assign (lists_ignore s.store) (lists_attributes s.store) q s w a p
@@ -232,7 +232,7 @@ lists_at q s w (places.Read ts) e p =
 
 -- what is said of a state, and of the next one where the step's place does not touch a part
 abbrev Passes : Part → (State → Type 0) → State → Type 0
-Passes part P s = (q : ProgramTable) (w : Ways) (x : Place) → touched part x ≡ Nothing → P s → P (step_at q s w x)
+Passes part P s = (q : ProgramTable) (w : Ways) (x : Place) → touched_part part x ≡ Nothing → P s → P (step_at q s w x)
 
 spot_passes : (part : Part) (P : State → Type 0) (q : ProgramTable) (s : State) → Passes part P s → (o : Option Spot) →
     touched_by part o ≡ Nothing → P s → P (step_by q s o)

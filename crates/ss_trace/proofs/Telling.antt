@@ -17,8 +17,8 @@ use Rattle.ss_trace.specs.declared.question.Question.TheVariants.{Shown, Attribu
 use Rattle.ss_trace.specs.declared.sight.Sight.{Sight}
 use Rattle.ss_trace.specs.declared.sight.Sight.TheVariants as sights
 use Rattle.ss_trace.specs.declared.touches.Part.TheVariants as parts
-use Rattle.ss_trace.specs.declared.touches.Touched.{Touched}
-use Rattle.ss_trace.specs.declared.touches.Touched.TheVariants.{Nothing, Attribute, Attributes, Set, Entities, Anything}
+use Rattle.ss_trace.specs.declared.touches.Touch.{Touch}
+use Rattle.ss_trace.specs.declared.touches.Touch.TheVariants.{Nothing, Attribute, Attributes, Set, Entities, Anything}
 use Rattle.ss_trace.specs.Sight.{sight_of}
 use Rattle.ss_trace.specs.Touches.{touched_at, part_of}
 use Rattle.ss_trace.specs.EntityNumbers.{attribute_number, attribute_numbers, set_numbers}
@@ -26,7 +26,7 @@ use Rattle.ss_trace.specs.EntityNumbers.{entity_numbers, living_numbers, numbers
 use Rattle.ss_trace.specs.Told.{tells_attribute, tells_attributes, set_place, tells_set}
 use Rattle.ss_trace.specs.Told.{tells_sets, tells_touched, tells_entity, is_told, is_told_at}
 use Rattle.ss_trace.proofs.Leaving.{touches_there, touches_value, touches_list, Leaves, LeavesIf, turned_if, run_leaves}
-use Rattle.ss_trace.proofs.Placed.{both, clash, at_by, below_same, attribute_at, is_number}
+use Rattle.ss_trace.proofs.NumberPlaces.{both, clash, at_by, below_same, attribute_at, is_number}
 use Rattle.ss_trace.proofs.OneSet.{one_set}
 use Rattle.ss_trace.proofs.SetTold.{set_left, set_told}
 
@@ -54,7 +54,7 @@ each_less st c k xs n m l f =
     not_so (tells_attributes st c k xs m) (λ e. clash (sym (each_told st c k xs m n e l) ∙ f))
 
 -- an attribute that may have changed is told
-attribute_told : (p : ProgramTable) (st : Store) (c k : ℕ) (xs : List ℤ) (u : Touched) (a : ℕ) →
+attribute_told : (p : ProgramTable) (st : Store) (c k : ℕ) (xs : List ℤ) (u : Touch) (a : ℕ) →
     a < length (class_of p c).attributes → tells_touched p st c k xs u ≡ true → touches_value u c a ≡ true →
     tells_attribute st c k xs a ≡ true
 attribute_told p st c k xs Nothing a h e f = absurd (cc)
@@ -71,7 +71,7 @@ attribute_told p st c k xs Entities a h e f =
     each_told st c k xs (length (class_of p c).attributes) a r.0 h
 attribute_told p st c k xs Anything a h e f = absurd (cc)
 
-attribute_same : (p : ProgramTable) (u : Touched) (st new : Store) (c k a : ℕ) → Leaves p u st new →
+attribute_same : (p : ProgramTable) (u : Touch) (st new : Store) (c k a : ℕ) → Leaves p u st new →
     tells_touched p st c k (entity_numbers p new c k) u ≡ true → a < length (class_of p c).attributes →
     attribute_number new c k a ≡ attribute_number st c k a
 attribute_same p u st new c k a h e l = chosen (touches_value u c a) refl
@@ -99,7 +99,7 @@ sets_less p st c k xs n m l f =
     not_so (tells_sets p st c k xs m) (λ e. clash (sym (each_set_told p st c k xs m n e l) ∙ f))
 
 -- a set whose lists may have changed is told
-set_told_at : (p : ProgramTable) (st : Store) (c k : ℕ) (xs : List ℤ) (u : Touched) (s : ℕ) → s < length p.sets →
+set_told_at : (p : ProgramTable) (st : Store) (c k : ℕ) (xs : List ℤ) (u : Touch) (s : ℕ) → s < length p.sets →
     tells_touched p st c k xs u ≡ true → touches_list p u (shape_of p s).owner (shape_of p s).list ≡ true →
     tells_set p st c k xs s (set_place p c s) ≡ true
 set_told_at p st c k xs Nothing s l e f = absurd (cc)
@@ -115,7 +115,7 @@ set_told_at p st c k xs Entities s l e f =
     each_set_told p st c k xs (length p.sets) s r.1 l
 set_told_at p st c k xs Anything s l e f = absurd (cc)
 
-set_same : (p : ProgramTable) (u : Touched) (st new : Store) (c k s : ℕ) → Leaves p u st new →
+set_same : (p : ProgramTable) (u : Touch) (st new : Store) (c k s : ℕ) → Leaves p u st new →
     exists new c k ≡ exists st c k → tells_touched p st c k (entity_numbers p new c k) u ≡ true → s < length p.sets →
     set_numbers p new c k s ≡ set_numbers p st c k s
 set_same p u st new c k s h t e l = chosen (touches_list p u (shape_of p s).owner (shape_of p s).list) refl
@@ -128,7 +128,7 @@ set_same p u st new c k s h t e l = chosen (touches_list p u (shape_of p s).owne
 
 -- ---- an entity
 
-entity_same : (p : ProgramTable) (u : Touched) (st new : Store) (c k : ℕ) → Leaves p u st new →
+entity_same : (p : ProgramTable) (u : Touch) (st new : Store) (c k : ℕ) → Leaves p u st new →
     exists new c k ≡ exists st c k → tells_touched p st c k (entity_numbers p new c k) u ≡ true →
     entity_numbers p new c k ≡ entity_numbers p st c k
 entity_same p u st new c k h t e =
@@ -145,7 +145,7 @@ not_true true e = absurd (cc)
 not_true false e = refl
 
 -- it is there where its numbers tell so
-is_told_there : (p : ProgramTable) (st : Store) (c k : ℕ) (xs : List ℤ) (u : Touched) →
+is_told_there : (p : ProgramTable) (st : Store) (c k : ℕ) (xs : List ℤ) (u : Touch) →
     touches_there u ≡ true → tells_touched p st c k xs u ≡ true → exists st c k ≡ true
 is_told_there p st c k xs Nothing f e = absurd (cc)
 is_told_there p st c k xs (Attribute d a) f e = absurd (cc)
@@ -154,7 +154,7 @@ is_told_there p st c k xs (Set s) f e = absurd (cc)
 is_told_there p st c k xs Entities f e = (both (exists st c k) _ e).0
 is_told_there p st c k xs Anything f e = absurd (cc)
 
-is_told_absent : (p : ProgramTable) (st : Store) (c k : ℕ) (u : Touched) → touches_there u ≡ true →
+is_told_absent : (p : ProgramTable) (st : Store) (c k : ℕ) (u : Touch) → touches_there u ≡ true →
     tells_entity p st c k [] u ≡ true → exists st c k ≡ false
 is_told_absent p st c k Nothing f e = absurd (cc)
 is_told_absent p st c k (Attribute d a) f e = absurd (cc)
@@ -163,14 +163,14 @@ is_told_absent p st c k (Set s) f e = absurd (cc)
 is_told_absent p st c k Entities f e = not_true (exists st c k) e
 is_told_absent p st c k Anything f e = absurd (cc)
 
-there_by : (p : ProgramTable) (u : Touched) (st new : Store) (c k : ℕ) (t b : Bool) → Leaves p u st new →
+there_by : (p : ProgramTable) (u : Touch) (st new : Store) (c k : ℕ) (t b : Bool) → Leaves p u st new →
     touches_there u ≡ t → exists new c k ≡ b →
     tells_entity p st c k (if b then pos 1 ∷ entity_numbers p new c k else []) u ≡ true → exists st c k ≡ b
 there_by p u st new c k false b h f g e = sym (h.there c k f) ∙ g
 there_by p u st new c k true true h f g e = is_told_there p st c k (entity_numbers p new c k) u f e
 there_by p u st new c k true false h f g e = is_told_absent p st c k u f e
 
-numbers_by : (p : ProgramTable) (u : Touched) (st new : Store) (c k : ℕ) (b d : Bool) → Leaves p u st new →
+numbers_by : (p : ProgramTable) (u : Touch) (st new : Store) (c k : ℕ) (b d : Bool) → Leaves p u st new →
     exists new c k ≡ b → exists st c k ≡ d → d ≡ b →
     tells_entity p st c k (if b then pos 1 ∷ entity_numbers p new c k else []) u ≡ true →
     (if b then pos 1 ∷ entity_numbers p new c k else []) ≡ (if d then pos 1 ∷ entity_numbers p st c k else [])
@@ -180,7 +180,7 @@ numbers_by p u st new c k false false h f g i e = refl
 numbers_by p u st new c k true false h f g i e = absurd (clash (sym i))
 numbers_by p u st new c k false true h f g i e = absurd (clash i)
 
-living_same : (p : ProgramTable) (u : Touched) (st new : Store) (c k : ℕ) → Leaves p u st new →
+living_same : (p : ProgramTable) (u : Touch) (st new : Store) (c k : ℕ) → Leaves p u st new →
     tells_entity p st c k (living_numbers p new c k) u ≡ true → living_numbers p new c k ≡ living_numbers p st c k
 living_same p u st new c k h e =
     numbers_by p u st new c k (exists new c k) (exists st c k) h refl refl
@@ -191,7 +191,7 @@ never_told p st c k [] = refl
 never_told p st c k (x ∷ xs) = refl
 
 -- the numbers of one store, told of the other
-told : (p : ProgramTable) (u : Touched) (st new : Store) (c k : ℕ) → LeavesIf p u st new →
+told : (p : ProgramTable) (u : Touch) (st new : Store) (c k : ℕ) → LeavesIf p u st new →
     tells_entity p st c k (living_numbers p new c k) u ≡ true → living_numbers p new c k ≡ living_numbers p st c k
 told p Nothing st new c k h e = living_same p Nothing st new c k h e
 told p (Attribute d a) st new c k h e = living_same p (Attribute d a) st new c k h e
@@ -201,7 +201,7 @@ told p Entities st new c k h e = living_same p Entities st new c k h e
 told p Anything st new c k h e =
     absurd (clash (sym e ∙ never_told p st c k (living_numbers p new c k)))
 
-there_told : (p : ProgramTable) (u : Touched) (s r : State) (sight : Sight) → LeavesIf p u s.store r.store →
+there_told : (p : ProgramTable) (u : Touch) (s r : State) (sight : Sight) → LeavesIf p u s.store r.store →
     is_told parts.Entities sight p s.store (numbers_there p r sight) u ≡ true →
     numbers_there p r sight ≡ numbers_there p s sight
 there_told p u s r (sights.Entity c x) h e = told p u s.store r.store c (number_of x) h e

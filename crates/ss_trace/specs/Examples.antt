@@ -159,8 +159,8 @@ abbrev pub membership : Question
 membership = Attribute (codes "JOB") (pos 1) (codes "M.ROW")
 
 -- the set without a name of the walk
-abbrev pub walked : Question
-walked = Shown (shown.Set [] None)
+abbrev pub walked_set : Question
+walked_set = Shown (shown.Set [] None)
 
 -- ---- searches
 

@@ -7,7 +7,7 @@ use Rattle.ss_machine.specs.Run.{Input, run}
 use Rattle.ss_debug.specs.Move.{line_at}
 use Rattle.ss_debug.specs.Answer.{section_at, state_line}
 use Rattle.ss_trace.specs.declared.question.Question.{Question}
-use Rattle.ss_trace.specs.Question.{changes_at, asked}
+use Rattle.ss_trace.specs.Question.{changes_at, question_text}
 use Rattle.ss_trace.specs.Value.{value_at}
 
 -- a position before others, where a test holds there
@@ -42,7 +42,7 @@ row state time section line value =
 
 -- its head
 abbrev pub head_row : Question → List ℕ
-head_row x = row (codes "STATE") (codes "CLOCK") (codes "IN") (codes "LINE") (asked x)
+head_row x = row (codes "STATE") (codes "CLOCK") (codes "IN") (codes "LINE") (question_text x)
 
 -- the row of the step from state q
 abbrev pub step_row : Input → Question → ℕ → List ℕ
@@ -100,4 +100,4 @@ why_line t (Some q) = Some (line_at t q)
 -- and what it says behind the line: the values of x before and after
 abbrev pub why_change : Input → Question → Option ℕ → List ℕ
 why_change t x None = []
-why_change t x (Some q) = change_line (codes "CHANGED") (asked x) (value_at t x q) (value_at t x (q + 1))
+why_change t x (Some q) = change_line (codes "CHANGED") (question_text x) (value_at t x q) (value_at t x (q + 1))

@@ -57,15 +57,17 @@ pub record StandsBehindReady (t : Input) (d : DebuggerState) : Type 0 where
   -- each state before is ready
   pub ready : AreReadyBefore t d.position
 
--- so it stands at the start, behind each command from there, and behind each movement
+-- so it stands at the start
 abbrev pub StartIsBehindReady : Type 0
 StartIsBehindReady = (t : Input) → StandsBehindReady t initial_debugger_state
 
+-- and behind each command from there
 abbrev pub CommandsPassNoEnd : Type 0
 CommandsPassNoEnd =
     (t : Input) (d : DebuggerState) (c : Command) → StandsBehindReady t d →
     StandsBehindReady t (debugger_state_after t d c)
 
+-- and behind each movement
 abbrev pub MovementsPassNoEnd : Type 0
 MovementsPassNoEnd =
     (t : Input) (d : DebuggerState) (m : Movement) → StandsBehindReady t d → StandsBehindReady t (state_after t d m)

@@ -59,32 +59,32 @@ is_met_back test p q = nat_lt q p && test q
 -- ---- n times over
 
 -- where such a movement ends, and how many of its parts were not made
-pub record Counted : Type 0 where
+pub record CountedEnd : Type 0 where
   -- where it ends
   pub position : ℕ
   -- how many were not made
   pub left : ℕ
 
 -- it ended at q, so many parts before its last
-abbrev pub counted : ℕ → ℕ → Counted
-counted q k = record { position = q; left = k }
+abbrev pub counted_end : ℕ → ℕ → CountedEnd
+counted_end q k = record { position = q; left = k }
 
 -- OVER, k times within n steps: it ends early where one is not made, and at a break line
-unfoldable pub over : Input → List ℕ → ℕ → ℕ → ℕ → Counted
-over t breaks zero p n = counted p 0
+unfoldable pub over : Input → List ℕ → ℕ → ℕ → ℕ → CountedEnd
+over t breaks zero p n = counted_end p 0
 over t breaks (suc k) p n =
     let level : ℕ → Bool = is_level t (frames_at t p) in
     let q : ℕ = ahead_end t breaks level p n in
-    if not (is_met level p q) then counted q (suc k) else
-    if is_on_break t breaks q then counted q k else over t breaks k q (n - (q - p))
+    if not (is_met level p q) then counted_end q (suc k) else
+    if is_on_break t breaks q then counted_end q k else over t breaks k q (n - (q - p))
 
 -- BACK OVER, k times within n steps: it ends early where one is not made
-unfoldable pub back_over : Input → ℕ → ℕ → ℕ → ℕ → Counted
-back_over t earliest zero p n = counted p 0
+unfoldable pub back_over : Input → ℕ → ℕ → ℕ → ℕ → CountedEnd
+back_over t earliest zero p n = counted_end p 0
 back_over t earliest (suc k) p n =
     let level : ℕ → Bool = is_level t (frames_at t p) in
     let q : ℕ = search_back_end level earliest p n in
-    if not (is_met_back level p q) then counted q (suc k) else back_over t earliest k q (n - (p - q))
+    if not (is_met_back level p q) then counted_end q (suc k) else back_over t earliest k q (n - (p - q))
 
 -- ---- all of them
 
@@ -92,7 +92,7 @@ back_over t earliest (suc k) p n =
 -- word, or a break line; back to where a test holds, for which it has a word, where answers are made on the way; so
 -- many times over; so many times back over
 pub data Shape : Type 0 where
-  standing : MovementShape → Shape
+  debugger_shape : MovementShape → Shape
   ahead : (ℕ → Bool) → List ℕ → Shape
   seek_back : (ℕ → Bool) → List ℕ → Shape
   over_by : ℕ → Shape
@@ -107,9 +107,9 @@ unfoldable pub shape_of : Input → ℕ → Movement → Shape
 shape_of t p (Over k) = over_by k
 shape_of t p Out = ahead (is_outside t (frames_at t p)) (codes "DONE")
 shape_of t p (BackOver k) = back_over_by k
-shape_of t p BackOut = standing (search_back (is_outside t (frames_at t p)) (codes "DONE"))
-shape_of t p (BackTo time) = standing (search_back (is_before t time) (codes "TIME"))
-shape_of t p (Go q) = standing (go_shape p q)
-shape_of t p GoEnd = standing (forward step_condition (LAST_POSITION + 1))
+shape_of t p BackOut = debugger_shape (search_back (is_outside t (frames_at t p)) (codes "DONE"))
+shape_of t p (BackTo time) = debugger_shape (search_back (is_before t time) (codes "TIME"))
+shape_of t p (Go q) = debugger_shape (go_shape p q)
+shape_of t p GoEnd = debugger_shape (forward step_condition (LAST_POSITION + 1))
 shape_of t p (RunChange x) = ahead (has_changed t x) (codes "CHANGE")
 shape_of t p (BackChange x) = seek_back (changes_at t x) (codes "CHANGE")

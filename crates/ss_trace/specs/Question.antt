@@ -139,19 +139,19 @@ with_number name None = name
 with_number name (Some x) = name ++ codes " " ++ signed_decimal x
 
 -- a question of the debugger as it is asked
-abbrev pub shown_asked : ShownQuestion → List ℕ
-shown_asked shown.Clock = codes "CLOCK"
-shown_asked shown.Where = codes "WHERE"
-shown_asked (shown.Variable name) = codes "VAR " ++ name
-shown_asked (shown.Entity name x) = with_number name (Some x)
-shown_asked (shown.Set name owner) = codes "SET " ++ with_number name owner
-shown_asked shown.Events = codes "EVENTS"
-shown_asked shown.Taken = codes "TAKEN"
-shown_asked shown.Entry = codes "ENTRY"
-shown_asked shown.Report = codes "REPORT"
+abbrev pub shown_question_text : ShownQuestion → List ℕ
+shown_question_text shown.Clock = codes "CLOCK"
+shown_question_text shown.Where = codes "WHERE"
+shown_question_text (shown.Variable name) = codes "VAR " ++ name
+shown_question_text (shown.Entity name x) = with_number name (Some x)
+shown_question_text (shown.Set name owner) = codes "SET " ++ with_number name owner
+shown_question_text shown.Events = codes "EVENTS"
+shown_question_text shown.Taken = codes "TAKEN"
+shown_question_text shown.Entry = codes "ENTRY"
+shown_question_text shown.Report = codes "REPORT"
 
 -- a question as it is asked, in upper case and least digits
-abbrev pub asked : Question → List ℕ
-asked (Shown q) = shown_asked q
-asked (Attribute class x name) = with_number class (Some x) ++ codes " " ++ name
-asked (Count name owner) = codes "COUNT " ++ with_number name owner
+abbrev pub question_text : Question → List ℕ
+question_text (Shown q) = shown_question_text q
+question_text (Attribute class x name) = with_number class (Some x) ++ codes " " ++ name
+question_text (Count name owner) = codes "COUNT " ++ with_number name owner

@@ -5,7 +5,7 @@ use Rattle.ss_trace.specs.declared.question.Question.{Question}
 use Rattle.ss_trace.specs.declared.reading.Reading.{Reading}
 use Rattle.ss_trace.specs.Question.{answer_at}
 use Rattle.ss_trace.specs.EntityNumbers.{numbers_at}
-use Rattle.ss_trace.specs.Sight.{sight_of, IsInTables, seen_at}
+use Rattle.ss_trace.specs.Sight.{sight_of, IsInTables, glance_at}
 use Rattle.ss_trace.specs.Touches.{part_of}
 
 -- it looks where the question does
@@ -22,7 +22,7 @@ pub record IsReadAt (t : Input) (x : Question) (p : ℕ) (r : Reading) : Type 0 
   -- where it looks
   pub looks : Looks t x r
   -- what was seen
-  pub glance : r.glance ≡ seen_at t x p
+  pub glance : r.glance ≡ glance_at t x p
   -- the numbers of the entity
   pub numbers : r.numbers.items ≡ numbers_at t x p
   -- the answer

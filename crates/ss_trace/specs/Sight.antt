@@ -122,28 +122,28 @@ abbrev pub members_seen : ProgramTable → Store → ℕ → ℤ → Glance
 members_seen p st s x = glances.Members x (members_counted (shape_of p s) st (number_of x))
 
 -- what is seen of a state there; of an entity, whose numbers are many, nothing
-abbrev pub seen : ProgramTable → State → Question → Sight → Glance
-seen p s x Nothing = glances.Number None
-seen p s x Clock = glances.Number (Some s.clock)
-seen p s x (Global i) = glances.Number (Some (slice_index_or s.variables i (pos 0)))
-seen p s x Local = glances.Number (local_value p s (variable_asked x))
-seen p s x Taken = glances.Amount s.feed.taken
-seen p s x EntryHere = glances.Entry s.entry
-seen p s x Report = glances.Amount (length s.report)
-seen p s x (Entity c k) = glances.Number None
-seen p s x (Living c k) = glances.Number (value_if_exists s.store c (number_of k) (pos 0))
-seen p s x (Attribute c a k) =
+abbrev pub glance_of : ProgramTable → State → Question → Sight → Glance
+glance_of p s x Nothing = glances.Number None
+glance_of p s x Clock = glances.Number (Some s.clock)
+glance_of p s x (Global i) = glances.Number (Some (slice_index_or s.variables i (pos 0)))
+glance_of p s x Local = glances.Number (local_value p s (variable_asked x))
+glance_of p s x Taken = glances.Amount s.feed.taken
+glance_of p s x EntryHere = glances.Entry s.entry
+glance_of p s x Report = glances.Amount (length s.report)
+glance_of p s x (Entity c k) = glances.Number None
+glance_of p s x (Living c k) = glances.Number (value_if_exists s.store c (number_of k) (pos 0))
+glance_of p s x (Attribute c a k) =
     glances.Number (value_if_exists s.store c (number_of k)
     (result_unwrap_or (attribute_of s.store c a (number_of k)) (pos 0)))
-seen p s x (Kept c n kept k) =
+glance_of p s x (Kept c n kept k) =
     glances.Number (value_if_exists s.store c (number_of k)
     (pos (kept_value (shape_of p n) s.store (number_of k) kept)))
-seen p s x (Members n k) = members_seen p s.store n k
-seen p s x (MembersNamed n i) = members_seen p s.store n (slice_index_or s.variables i (pos 0))
+glance_of p s x (Members n k) = members_seen p s.store n k
+glance_of p s x (MembersNamed n i) = members_seen p s.store n (slice_index_or s.variables i (pos 0))
 
 -- what is seen of state p
-abbrev pub seen_at : Input → Question → ℕ → Glance
-seen_at t x p = seen t.program (run t p) x (sight_of t.program x)
+abbrev pub glance_at : Input → Question → ℕ → Glance
+glance_at t x p = glance_of t.program (run t p) x (sight_of t.program x)
 
 -- ---- two of them
 

@@ -13,8 +13,8 @@ use Rattle.ss_trace.specs.declared.sight.Sight.TheVariants.{Entity}
 use Rattle.ss_trace.specs.declared.told.TheConstants.{NUMBERS_OF_A_SET}
 use Rattle.ss_trace.specs.declared.touches.Part.{Part}
 use Rattle.ss_trace.specs.declared.touches.Part.TheVariants as parts
-use Rattle.ss_trace.specs.declared.touches.Touched.{Touched}
-use Rattle.ss_trace.specs.declared.touches.Touched.TheVariants.{Nothing, Attribute, Attributes, Set, Entities, Anything}
+use Rattle.ss_trace.specs.declared.touches.Touch.{Touch}
+use Rattle.ss_trace.specs.declared.touches.Touch.TheVariants.{Nothing, Attribute, Attributes, Set, Entities, Anything}
 use Rattle.ss_trace.specs.EntityNumbers.{attribute_number, kept_number}
 use Rattle.ss_trace.specs.Sight.{sight_of}
 use Rattle.ss_trace.specs.Touches.{part_of}
@@ -87,7 +87,7 @@ tells_all p st c k numbers =
     && tells_sets p st c k numbers (length p.sets))
 
 -- what a step may have changed of one that was there
-abbrev pub tells_touched : ProgramTable → Store → ℕ → ℕ → List ℤ → Touched → Bool
+abbrev pub tells_touched : ProgramTable → Store → ℕ → ℕ → List ℤ → Touch → Bool
 tells_touched p st c k numbers Nothing = true
 tells_touched p st c k numbers (Attribute d a) =
     not (d == c) || (nat_lt a (length (class_of p c).attributes) && tells_attribute st c k numbers a)
@@ -97,18 +97,18 @@ tells_touched p st c k numbers Entities = tells_all p st c k numbers
 tells_touched p st c k numbers Anything = false
 
 -- of any, which has no numbers where it was not there
-abbrev pub tells_entity : ProgramTable → Store → ℕ → ℕ → List ℤ → Touched → Bool
+abbrev pub tells_entity : ProgramTable → Store → ℕ → ℕ → List ℤ → Touch → Bool
 tells_entity p st c k [] Anything = false
 tells_entity p st c k [] Entities = not (exists st c k)
 tells_entity p st c k [] touched = true
 tells_entity p st c k (x ∷ xs) touched = tells_touched p st c k xs touched
 
 -- of the entity at which a question with these parts and this sight looks
-abbrev pub is_told : Part → Sight → ProgramTable → Store → List ℤ → Touched → Bool
+abbrev pub is_told : Part → Sight → ProgramTable → Store → List ℤ → Touch → Bool
 is_told parts.Entities (Entity c x) p st numbers touched = tells_entity p st c (number_of x) numbers touched
 is_told _ _ p st numbers touched = false
 
 -- the same in state p
-abbrev pub is_told_at : Input → Question → List ℤ → Touched → ℕ → Bool
+abbrev pub is_told_at : Input → Question → List ℤ → Touch → ℕ → Bool
 is_told_at t x numbers touched p =
     is_told (part_of x) (sight_of t.program x) t.program (run t p).store numbers touched

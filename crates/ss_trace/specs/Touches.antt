@@ -23,39 +23,39 @@ use Rattle.ss_trace.specs.declared.question.Question.{Question}
 use Rattle.ss_trace.specs.declared.question.Question.TheVariants.{Shown}
 use Rattle.ss_trace.specs.declared.touches.Part.{Part}
 use Rattle.ss_trace.specs.declared.touches.Part.TheVariants as parts
-use Rattle.ss_trace.specs.declared.touches.Touched.{Touched}
-use Rattle.ss_trace.specs.declared.touches.Touched.TheVariants.{Nothing, Attribute, Attributes, Set, Entities, Anything}
+use Rattle.ss_trace.specs.declared.touches.Touch.{Touch}
+use Rattle.ss_trace.specs.declared.touches.Touch.TheVariants.{Nothing, Attribute, Attributes, Set, Entities, Anything}
 
 -- ---- entities and lists
 
 -- what is touched where a value is assigned: an attribute of a class, if the target is one
-abbrev pub touched_target : Target → Touched
+abbrev pub touched_target : Target → Touch
 touched_target (targets.Variable v) = Nothing
 touched_target (targets.Attribute c a i) = Attribute c a
 
 -- the same of an assignment
-abbrev pub touched_assign : Assign → Touched
+abbrev pub touched_assign : Assign → Touch
 touched_assign a = touched_target (target_of a)
 
 -- where the member that is removed from a list of set s goes to a target
-abbrev pub touched_removal : Target → ℕ → Touched
+abbrev pub touched_removal : Target → ℕ → Touch
 touched_removal (targets.Variable v) s = Set s
 touched_removal (targets.Attribute c a i) s = Entities
 
 -- what files or removes
-abbrev pub touched_filing : Filing → Touched
+abbrev pub touched_filing : Filing → Touch
 touched_filing (File e position r) = Set r.set
 touched_filing (FileAt end e r) = Set r.set
 touched_filing (RemoveAt end target r) = touched_removal target r.set
 touched_filing (Remove e r) = Set r.set
 
 -- what ends a section assigns what it yields
-abbrev pub touched_control : Control → Touched
+abbrev pub touched_control : Control → Touch
 touched_control Stop = Nothing
 touched_control _ = Attributes
 
 -- what goes through cases assigns the statistics that it tells
-abbrev pub touched_looping : Looping → Touched
+abbrev pub touched_looping : Looping → Touch
 touched_looping (Tell targets) = Attributes
 touched_looping _ = Nothing
 
@@ -65,11 +65,11 @@ makes_a_class (CreateEvery c n count) = true
 makes_a_class _ = false
 
 -- what makes or ends entities
-abbrev pub touched_making : Making → Touched
+abbrev pub touched_making : Making → Touch
 touched_making m = if makes_a_class m then Anything else Entities
 
 -- each place
-abbrev pub touched_entities : Place → Touched
+abbrev pub touched_entities : Place → Touch
 touched_entities (places.Assign a) = touched_assign a
 touched_entities (places.Making m) = touched_making m
 touched_entities (places.Filing f) = touched_filing f
@@ -84,36 +84,36 @@ touched_entities (places.Read targets) = Attributes
 -- ---- other parts
 
 -- lists, otherwise than by a member more or less
-abbrev pub touched_lists : Place → Touched
+abbrev pub touched_lists : Place → Touch
 touched_lists (places.Making m) = if makes_a_class m then Anything else Nothing
 touched_lists x = Nothing
 
 -- the pending notices
-abbrev pub touched_notices : Place → Touched
+abbrev pub touched_notices : Place → Touch
 touched_notices (places.Timing x) = Anything
 touched_notices x = Nothing
 
 -- ---- a step
 
 -- how much the step of a place may change of a part
-abbrev pub touched : Part → Place → Touched
-touched parts.Anything x = Anything
-touched parts.Nothing x = Nothing
-touched parts.Entities x = touched_entities x
-touched parts.Lists x = touched_lists x
-touched parts.Notices x = touched_notices x
+abbrev pub touched_part : Part → Place → Touch
+touched_part parts.Anything x = Anything
+touched_part parts.Nothing x = Nothing
+touched_part parts.Entities x = touched_entities x
+touched_part parts.Lists x = touched_lists x
+touched_part parts.Notices x = touched_notices x
 
 -- the same of the place that stands there, if one does
-abbrev pub touched_by : Part → Option Spot → Touched
+abbrev pub touched_by : Part → Option Spot → Touch
 touched_by part None = Anything
-touched_by part (Some spot) = touched part spot.place
+touched_by part (Some spot) = touched_part part spot.place
 
 -- the same of the place where the last frame stands
-abbrev pub touched_in : ProgramTable → Part → State → Touched
+abbrev pub touched_in : ProgramTable → Part → State → Touch
 touched_in p part s = touched_by part (spot_at p s.frame.section s.frame.place)
 
 -- how much the step from state p may change of a part
-abbrev pub touched_at : Input → Part → ℕ → Touched
+abbrev pub touched_at : Input → Part → ℕ → Touch
 touched_at t parts.Anything p = Anything
 touched_at t parts.Nothing p = Nothing
 touched_at t parts.Entities p = touched_in t.program parts.Entities (run t p)

@@ -8,7 +8,7 @@ use Rattle.ss_debug.specs.AfterRefusal.{IsPartOfMovement, IsStateAfterRefusedMov
 use Rattle.ss_debug.specs.Turn as debugger
 use Rattle.ss_debug.specs.Turn.{DebuggerState, debugger_state_at}
 use Rattle.ss_trace.specs.declared.movement.Movement.{Movement}
-use Rattle.ss_trace.specs.Movements.{Shape, standing, ahead, seek_back, over_by, back_over_by, shape_of, Counted}
+use Rattle.ss_trace.specs.Movements.{Shape, debugger_shape, ahead, seek_back, over_by, back_over_by, shape_of, CountedEnd}
 use Rattle.ss_trace.specs.Movements.{over, back_over}
 use Rattle.ss_trace.specs.Movements.{ahead_end, is_met}
 
@@ -27,26 +27,26 @@ ahead_word word t breaks test p q = forward_word word t breaks (is_met test p q)
 
 -- the word of OVER from p: HALTED where the status isn't ready, DONE where all were made, BREAK at a break line, else
 -- BOUND
-abbrev pub over_word : Input → List ℕ → ℕ → Counted → List ℕ
+abbrev pub over_word : Input → List ℕ → ℕ → CountedEnd → List ℕ
 over_word t breaks p c = forward_word (codes "DONE") t breaks (nat_eq c.left 0) p c.position
 
 -- the word of BACK OVER: DONE where all were made, else as at the earliest kept position, else BOUND
-abbrev pub back_over_word : ℕ → Counted → List ℕ
+abbrev pub back_over_word : ℕ → CountedEnd → List ℕ
 back_over_word earliest c =
     if nat_eq c.left 0 then codes "DONE" else
     if nat_eq c.position earliest then earliest_word earliest else codes "BOUND"
 
 -- where OVER leads
-abbrev pub over_from : Input → DebuggerState → ℕ → Counted
+abbrev pub over_from : Input → DebuggerState → ℕ → CountedEnd
 over_from t d k = over t d.breaks k d.position GREATEST_BOUND
 
 -- where BACK OVER leads
-abbrev pub back_over_from : Input → DebuggerState → ℕ → Counted
+abbrev pub back_over_from : Input → DebuggerState → ℕ → CountedEnd
 back_over_from t d k = back_over t d.earliest k d.position GREATEST_BOUND
 
 -- the position to which a movement of this shape leads
 abbrev pub end_of : Input → DebuggerState → Shape → ℕ
-end_of t d (standing shape) = debugger.end_of t d shape
+end_of t d (debugger_shape shape) = debugger.end_of t d shape
 end_of t d (ahead test word) = ahead_end t d.breaks test d.position GREATEST_BOUND
 end_of t d (seek_back test word) = search_back_end test d.earliest d.position GREATEST_BOUND
 end_of t d (over_by k) = (over_from t d k).position
@@ -54,7 +54,7 @@ end_of t d (back_over_by k) = (back_over_from t d k).position
 
 -- its word, where it leads to q
 abbrev pub word_of : Input → DebuggerState → Shape → ℕ → List ℕ
-word_of t d (standing shape) q = debugger.word_of t d shape q
+word_of t d (debugger_shape shape) q = debugger.word_of t d shape q
 word_of t d (ahead test word) q = ahead_word word t d.breaks test d.position q
 word_of t d (seek_back test word) q = search_back_word test word d.earliest d.position q
 word_of t d (over_by k) q = over_word t d.breaks d.position (over_from t d k)
@@ -76,7 +76,7 @@ IsPartOfMovementBack old q new =
 -- where it was refused memory: a movement forward was made in part, as one back that makes answers; others back as a
 -- whole
 abbrev pub IsAfterRefusedShape : Input → DebuggerState → Shape → DebuggerState → Type 0
-IsAfterRefusedShape t old (standing shape) new = IsStateAfterRefusedMovement t old shape new
+IsAfterRefusedShape t old (debugger_shape shape) new = IsStateAfterRefusedMovement t old shape new
 IsAfterRefusedShape t old (ahead test word) new = IsPartOfMovement old (end_of t old (ahead test word)) new
 IsAfterRefusedShape t old (seek_back test word) new = IsPartOfMovementBack old (end_of t old (seek_back test word)) new
 IsAfterRefusedShape t old (over_by k) new = IsPartOfMovement old (end_of t old (over_by k)) new

@@ -29,9 +29,9 @@ joined_byte b [] = if nat_eq b 10 then [] else b ∷ []
 joined_byte b (c ∷ rest) = if nat_eq b 10 then codes ", " else b ∷ []
 
 -- lines in one
-abbrev pub joined : List ℕ → List ℕ
-joined [] = []
-joined (b ∷ rest) = joined_byte b rest ++ joined rest
+abbrev pub joined_lines : List ℕ → List ℕ
+joined_lines [] = []
+joined_lines (b ∷ rest) = joined_byte b rest ++ joined_lines rest
 
 -- a text, or that something lives of which nothing is told
 abbrev pub or_lives : List ℕ → List ℕ
@@ -47,9 +47,9 @@ abbrev pub told_value : Question → List ℕ → List ℕ
 told_value (Shown shown.Clock) answer = behind 32 (without_end answer)
 told_value (Shown shown.Where) answer = without_end answer
 told_value (Shown (shown.Variable name)) answer = drop 1 (behind 61 (without_end answer))
-told_value (Shown (shown.Entity name x)) answer = or_lives (joined (behind 10 answer))
+told_value (Shown (shown.Entity name x)) answer = or_lives (joined_lines (behind 10 answer))
 told_value (Shown (shown.Set name owner)) answer = drop 1 (behind 58 (without_end answer))
-told_value (Shown shown.Events) answer = joined answer
+told_value (Shown shown.Events) answer = joined_lines answer
 told_value (Shown shown.Taken) answer = behind 32 (without_end answer)
 told_value (Shown shown.Entry) answer = behind 32 (without_end answer)
 told_value (Shown shown.Report) answer = report_value answer

@@ -1,4 +1,4 @@
--- Private: what the types of the code stand for, and where a debugger stands.
+-- Where a debugger stands behind a movement, and what a movement looks for.
 use Rattle.std.specs.Prelude.{ℕ, ◌≡◌, ◌≤◌, ◌<◌, Bool, true}
 use Rattle.ss_machine.specs.Moment.{position}
 use Rattle.ss_machine.specs.Run.{Input}

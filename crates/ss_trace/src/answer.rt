@@ -1,7 +1,7 @@
 //! The answers to questions.
 ghost use Rattle.std.specs.Prelude.{◌≡◌, ◌++◌, OnOk, IfOk, Option};
 ghost use Rattle.ss_machine.specs.Moment.{position};
-ghost use Rattle.ss_trace.specs.Question.{answer_at, with_number, shown_asked, asked};
+ghost use Rattle.ss_trace.specs.Question.{answer_at, with_number, shown_question_text, question_text};
 
 use crate::attribute::push_attribute;
 use crate::count::push_count;
@@ -65,7 +65,7 @@ fn push_with_number(bytes: &mut Vec<u8>, name: &[u8], number: Option<i64>) -> Re
 
 /// Appends a question of the debugger as it is asked.
 fn push_shown(shown: &Shown, bytes: &mut Vec<u8>) -> Result<(), AllocError>
-    ensures { OnOk result (bytes.new.items ≡ bytes.old.items ++ shown_asked shown.now) }
+    ensures { OnOk result (bytes.new.items ≡ bytes.old.items ++ shown_question_text shown.now) }
 {
     match shown {
         Shown::Clock => bytes.extend_from_slice(b"CLOCK"),
@@ -90,7 +90,7 @@ fn push_shown(shown: &Shown, bytes: &mut Vec<u8>) -> Result<(), AllocError>
 ///
 /// `AllocError` where a growth was refused; then what was appended does not count.
 pub fn push_asked(question: &Question, bytes: &mut Vec<u8>) -> Result<(), AllocError>
-    ensures { OnOk result (bytes.new.items ≡ bytes.old.items ++ asked question.now) }
+    ensures { OnOk result (bytes.new.items ≡ bytes.old.items ++ question_text question.now) }
 {
     match question {
         Question::Shown(shown) => push_shown(shown, bytes),

@@ -1,4 +1,5 @@
-//! One attribute of an entity, kept ones too.
+//! One attribute of an entity, kept ones too. The type of these is told by definitions, for proofs
+//! alone.
 ghost use Rattle.std.specs.Prelude.{◌≡◌, ◌++◌, ◌<◌, length, OnOk, pos, Option, take, drop};
 ghost use Rattle.ss_program.specs.declared.kinds.Owner.TheVariants.{OwnedBy};
 ghost use Rattle.ss_program.specs.Program.{set_of, is_same_owner};

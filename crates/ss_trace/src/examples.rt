@@ -7,7 +7,7 @@ ghost use Rattle.ss_trace.specs.declared.question.Question.TheVariants.{Shown, C
 ghost use Rattle.ss_trace.specs.Question.{changes_at};
 ghost use Rattle.ss_trace.specs.History.{history, history_text};
 ghost use Rattle.ss_trace.specs.declared.touches.Part.TheVariants as parts;
-ghost use Rattle.ss_trace.specs.declared.touches.Touched.TheVariants.{Nothing, Attribute, Attributes, Set, Entities};
+ghost use Rattle.ss_trace.specs.declared.touches.Touch.TheVariants.{Nothing, Attribute, Attributes, Set, Entities};
 ghost use Rattle.ss_trace.specs.EntityNumbers.{numbers_at};
 ghost use Rattle.ss_trace.specs.Told.{is_told_at};
 ghost use Rattle.ss_trace.specs.Touches.{touched_at};
@@ -81,7 +81,7 @@ fn notices_and_reports_change()
     ensures pending { history e.ticks_run (Shown shown.Events) 0 7 ≡ 1 ∷ 0 ∷ [] }
     ensures clock { history e.ticks_run (Shown shown.Clock) 0 7 ≡ 1 ∷ [] }
     ensures report { history e.ticks_run (Shown shown.Report) 0 7 ≡ 3 ∷ [] }
-    ensures fault { history e.walk_run e.walked 0 10 ≡ 8 ∷ 5 ∷ 2 ∷ [] }
+    ensures fault { history e.walk_run e.walked_set 0 10 ≡ 8 ∷ 5 ∷ 2 ∷ [] }
 {}
 
 /// BACK CHANGE stops before the step of the change, at position 0 too, and else at the earliest

@@ -1,4 +1,4 @@
-//! What is read of a state at a glance.
+//! What is read of a state at a glance. The type is told by definitions, for proofs alone.
 ghost use Rattle.std.specs.Prelude.{◌≡◌};
 ghost use Rattle.ss_trace.specs.Sight.{is_same_number, is_same_count, is_same_entry, is_same_glance};
 

@@ -4,8 +4,8 @@ ghost use Rattle.std.specs.Cmp.Lexicographic.{pointwise};
 ghost use Rattle.std.specs.Ordering.{int_eq};
 ghost use Rattle.ss_machine.specs.Moment.{position};
 ghost use Rattle.ss_trace.specs.Question.{answer_at};
-ghost use Rattle.ss_trace.specs.Sight.{seen_at, is_same_glance};
-ghost use Rattle.ss_trace.specs.declared.touches.Touched.TheVariants.{Nothing};
+ghost use Rattle.ss_trace.specs.Sight.{glance_at, is_same_glance};
+ghost use Rattle.ss_trace.specs.declared.touches.Touch.TheVariants.{Nothing};
 ghost use Rattle.ss_trace.specs.EntityNumbers.{is_counted, numbers_at};
 ghost use Rattle.ss_trace.specs.Told.{is_told_at};
 ghost use Rattle.ss_trace.specs.Touches.{touched_at};
@@ -15,9 +15,9 @@ use crate::answer::answer_to;
 use crate::entity_numbers::{is_counted, push_numbers};
 use crate::glance::{Glance, is_same};
 use crate::question::Question;
-use crate::sight::{Sight, seen, sight_of};
+use crate::sight::{Sight, glance_of, sight_of};
 use crate::told::is_told;
-use crate::touches::{Part, Touched, part_of, touched_here};
+use crate::touches::{Part, Touch, part_of, touched_here};
 use ss_debug::Debugger;
 use ss_links::SetBoard;
 use std::alloc::{AllocError, Global};
@@ -59,7 +59,7 @@ impl Reading {
         Ok(Reading {
             alloc,
             sight,
-            glance: seen(debugger, question, sight),
+            glance: glance_of(debugger, question, sight),
             part,
             numbers,
             answer,
@@ -69,7 +69,7 @@ impl Reading {
 
     /// How much the step from where the debugger stands may change of what the question looks at,
     /// although the same is seen behind it.
-    pub fn touched<S: SetBoard>(&self, debugger: &Debugger<S>) -> Touched
+    pub fn touched<S: SetBoard>(&self, debugger: &Debugger<S>) -> Touch
         ensures { result
             ≡ touched_at debugger.now.machine.input self.now.part (position debugger.now.machine) }
     {
@@ -81,14 +81,14 @@ impl Reading {
         requires { Looks debugger.now.machine.input question.now self.old }
         ensures looks { Looks debugger.now.machine.input question.now self.new }
         ensures glance { self.new.glance
-            ≡ seen_at debugger.now.machine.input question.now (position debugger.now.machine) }
+            ≡ glance_at debugger.now.machine.input question.now (position debugger.now.machine) }
         ensures numbers { self.new.numbers ≡ self.old.numbers }
         ensures answer { self.new.answer ≡ self.old.answer }
-        ensures same { result ≡ is_same_glance self.old.glance (seen_at debugger.now.machine.input
+        ensures same { result ≡ is_same_glance self.old.glance (glance_at debugger.now.machine.input
             question.now (position debugger.now.machine)) }
     {
         debugger.machine().known();
-        let glance = seen(debugger, question, self.sight);
+        let glance = glance_of(debugger, question, self.sight);
         let before = replace(&mut self.glance, glance);
         is_same(before, glance)
     }
@@ -118,12 +118,12 @@ impl Reading {
 
     /// Whether the numbers of the entity at which the question looks are the same, on the other side
     /// of a step that perhaps changed what it may; where it looks at none, they are not.
-    #[tactic(auto, using(crate::proofs::Numbered::same_numbers, crate::proofs::Numbered::is_entity))]
+    #[tactic(auto, using(crate::proofs::SameNumbers::same_numbers, crate::proofs::SameNumbers::is_entity))]
     fn has_same_numbers<S: SetBoard>(
         &mut self,
         debugger: &Debugger<S>,
         question: &Question,
-        touched: Touched,
+        touched: Touch,
     ) -> Result<bool, AllocError>
         requires looks { Looks debugger.now.machine.input question.now self.old }
         requires told { is_told_at debugger.now.machine.input question.now self.old.numbers.items
@@ -160,7 +160,7 @@ impl Reading {
     ) -> Result<Option<Vec<u8>>, AllocError>
         requires looks { Looks debugger.now.machine.input question.now self.old }
         requires glance { self.old.glance
-            ≡ seen_at debugger.now.machine.input question.now (position debugger.now.machine) }
+            ≡ glance_at debugger.now.machine.input question.now (position debugger.now.machine) }
         requires numbers { self.old.numbers.items
             ≡ numbers_at debugger.now.machine.input question.now (position debugger.now.machine) }
         ensures ok { OnOk result (IsReadAt debugger.now.machine.input question.now
@@ -187,11 +187,11 @@ impl Reading {
         &mut self,
         debugger: &Debugger<S>,
         question: &Question,
-        touched: Touched,
+        touched: Touch,
     ) -> Result<Option<Vec<u8>>, AllocError>
         requires looks { Looks debugger.now.machine.input question.now self.old }
         requires glance { self.old.glance
-            ≡ seen_at debugger.now.machine.input question.now (position debugger.now.machine) }
+            ≡ glance_at debugger.now.machine.input question.now (position debugger.now.machine) }
         requires still { touched ≡ Nothing → self.old.numbers.items
             ≡ numbers_at debugger.now.machine.input question.now (position debugger.now.machine) }
         requires told { is_told_at debugger.now.machine.input question.now self.old.numbers.items
@@ -210,7 +210,7 @@ impl Reading {
         ensures whether { IfOk result (λ before. is_some before
             ≡ not (bytes_eq self.old.answer.items self.new.answer.items)) }
     {
-        if matches!(touched, Touched::Nothing) {
+        if matches!(touched, Touch::Nothing) {
             return Ok(None);
         }
         if self.has_same_numbers(debugger, question, touched)? {
@@ -227,11 +227,11 @@ impl Reading {
         &mut self,
         debugger: &Debugger<S>,
         question: &Question,
-        touched: Touched,
+        touched: Touch,
     ) -> Result<Option<Vec<u8>>, AllocError>
         requires looks { Looks debugger.now.machine.input question.now self.old }
         requires quiet { touched ≡ Nothing → is_same_glance self.old.glance
-            (seen_at debugger.now.machine.input question.now (position debugger.now.machine))
+            (glance_at debugger.now.machine.input question.now (position debugger.now.machine))
             ≡ true → self.old.answer.items
             ≡ answer_at debugger.now.machine.input question.now (position debugger.now.machine) }
         requires still { touched ≡ Nothing → self.old.numbers.items
@@ -244,7 +244,7 @@ impl Reading {
             → self.old.answer.items
             ≡ answer_at debugger.now.machine.input question.now (position debugger.now.machine) }
         requires glance { is_counted self.old.part self.old.sight ≡ true → self.old.glance
-            ≡ seen_at debugger.now.machine.input question.now (position debugger.now.machine) }
+            ≡ glance_at debugger.now.machine.input question.now (position debugger.now.machine) }
         ensures ok { OnOk result (IsReadAt debugger.now.machine.input question.now
             (position debugger.now.machine) self.new) }
         ensures changed { IfOk result (λ before. MatchOption before
@@ -257,8 +257,8 @@ impl Reading {
         if is_counted(self.part, self.sight) {
             return self.follow_entity(debugger, question, touched);
         }
-        let seen = self.look(debugger, question);
-        if seen && matches!(touched, Touched::Nothing) {
+        let same = self.look(debugger, question);
+        if same && matches!(touched, Touch::Nothing) {
             return Ok(None);
         }
         if self.has_same_numbers(debugger, question, touched)? {

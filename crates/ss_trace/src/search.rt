@@ -6,7 +6,7 @@ ghost use Rattle.ss_debug.specs.Turn.{debugger_state_after_movement, movement_an
 ghost use Rattle.ss_debug.specs.AfterRefusal.{IsStateAfterRefusedMovement};
 ghost use Rattle.ss_debug.specs.View.{debugger_state_of};
 ghost use Rattle.ss_trace.specs.Question.{changes_at};
-ghost use Rattle.ss_trace.specs.Movements.{standing, ahead, seek_back, over_by, back_over_by, go_shape};
+ghost use Rattle.ss_trace.specs.Movements.{debugger_shape, ahead, seek_back, over_by, back_over_by, go_shape};
 ghost use Rattle.ss_trace.specs.Movements.{has_changed};
 ghost use Rattle.ss_trace.specs.Turn.{state_after, answer, IsStateAfterRefusal};
 ghost use Rattle.ss_trace.specs.Turn.{state_after_shape, shape_answer, IsAfterRefusedShape};
@@ -106,10 +106,10 @@ fn go_back_to<S: SetBoard>(
     ensures input { debugger.new.machine.input ≡ debugger.old.machine.input }
     ensures place { debugger_state_of debugger.new
         ≡ state_after_shape debugger.old.machine.input (debugger_state_of debugger.old)
-        (standing (search_back (sought_test debugger.old.machine.input sought) word.now)) }
+        (debugger_shape (search_back (sought_test debugger.old.machine.input sought) word.now)) }
     ensures said { OnOk result (bytes.new.items ≡ bytes.old.items
         ++ shape_answer debugger.old.machine.input (debugger_state_of debugger.old)
-        (standing (search_back (sought_test debugger.old.machine.input sought) word.now))) }
+        (debugger_shape (search_back (sought_test debugger.old.machine.input sought) word.now))) }
     ensures memory { OnErr result (bytes.new.items ≡ bytes.old.items) }
 {
     let from = debugger.machine().position();

@@ -1,4 +1,4 @@
-//! Where a question looks, and what is seen there.
+//! Where a question looks, and what is seen there. The type is told by definitions, for proofs alone.
 ghost use Rattle.std.specs.Prelude.{◌≡◌, ◌<◌, length, drop, take, pos, Some, IfSome};
 ghost use Rattle.std.specs.Result.{result_unwrap_or};
 ghost use Rattle.ss_program.specs.Program.{set_of};
@@ -9,7 +9,7 @@ ghost use Rattle.ss_trace.specs.Question.{kept_of, kept_value};
 ghost use Rattle.ss_trace.specs.Sight.{sight_of_variable, sight_of_kept, sight_of_class, sight_of_list, sight_of_set};
 ghost use Rattle.ss_trace.specs.Sight.{sight_of_entity, sight_of, IsInTables, variable_asked, local_value};
 ghost use Rattle.ss_trace.specs.Sight.{value_if_exists};
-ghost use Rattle.ss_trace.specs.Sight.{members_seen, seen};
+ghost use Rattle.ss_trace.specs.Sight.{members_seen, glance_of};
 
 use crate::attribute::{Kept, has_kept, kept_of, kept_value};
 use crate::glance::Glance;
@@ -273,9 +273,9 @@ fn living_seen<S: SetBoard>(machine: &Machine<S>, class: usize, x: i64) -> Optio
 }
 
 /// What is seen where the debugger stands.
-pub fn seen<S: SetBoard>(debugger: &Debugger<S>, question: &Question, sight: Sight) -> Glance
+pub fn glance_of<S: SetBoard>(debugger: &Debugger<S>, question: &Question, sight: Sight) -> Glance
     requires { IsInTables debugger.now.machine.input.program sight }
-    ensures { result ≡ seen debugger.now.machine.input.program debugger.now.machine.state
+    ensures { result ≡ glance_of debugger.now.machine.input.program debugger.now.machine.state
         question.now sight }
 {
     let machine = debugger.machine();

@@ -1,4 +1,5 @@
-//! What a movement looks for, and single steps on the way there.
+//! What a movement looks for, and single steps on the way there. The type is told by definitions,
+//! for proofs alone.
 ghost use Rattle.std.specs.Prelude.{◌≡◌, ◌+◌, ◌<◌, OnOk, OnErr, true};
 ghost use Rattle.ss_machine.specs.Moment.{position};
 ghost use Rattle.ss_machine.specs.declared.limits.TheConstants.{LAST_POSITION};

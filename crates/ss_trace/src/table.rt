@@ -4,7 +4,7 @@ ghost use Rattle.std.specs.Fmt.{signed_decimal};
 ghost use Rattle.ss_machine.specs.Moment.{position};
 ghost use Rattle.ss_debug.specs.Move.{line_at};
 ghost use Rattle.ss_debug.specs.Answer.{section_at};
-ghost use Rattle.ss_trace.specs.Question.{asked};
+ghost use Rattle.ss_trace.specs.Question.{question_text};
 ghost use Rattle.ss_trace.specs.Value.{value_in};
 ghost use Rattle.ss_trace.specs.History.{to_right, to_left, row, head_row, no_change_head, no_change_text, change_line};
 
@@ -206,7 +206,7 @@ pub fn push_change_line(
     after: &[u8],
 ) -> Result<(), AllocError>
     ensures { OnOk result (bytes.new.items ≡ bytes.old.items
-        ++ change_line (codes "CHANGED") (asked question.now) (value_in question.now before.now)
+        ++ change_line (codes "CHANGED") (question_text question.now) (value_in question.now before.now)
         (value_in question.now after.now)) }
 {
     bytes.extend_from_slice(b"CHANGED ")?;

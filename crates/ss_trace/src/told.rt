@@ -12,7 +12,7 @@ use crate::attribute::Kept;
 use crate::entity_numbers::kept_number;
 use crate::rows::attribute_count;
 use crate::sight::Sight;
-use crate::touches::{Part, Touched};
+use crate::touches::{Part, Touch};
 use ss_links::SetBoard;
 use ss_machine::Machine;
 use ss_program::Program;
@@ -195,7 +195,7 @@ fn tells_touched<S: SetBoard>(
     machine: &Machine<S>,
     class: usize,
     x: i64,
-    touched: Touched,
+    touched: Touch,
 ) -> bool
     requires { class < length machine.now.input.program.classes }
     ensures { result ≡ tells_touched machine.now.input.program machine.now.state.store class
@@ -203,18 +203,18 @@ fn tells_touched<S: SetBoard>(
 {
     let program = machine.program();
     match touched {
-        Touched::Nothing => true,
-        Touched::Attribute(of, attribute) => {
+        Touch::Nothing => true,
+        Touch::Attribute(of, attribute) => {
             of != class
                 || (attribute < attribute_count(program, class)
                     && tells_attribute(numbers, machine, class, x, attribute))
         }
-        Touched::Attributes => tells_attributes(numbers, machine, class, x),
-        Touched::Set(set) => {
+        Touch::Attributes => tells_attributes(numbers, machine, class, x),
+        Touch::Set(set) => {
             set < program.sets.len() && tells_set(numbers, machine, class, x, set)
         }
-        Touched::Entities => tells_all(numbers, machine, class, x),
-        Touched::Anything => false,
+        Touch::Entities => tells_all(numbers, machine, class, x),
+        Touch::Anything => false,
     }
 }
 
@@ -224,7 +224,7 @@ fn tells_entity<S: SetBoard>(
     machine: &Machine<S>,
     class: usize,
     x: i64,
-    touched: Touched,
+    touched: Touch,
 ) -> bool
     requires { class < length machine.now.input.program.classes }
     ensures { result ≡ tells_entity machine.now.input.program machine.now.state.store class
@@ -232,8 +232,8 @@ fn tells_entity<S: SetBoard>(
 {
     match (numbers.split_first(), touched) {
         (Some((_, told)), _) => tells_touched(told, machine, class, x, touched),
-        (None, Touched::Anything) => false,
-        (None, Touched::Entities) => !machine.store().exists(class, x),
+        (None, Touch::Anything) => false,
+        (None, Touch::Entities) => !machine.store().exists(class, x),
         (None, _) => true,
     }
 }
@@ -245,7 +245,7 @@ pub fn is_told<S: SetBoard>(
     machine: &Machine<S>,
     part: Part,
     sight: Sight,
-    touched: Touched,
+    touched: Touch,
 ) -> bool
     requires { IsInTables machine.now.input.program sight }
     ensures { result ≡ is_told part sight machine.now.input.program machine.now.state.store

@@ -1,10 +1,11 @@
-//! How much a step may change of the parts of a state that no glance tells.
+//! How much a step may change of the parts of a state that no glance tells. The types are told by
+//! definitions, for proofs alone.
 ghost use Rattle.std.specs.Prelude.{◌≡◌};
 ghost use Rattle.ss_machine.specs.Moment.{position};
 ghost use Rattle.ss_trace.specs.Touches.{touched_target, touched_assign, touched_removal, touched_filing};
 ghost use Rattle.ss_trace.specs.Touches.{touched_control, touched_looping, touched_entities, touched_making};
 ghost use Rattle.ss_trace.specs.Touches.{makes_a_class};
-ghost use Rattle.ss_trace.specs.Touches.{touched_lists, touched_notices, touched, touched_in, touched_at, part_of};
+ghost use Rattle.ss_trace.specs.Touches.{touched_lists, touched_notices, touched_part, touched_in, touched_at, part_of};
 
 use crate::question::Question;
 use ss_debug::{Debugger, Question as Shown};
@@ -28,7 +29,7 @@ pub enum Part {
 
 /// How much a step may change of the part at which a question looks.
 #[derive(Clone, Copy, Debug, PartialEq, Eq)]
-pub enum Touched {
+pub enum Touch {
     /// Nothing of it.
     Nothing,
     /// One attribute of a class, by the class and its number there.
@@ -57,20 +58,20 @@ pub fn part_of(question: &Question) -> Part
 }
 
 /// What is touched where a value is assigned.
-fn touched_target(target: &Target) -> Touched
+fn touched_target(target: &Target) -> Touch
     ensures { result ≡ touched_target target.now }
 {
     match target {
-        Target::Variable(_) => Touched::Nothing,
+        Target::Variable(_) => Touch::Nothing,
         Target::Attribute {
             class,
             attribute,
             ..
-        } => Touched::Attribute(*class, *attribute),
+        } => Touch::Attribute(*class, *attribute),
     }
 }
 
-fn touched_assign(assign: &Assign) -> Touched
+fn touched_assign(assign: &Assign) -> Touch
     ensures { result ≡ touched_assign assign.now }
 {
     match assign {
@@ -80,43 +81,43 @@ fn touched_assign(assign: &Assign) -> Touched
 }
 
 /// What is touched where a member is removed from a list of a set and goes to a target.
-fn touched_removal(target: &Target, set: usize) -> Touched
+fn touched_removal(target: &Target, set: usize) -> Touch
     ensures { result ≡ touched_removal target.now set }
 {
     match target {
-        Target::Variable(_) => Touched::Set(set),
-        Target::Attribute { .. } => Touched::Entities,
+        Target::Variable(_) => Touch::Set(set),
+        Target::Attribute { .. } => Touch::Entities,
     }
 }
 
-fn touched_filing(filing: &Filing) -> Touched
+fn touched_filing(filing: &Filing) -> Touch
     ensures { result ≡ touched_filing filing.now }
 {
     match filing {
         Filing::File { set, .. } | Filing::FileAt { set, .. } | Filing::Remove { set, .. } => {
-            Touched::Set(set.set)
+            Touch::Set(set.set)
         }
         Filing::RemoveAt { target, set, .. } => touched_removal(target, set.set),
     }
 }
 
 /// What ends a section assigns what it yields.
-fn touched_control(control: Control) -> Touched
+fn touched_control(control: Control) -> Touch
     ensures { result ≡ touched_control control }
 {
     match control {
-        Control::Stop => Touched::Nothing,
-        Control::Return | Control::End => Touched::Attributes,
+        Control::Stop => Touch::Nothing,
+        Control::Return | Control::End => Touch::Attributes,
     }
 }
 
 /// What goes through cases assigns the statistics that it tells.
-fn touched_looping(looping: &Looping) -> Touched
+fn touched_looping(looping: &Looping) -> Touch
     ensures { result ≡ touched_looping looping.now }
 {
     match looping {
-        Looping::Tell(_) => Touched::Attributes,
-        _ => Touched::Nothing,
+        Looping::Tell(_) => Touch::Attributes,
+        _ => Touch::Nothing,
     }
 }
 
@@ -128,18 +129,18 @@ fn makes_a_class(making: &Making) -> bool
 }
 
 /// What is touched where entities are made or ended.
-fn touched_making(making: &Making) -> Touched
+fn touched_making(making: &Making) -> Touch
     ensures { result ≡ touched_making making.now }
 {
     if makes_a_class(making) {
-        Touched::Anything
+        Touch::Anything
     } else {
-        Touched::Entities
+        Touch::Entities
     }
 }
 
 /// What the step of a place may change of entities and lists.
-fn touched_entities(place: &Place) -> Touched
+fn touched_entities(place: &Place) -> Touch
     ensures { result ≡ touched_entities place.now }
 {
     match place {
@@ -148,39 +149,39 @@ fn touched_entities(place: &Place) -> Touched
         Place::Filing(filing) => touched_filing(filing.value()),
         Place::Control(control) => touched_control(*control),
         Place::Looping(looping) => touched_looping(looping),
-        Place::Read(_) => Touched::Attributes,
-        Place::Output(_) | Place::Branch(_) | Place::Call(_) => Touched::Nothing,
-        Place::Timing(_) => Touched::Entities,
+        Place::Read(_) => Touch::Attributes,
+        Place::Output(_) | Place::Branch(_) | Place::Call(_) => Touch::Nothing,
+        Place::Timing(_) => Touch::Entities,
     }
 }
 
 /// What the step of a place may change of lists, otherwise than by a member more or less.
-fn touched_lists(place: &Place) -> Touched
+fn touched_lists(place: &Place) -> Touch
     ensures { result ≡ touched_lists place.now }
 {
     match place {
-        Place::Making(making) if makes_a_class(making.value()) => Touched::Anything,
-        _ => Touched::Nothing,
+        Place::Making(making) if makes_a_class(making.value()) => Touch::Anything,
+        _ => Touch::Nothing,
     }
 }
 
 /// What the step of a place may change of the pending notices.
-fn touched_notices(place: &Place) -> Touched
+fn touched_notices(place: &Place) -> Touch
     ensures { result ≡ touched_notices place.now }
 {
     match place {
-        Place::Timing(_) => Touched::Anything,
-        _ => Touched::Nothing,
+        Place::Timing(_) => Touch::Anything,
+        _ => Touch::Nothing,
     }
 }
 
 /// What the step of a place may change of a part.
-fn touched_part(part: Part, place: &Place) -> Touched
-    ensures { result ≡ touched part place.now }
+fn touched_part(part: Part, place: &Place) -> Touch
+    ensures { result ≡ touched_part part place.now }
 {
     match part {
-        Part::Anything => Touched::Anything,
-        Part::Nothing => Touched::Nothing,
+        Part::Anything => Touch::Anything,
+        Part::Nothing => Touch::Nothing,
         Part::Entities => touched_entities(place),
         Part::Lists => touched_lists(place),
         Part::Notices => touched_notices(place),
@@ -188,7 +189,7 @@ fn touched_part(part: Part, place: &Place) -> Touched
 }
 
 /// What the step of the place where the debugger stands may change of a part.
-fn touched_by_place<S: SetBoard>(debugger: &Debugger<S>, part: Part) -> Touched
+fn touched_by_place<S: SetBoard>(debugger: &Debugger<S>, part: Part) -> Touch
     ensures { result
         ≡ touched_in debugger.now.machine.input.program part debugger.now.machine.state }
 {
@@ -199,14 +200,14 @@ fn touched_by_place<S: SetBoard>(debugger: &Debugger<S>, part: Part) -> Touched
 }
 
 /// How much the step from where the debugger stands may change of a part.
-pub fn touched_here<S: SetBoard>(debugger: &Debugger<S>, part: Part) -> Touched
+pub fn touched_here<S: SetBoard>(debugger: &Debugger<S>, part: Part) -> Touch
     ensures { result
         ≡ touched_at debugger.now.machine.input part (position debugger.now.machine) }
 {
     debugger.machine().known();
     match part {
-        Part::Anything => Touched::Anything,
-        Part::Nothing => Touched::Nothing,
+        Part::Anything => Touch::Anything,
+        Part::Nothing => Touch::Nothing,
         Part::Entities | Part::Lists | Part::Notices => touched_by_place(debugger, part),
     }
 }

@@ -2,7 +2,7 @@
 ghost use Rattle.std.specs.Prelude.{◌≡◌, ◌++◌, ◌≤◌, OnOk, drop, length, nat_eq};
 ghost use Rattle.std.specs.List.{position_or_len};
 ghost use Rattle.ss_trace.specs.declared.question.Question.TheVariants as questions;
-ghost use Rattle.ss_trace.specs.Value.{says_none, behind, without_end, joined, joined_byte, or_lives};
+ghost use Rattle.ss_trace.specs.Value.{says_none, behind, without_end, joined_lines, joined_byte, or_lives};
 ghost use Rattle.ss_trace.specs.Value.{report_value, told_value, value_in};
 
 use crate::question::Question;
@@ -78,7 +78,7 @@ fn push_joined_byte(bytes: &mut Vec<u8>, byte: u8, rest: &[u8]) -> Result<(), Al
 
 /// Appends lines in one, a comma and a blank between.
 fn push_joined(bytes: &mut Vec<u8>, lines: &[u8]) -> Result<(), AllocError>
-    ensures { OnOk result (bytes.new.items ≡ bytes.old.items ++ joined lines.now) }
+    ensures { OnOk result (bytes.new.items ≡ bytes.old.items ++ joined_lines lines.now) }
 {
     let mut left = lines;
     while let Some((byte, rest)) = left.split_first() {
@@ -90,7 +90,7 @@ fn push_joined(bytes: &mut Vec<u8>, lines: &[u8]) -> Result<(), AllocError>
 
 /// The same, or `LIVES` where there are none.
 fn push_joined_or_lives(bytes: &mut Vec<u8>, lines: &[u8]) -> Result<(), AllocError>
-    ensures { OnOk result (bytes.new.items ≡ bytes.old.items ++ or_lives (joined lines.now)) }
+    ensures { OnOk result (bytes.new.items ≡ bytes.old.items ++ or_lives (joined_lines lines.now)) }
 {
     let start = bytes.len();
     push_joined(bytes, lines)?;

@@ -6,7 +6,7 @@ use Rattle.ss_debug.specs.Move.{StopCondition, stops}
 use Rattle.ss_debug.proofs.Moves.{least_is, least_at_least}
 use Rattle.ss_trace.specs.Movements.{ahead_condition}
 use Rattle.ss_trace.specs.View.{sought_test}
-use Rattle.ss_trace.proofs.Refused.{on_err}
+use Rattle.ss_trace.proofs.Refusals.{on_err}
 use Rattle.ss_trace.proofs.Stops.{stops_here}
 use Rattle.ss_trace.proofs.ahead.ahead.Goals as goal
 

@@ -6,16 +6,16 @@ use Rattle.ss_debug.specs.Move.{StopCondition, stops}
 use Rattle.ss_debug.proofs.Moves.{least_is, least_at_least}
 use Rattle.ss_trace.specs.Question.{answer_at}
 use Rattle.ss_trace.specs.Movements.{ahead_condition, has_changed}
-use Rattle.ss_trace.specs.declared.touches.Touched.TheVariants.{Nothing}
+use Rattle.ss_trace.specs.declared.touches.Touch.TheVariants.{Nothing}
 use Rattle.ss_trace.specs.EntityNumbers.{is_counted, numbers_at}
 use Rattle.ss_trace.specs.Told.{is_told_at}
-use Rattle.ss_trace.specs.Sight.{sight_of, seen_at, is_same_glance}
+use Rattle.ss_trace.specs.Sight.{sight_of, glance_at, is_same_glance}
 use Rattle.ss_trace.specs.Touches.{touched_at, part_of}
 use Rattle.ss_trace.specs.Reading.{IsReadAt}
-use Rattle.ss_trace.proofs.Refused.{on_err}
+use Rattle.ss_trace.proofs.Refusals.{on_err}
 use Rattle.ss_trace.proofs.Changes.{stops_here, met_behind, changes_between}
 use Rattle.ss_trace.proofs.Glances.{same_is, unseen}
-use Rattle.ss_trace.proofs.Numbered.{numbers_left, counted_left, entity_seen}
+use Rattle.ss_trace.proofs.SameNumbers.{numbers_left, counted_left, entity_seen}
 use Rattle.ss_trace.proofs.Telling.{told_on}
 use Rattle.ss_trace.proofs.change_search.ahead_to_change.Goals as goal
 
@@ -34,7 +34,7 @@ follow-requires-clause-quiet g c = λ e s.
     let u = c.step_once.new.debugger.machine in
     let quiet : touched_at m.input (part_of x) (position l.machine) ≡ Nothing =
     sym (rw (held.input, held.reading.looks.part) at c.touched-touched.ensures) ∙ e in
-    let same : is_same_glance c.loop-k.reading.glance (seen_at m.input x (position u)) ≡ true =
+    let same : is_same_glance c.loop-k.reading.glance (glance_at m.input x (position u)) ≡ true =
     rw (gone.input, held.input) at s in
     rw (gone.input, held.input)
     (held.reading.answer ∙ sym (unseen m.input x (position l.machine) (position u) gone.position quiet

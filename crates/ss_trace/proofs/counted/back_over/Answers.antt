@@ -1,8 +1,8 @@
 use Rattle.std.proofs.Common.{◌≡◌, ◌+◌, ◌-◌, ℕ, true, false, refl, sym, ap, ◌∙◌, arith}
 use Rattle.ss_machine.specs.Moment.{position}
-use Rattle.ss_trace.specs.Movements.{Counted}
+use Rattle.ss_trace.specs.Movements.{CountedEnd}
 use Rattle.ss_trace.proofs.Parts.{IsBackOver, back_over_none, back_over_unmade, back_over_on}
-use Rattle.ss_trace.proofs.counted.back_over.Goals as goal
+use Rattle.ss_trace.proofs.counted_end.back_over.Goals as goal
 
 pub returns-then-not-back_over_once-clause-place : goal.returns-then-not-back_over_once-clause-place
 returns-then-not-back_over_once-clause-place g c =
@@ -22,7 +22,7 @@ returns-then-not-back_over_once-clause-place g c =
       input = rw gone.input held.input;
       forgotten = rw gone.forgotten held.forgotten;
       breaks = rw gone.breaks held.breaks;
-      position = sym (ap (λ (x : Counted). x.position) whole);
+      position = sym (ap (λ (x : CountedEnd). x.position) whole);
     }
 
 pub returns-then-not-back_over_once-clause-left : goal.returns-then-not-back_over_once-clause-left
@@ -39,7 +39,7 @@ returns-then-not-back_over_once-clause-left g c =
     let whole =
     held.rest ∙ back_over_unmade t l.machine.input d.machine.forgotten l.machine.forgotten (c.args.count - c.loop-k.k)
     p c.loop-k.bound q false held.input held.forgotten (omega arith) one refl in
-    sym (ap (λ (x : Counted). x.left) whole)
+    sym (ap (λ (x : CountedEnd). x.left) whole)
 
 pub loop-k-preserved : goal.loop-k-preserved
 loop-k-preserved g c =
@@ -78,7 +78,7 @@ returns-clause-place g c =
       input = held.input;
       forgotten = held.forgotten;
       breaks = held.breaks;
-      position = sym (ap (λ (x : Counted). x.position) whole);
+      position = sym (ap (λ (x : CountedEnd). x.position) whole);
     }
 
 pub returns-clause-left : goal.returns-clause-left
@@ -90,4 +90,4 @@ returns-clause-left g c =
     let whole =
     held.rest ∙ back_over_none t d.machine.forgotten (c.args.count - c.loop-k.k) (position l.machine)
     c.loop-k.bound (omega arith) in
-    sym (ap (λ (x : Counted). x.left) whole)
+    sym (ap (λ (x : CountedEnd). x.left) whole)

@@ -1,9 +1,9 @@
 use Rattle.std.proofs.Common.{◌≡◌, ◌+◌, ◌-◌, ℕ, sym, ap, ◌∙◌, arith}
 use Rattle.ss_machine.specs.Moment.{position}
-use Rattle.ss_trace.specs.Movements.{Counted}
+use Rattle.ss_trace.specs.Movements.{CountedEnd}
 use Rattle.ss_trace.proofs.Parts.{IsOver, over_none, over_unmade, over_at_break, over_on, over_first}
-use Rattle.ss_trace.proofs.Refused.{on_err}
-use Rattle.ss_trace.proofs.counted.over.Goals as goal
+use Rattle.ss_trace.proofs.Refusals.{on_err}
+use Rattle.ss_trace.proofs.counted_end.over.Goals as goal
 
 pub returns-then-not-made-clause-ok : goal.returns-then-not-made-clause-ok
 returns-then-not-made-clause-ok g c =
@@ -23,7 +23,7 @@ returns-then-not-made-clause-ok g c =
       input = rw gone.input held.input;
       forgotten = rw gone.forgotten held.forgotten;
       breaks = rw gone.breaks held.breaks;
-      position = sym (ap (λ (x : Counted). x.position) whole);
+      position = sym (ap (λ (x : CountedEnd). x.position) whole);
     }
 
 pub returns-then-not-made-clause-left : goal.returns-then-not-made-clause-left
@@ -40,7 +40,7 @@ returns-then-not-made-clause-left g c =
     let whole =
     held.rest ∙ over_unmade t l.machine.input d.breaks l.breaks (c.args.count - c.loop-k.k) p c.loop-k.bound q
     c.in_ok-made.made held.input held.breaks (omega arith) one c.if-not-made.true in
-    sym (ap (λ (x : Counted). x.left) whole)
+    sym (ap (λ (x : CountedEnd). x.left) whole)
 
 pub returns-then-stands_on_break-clause-ok : goal.returns-then-stands_on_break-clause-ok
 returns-then-stands_on_break-clause-ok g c =
@@ -62,7 +62,7 @@ returns-then-stands_on_break-clause-ok g c =
       input = rw gone.input held.input;
       forgotten = rw gone.forgotten held.forgotten;
       breaks = rw gone.breaks held.breaks;
-      position = sym (ap (λ (x : Counted). x.position) whole);
+      position = sym (ap (λ (x : CountedEnd). x.position) whole);
     }
 
 pub returns-then-stands_on_break-clause-left : goal.returns-then-stands_on_break-clause-left
@@ -81,7 +81,7 @@ returns-then-stands_on_break-clause-left g c =
     held.rest ∙ over_at_break t l.machine.input d.breaks l.breaks (c.args.count - c.loop-k.k - 1)
     (c.args.count - c.loop-k.k) p c.loop-k.bound q c.in_ok-made.made held.input held.breaks (omega arith) one
     c.if-not-made.false (sym on_break) in
-    sym (ap (λ (x : Counted). x.left) whole)
+    sym (ap (λ (x : CountedEnd). x.left) whole)
 
 pub returns-in_err-made-clause-memory : goal.returns-in_err-made-clause-memory
 returns-in_err-made-clause-memory g c =
@@ -94,7 +94,7 @@ returns-in_err-made-clause-memory g c =
     let late =
     over_first t l.machine.input d.breaks l.breaks (c.args.count - c.loop-k.k) p c.loop-k.bound
     (position c.over_once.new.debugger.machine) held.input held.breaks (omega arith) gone.no_later in
-    let whole = ap (λ (x : Counted). x.position) held.rest in
+    let whole = ap (λ (x : CountedEnd). x.position) held.rest in
     on_err c.from_residual.result (record {
       input = rw gone.input held.input;
       forgotten = rw gone.forgotten held.forgotten;
@@ -142,7 +142,7 @@ returns-clause-ok g c =
       input = held.input;
       forgotten = held.forgotten;
       breaks = held.breaks;
-      position = sym (ap (λ (x : Counted). x.position) whole);
+      position = sym (ap (λ (x : CountedEnd). x.position) whole);
     }
 
 pub returns-clause-left : goal.returns-clause-left
@@ -153,4 +153,4 @@ returns-clause-left g c =
     let held = c.loop-k.invariant in
     let whole =
     held.rest ∙ over_none t d.breaks (c.args.count - c.loop-k.k) (position l.machine) c.loop-k.bound (omega arith) in
-    sym (ap (λ (x : Counted). x.left) whole)
+    sym (ap (λ (x : CountedEnd). x.left) whole)

@@ -1,7 +1,7 @@
 use Rattle.std.proofs.Common.{refl, w64, to_z, of_z}
 use Rattle.ss_store.specs.Store.{number_of}
 use Rattle.ss_trace.specs.EntityNumbers.{attribute_numbers}
-use Rattle.ss_trace.proofs.Numbered.{numbers_more}
+use Rattle.ss_trace.proofs.SameNumbers.{numbers_more}
 use Rattle.ss_trace.proofs.entity_numbers.push_attributes.Goals as goal
 
 pub loop-attribute-preserved : goal.loop-attribute-preserved

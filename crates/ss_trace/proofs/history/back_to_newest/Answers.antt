@@ -2,10 +2,10 @@ use Rattle.std.proofs.Common.{◌≡◌, ◌+◌, ℕ, true, false, length, refl
 use Rattle.std.specs.Prelude.{not}
 use Rattle.ss_machine.specs.Moment.{position}
 use Rattle.ss_trace.specs.Question.{answer_at, changes_at}
-use Rattle.ss_trace.specs.declared.touches.Touched.TheVariants.{Nothing}
+use Rattle.ss_trace.specs.declared.touches.Touch.TheVariants.{Nothing}
 use Rattle.ss_trace.specs.EntityNumbers.{is_counted, numbers_at}
 use Rattle.ss_trace.specs.Told.{is_told_at}
-use Rattle.ss_trace.specs.Sight.{sight_of, seen_at, is_same_glance}
+use Rattle.ss_trace.specs.Sight.{sight_of, glance_at, is_same_glance}
 use Rattle.ss_trace.specs.Touches.{touched_at, part_of}
 use Rattle.ss_trace.specs.Reading.{IsReadAt}
 use Rattle.ss_trace.specs.View.{HasLookedBack}
@@ -13,7 +13,7 @@ use Rattle.ss_trace.proofs.Changes.{same_turned, changes_between}
 use Rattle.ss_trace.proofs.Histories.{none_before, passed, found, found_before}
 use Rattle.ss_trace.proofs.Looking.{looked_nowhere, looked_further}
 use Rattle.ss_trace.proofs.Glances.{same_is, unseen}
-use Rattle.ss_trace.proofs.Numbered.{numbers_left, counted_left, entity_seen}
+use Rattle.ss_trace.proofs.SameNumbers.{numbers_left, counted_left, entity_seen}
 use Rattle.ss_trace.proofs.Telling.{told_back}
 use Rattle.ss_trace.proofs.history.back_to_newest.Goals as goal
 
@@ -39,7 +39,7 @@ follow-requires-clause-quiet g c = λ e s.
     let gone = c.loop-debugger-test.ensures.back in
     let quiet : touched_at m.input (part_of x) (position u) ≡ Nothing =
     sym (rw (gone.input, held.gone.input, held.reading.looks.part) at c.touched-touched.ensures) ∙ e in
-    let same : is_same_glance c.loop-debugger.reading.glance (seen_at m.input x (position u)) ≡ true =
+    let same : is_same_glance c.loop-debugger.reading.glance (glance_at m.input x (position u)) ≡ true =
     rw (gone.input, held.gone.input) at s in
     rw (gone.input, held.gone.input)
     (held.reading.answer ∙ unseen m.input x (position u) (position l.machine) gone.position quiet

@@ -1,7 +1,7 @@
 use Rattle.std.proofs.Common.{◌≡◌, ◌≢◌, ◌++◌, ℕ, List, take, length, sym, ap, ◌∙◌}
 use Rattle.ss_machine.specs.Moment.{position}
 use Rattle.ss_trace.specs.History.{history, step_rows, head_row}
-use Rattle.ss_trace.proofs.Refused.{on_ok}
+use Rattle.ss_trace.proofs.Refusals.{on_ok}
 use Rattle.ss_trace.proofs.Histories.{told_some}
 use Rattle.ss_trace.proofs.history.push_table.Goals as goal
 

@@ -50,7 +50,7 @@ use Rattle.ss_machine.specs.Statements.Timing.{agenda_without, state_after_cance
 use Rattle.ss_machine.specs.Statements.Timing.{event_section, store_at_start}
 use Rattle.ss_machine.specs.Statements.Timing.{state_at_time, state_after_start, step_simulation}
 use Rattle.ss_machine.specs.Statements.Timing.{arrival_asked, state_after_arrival, state_after_load, loads}
-use Rattle.ss_trace.proofs.Untouched.{Ignores, IgnoresAttributes, got, then_got, then_any, placed, assigned, value}
+use Rattle.ss_trace.proofs.PlaceSteps.{Ignores, IgnoresAttributes, got, then_got, then_any, placed, assigned, value}
 
 -- what is said of a state is said of it with the store that a statement makes of its own
 pub record KeepsStores (P : State → Type 0) (s : State) : Type 0 where

@@ -58,7 +58,7 @@ use Rattle.ss_machine.specs.Statements.Looping.{statistic_value, state_after_tel
 use Rattle.ss_machine.specs.Statements.Printing.{longer_report, lines_asked}
 use Rattle.ss_machine.specs.Statements.Reading.{values_taken}
 use Rattle.ss_machine.specs.Step.{step_at}
-use Rattle.ss_trace.specs.declared.touches.Touched.TheVariants.{Nothing}
+use Rattle.ss_trace.specs.declared.touches.Touch.TheVariants.{Nothing}
 use Rattle.ss_trace.specs.Touches.{touched_target, touched_assign, touched_looping}
 
 -- what is said of a state that neither frames, status and variables say, nor the data taken and the entry

@@ -25,10 +25,10 @@ use Rattle.ss_trace.specs.declared.sight.Sight.TheVariants as sights
 use Rattle.ss_trace.specs.declared.touches.Part.{Part}
 use Rattle.ss_trace.specs.declared.touches.Part.TheVariants as parts
 use Rattle.ss_trace.specs.declared.touches.Part.TheVariants.{Entities}
-use Rattle.ss_trace.specs.declared.touches.Touched.{Touched}
+use Rattle.ss_trace.specs.declared.touches.Touch.{Touch}
 use Rattle.ss_trace.specs.Question.{answer_at, has_kept}
-use Rattle.ss_trace.specs.Sight.{sight_of, sight_of_entity, seen, seen_at}
-use Rattle.ss_trace.specs.declared.touches.Touched.TheVariants.{Nothing}
+use Rattle.ss_trace.specs.Sight.{sight_of, sight_of_entity, glance_of, glance_at}
+use Rattle.ss_trace.specs.declared.touches.Touch.TheVariants.{Nothing}
 use Rattle.ss_trace.specs.Touches.{touched_at, part_of}
 use Rattle.ss_trace.specs.EntityNumbers.{numbers_below, attribute_numbers, set_numbers, entity_numbers}
 use Rattle.ss_trace.specs.EntityNumbers.{is_counted, numbers_there, numbers_at}
@@ -83,7 +83,7 @@ same_numbers true xs ys e = (refl, (slice_eq-Decides Decides-int_eq xs ys (point
 same_numbers false xs ys e = absurd (cc)
 
 -- what is told is told of an entity
-pub is_entity : (part : Part) (sight : Sight) (p : ProgramTable) (st : Store) (xs : List ℤ) (u : Touched) →
+pub is_entity : (part : Part) (sight : Sight) (p : ProgramTable) (st : Store) (xs : List ℤ) (u : Touch) →
     is_told part sight p st xs u ≡ true → is_counted part sight ≡ true
 is_entity parts.Entities (sights.Entity c x) p st xs u e = refl
 is_entity parts.Anything sight p st xs u e = absurd (cc)
@@ -257,12 +257,12 @@ entity_next t name x p e = let same = store_left t p e in rw same refl
 
 -- nothing is seen at a glance of an entity
 seen_entity : (p : ProgramTable) (s u : State) (q : Question) (x : ℤ) (o : Option ℕ) →
-    seen p u q (sight_of_entity x o) ≡ seen p s q (sight_of_entity x o)
+    glance_of p u q (sight_of_entity x o) ≡ glance_of p s q (sight_of_entity x o)
 seen_entity p s u q x None = refl
 seen_entity p s u q x (Some c) = refl
 
 pub entity_seen : (t : Input) (x : Question) (p q : ℕ) → is_counted (part_of x) (sight_of t.program x) ≡ true →
-    seen_at t x q ≡ seen_at t x p
+    glance_at t x q ≡ glance_at t x p
 entity_seen t (Shown shown.Clock) p q h = absurd (cc)
 entity_seen t (Shown shown.Where) p q h = absurd (cc)
 entity_seen t (Shown (shown.Variable name)) p q h = absurd (cc)
