@@ -17,11 +17,9 @@ pub struct Words<'a> {
 const VERSION: &str = "1.0";
 
 /// The words that the program takes, for `--help` and the line that tells of wrong ones.
+///
+/// An argument is made where the program takes it, so that no end lets go of others.
 fn command<'a>(alloc: Global) -> Result<Command<'a>, Error> {
-    let model = Arg::new(alloc, "MODEL")
-        .required(true)
-        .help("The file of a model (docs/LANGUAGE.md)");
-    let data = Arg::new(alloc, "DATA").help("The file of its data");
     let tells = Arg::new(alloc, "words")
         .long("words")
         .action(ArgAction::SetTrue)
@@ -32,9 +30,13 @@ fn command<'a>(alloc: Global) -> Result<Command<'a>, Error> {
     let command = Command::new(alloc, "ssdb")
         .version(VERSION)
         .about("Debugs a SIMSCRIPT II model at a prompt, forwards and backwards (docs/PROMPT.md)")
-        .arg(model)?
-        .arg(data)?
-        .arg(tells)?;
+        .arg(tells)?
+        .arg(
+            Arg::new(alloc, "MODEL")
+                .required(true)
+                .help("The file of a model (docs/LANGUAGE.md)"),
+        )?
+        .arg(Arg::new(alloc, "DATA").help("The file of its data"))?;
     Ok(command)
 }
 

@@ -17,30 +17,38 @@ pub struct Words<'a> {
     pub trace: Option<&'a str>,
 }
 
-/// The words that the program takes, for `--help` and the line that tells of wrong ones.
-pub fn command<'a>(alloc: Global) -> Result<Command<'a>, Error> {
-    let model = Arg::new(alloc, "MODEL")
-        .required(true)
-        .help("the path of the model");
-    let input = Arg::new(alloc, "DATA").help("the path of its data; without it the data is empty");
+/// The program, with the option that names a question.
+fn with_watch<'a>(alloc: Global) -> Result<Command<'a>, Error> {
     let watch = Arg::new(alloc, "watch")
         .long("watch")
         .value_name("QUESTION")
         .action(ArgAction::Append)
         .requires_arg("trace")?
         .help("a question that is traced, as VAR v or COUNT s; may be repeated");
+    let command = Command::new(alloc, "ssrun")
+        .version("1")
+        .about("Runs a model to its end and writes its report")
+        .arg(watch)?;
+    Ok(command)
+}
+
+/// The words that the program takes, for `--help` and the line that tells of wrong ones.
+///
+/// An argument is made where the program takes it, so that no end lets go of others.
+pub fn command<'a>(alloc: Global) -> Result<Command<'a>, Error> {
     let trace = Arg::new(alloc, "trace")
         .long("trace")
         .value_name("FILE")
         .requires_arg("watch")?
         .help("the path of the trace: comma-separated values, a row for each change");
-    let command = Command::new(alloc, "ssrun")
-        .version("1")
-        .about("Runs a model to its end and writes its report")
-        .arg(model)?
-        .arg(input)?
-        .arg(watch)?
-        .arg(trace)?;
+    let command = with_watch(alloc)?
+        .arg(trace)?
+        .arg(
+            Arg::new(alloc, "MODEL")
+                .required(true)
+                .help("the path of the model"),
+        )?
+        .arg(Arg::new(alloc, "DATA").help("the path of its data; without it the data is empty"))?;
     Ok(command)
 }
 
