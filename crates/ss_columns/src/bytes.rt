@@ -1,21 +1,45 @@
 //! What the bytes of a line are.
 #![tactic(auto, unfolding(crate::specs::Columns::begins_run, crate::specs::Columns::begins_word))]
 
-ghost use Rattle.std.specs.Prelude.{◌≡◌, is_some};
-ghost use Rattle.ss_words.specs.TextBytes.{in_run, is_joined, one_byte_sign};
+ghost use Rattle.std.specs.Prelude.{◌≡◌, ◌≤◌, is_some, length, take_while};
+ghost use Rattle.ss_words.specs.TextBytes.{in_run, is_allowed, is_blank, is_joined, is_stray, one_byte_sign};
 ghost use Rattle.ss_columns.specs.Columns.{begins_run, begins_word};
 
 use ss_words::characters::{
-    ASTERISK, CLOSING_PARENTHESIS, COMMA, EQUALS_SIGN, GREATER_SIGN, LESS_SIGN, MINUS_SIGN,
-    OPENING_PARENTHESIS, PLUS_SIGN, STOP,
+    ASTERISK, BLANK, CLOSING_PARENTHESIS, COMMA, EQUALS_SIGN, GREATER_SIGN, LESS_SIGN, MINUS_SIGN,
+    OPENING_PARENTHESIS, PLUS_SIGN, STOP, TAB, TILDE,
 };
 
 /// A letter, a digit or a stop.
 #[tactic(auto, unfolding(ss_words::specs::TextBytes::in_run))]
-fn in_run(byte: u8) -> bool
+pub fn in_run(byte: u8) -> bool
     ensures { result ≡ in_run byte }
 {
     byte.is_ascii_alphabetic() || byte.is_ascii_digit() || byte == STOP
+}
+
+/// How many bytes at the front are of a run.
+pub fn run_len(rest: &[u8]) -> usize
+    ensures len { result ≡ length (take_while in_run rest.now) }
+    ensures in_range { result ≤ length rest.now }
+{
+    rest.iter().take_while(|byte| in_run(**byte)).count()
+}
+
+/// A byte that may stand in a line.
+#[tactic(auto, unfolding(ss_words::specs::TextBytes::is_allowed))]
+pub fn is_allowed(byte: u8) -> bool
+    ensures { result ≡ is_allowed byte }
+{
+    byte == TAB || (byte >= BLANK && byte <= TILDE)
+}
+
+/// A blank or a tab.
+#[tactic(auto, unfolding(ss_words::specs::TextBytes::is_blank))]
+fn is_blank(byte: u8) -> bool
+    ensures { result ≡ is_blank byte }
+{
+    byte == BLANK || byte == TAB
 }
 
 #[tactic(auto, unfolding(ss_words::specs::TextBytes::one_byte_sign))]
@@ -33,9 +57,18 @@ fn is_sign(byte: u8) -> bool
         || byte == GREATER_SIGN
 }
 
+/// A byte of a line that may not stand in it, or that is outside comments, where it is `plain`, no
+/// blank, run or sign.
+#[tactic(auto, unfolding(ss_words::specs::TextBytes::is_stray))]
+pub fn is_stray(byte: u8, plain: u8) -> bool
+    ensures { result ≡ is_stray byte plain }
+{
+    !(is_allowed(byte) && (in_run(plain) || is_blank(plain) || is_sign(plain)))
+}
+
 /// A byte goes on with what the byte before it belongs to.
 #[tactic(auto, unfolding(ss_words::specs::TextBytes::is_joined))]
-fn is_joined(last: u8, byte: u8) -> bool
+pub fn is_joined(last: u8, byte: u8) -> bool
     ensures { result ≡ is_joined last byte }
 {
     (in_run(last) && in_run(byte))

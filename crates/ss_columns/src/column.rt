@@ -23,7 +23,7 @@ pub struct Place {
 
 /// What stands behind the first line feed.
 #[tactic(auto, unfolding(crate::specs::Columns::behind_feed))]
-fn behind_feed(mut text: &[u8]) -> &[u8]
+pub fn behind_feed(mut text: &[u8]) -> &[u8]
     ensures { result.now ≡ spec.behind_feed text.entry.now }
 {
     while let [byte, behind @ ..] = text {
@@ -37,7 +37,7 @@ fn behind_feed(mut text: &[u8]) -> &[u8]
 
 /// What stands behind so many line feeds.
 #[tactic(auto, unfolding(crate::specs::Columns::behind_feeds))]
-fn behind_feeds(mut feeds: usize, mut text: &[u8]) -> &[u8]
+pub fn behind_feeds(mut feeds: usize, mut text: &[u8]) -> &[u8]
     ensures { result.now ≡ spec.behind_feeds feeds text.entry.now }
 {
     while feeds > 0 {
@@ -92,7 +92,7 @@ fn seen(inside: bool, byte: u8) -> u8
 }
 
 /// The line with its comments made blank.
-fn with_blank_comments(alloc: Global, line: &[u8]) -> Result<Vec<u8>, AllocError>
+pub fn with_blank_comments(alloc: Global, line: &[u8]) -> Result<Vec<u8>, AllocError>
     ensures { IfOk result (λ plain. plain.items ≡ with_blank_comments false line.now) }
 {
     let mut plain = Vec::with_capacity(alloc, line.len())?;

@@ -7,6 +7,9 @@ mod column;
 mod numbering;
 mod reserved;
 
-pub use column::{Place, line_at, line_of, place_of};
+pub use bytes::{in_run, is_allowed, is_joined, is_stray, run_len};
+pub use column::{
+    Place, behind_feed, behind_feeds, line_at, line_of, place_of, with_blank_comments,
+};
 pub use numbering::{copied_kind, numbered_words};
 pub use reserved::{DROPPED, RESERVED, SCHEDULING, is_among, is_kind_among};
