@@ -1,9 +1,11 @@
 -- What the sentence of a fault names: of the statement at which the run stands, in the state that it left as it was.
-use Rattle.std.specs.Prelude.{ℕ, ℤ, pos, List, [], ◌∷◌, ◌++◌, codes, Option, Some, None}
+use Rattle.std.specs.Prelude.{ℕ, ℤ, pos, List, [], ◌∷◌, ◌++◌, codes, length, Option, Some, None}
 use Rattle.ss_words.specs.declared.fault.RunFault.{RunFault}
 use Rattle.ss_words.specs.declared.fault.RunFault.TheVariants as f
 use Rattle.ss_program.specs.declared.target.Target.{Target}
+use Rattle.ss_program.specs.declared.target.Target.TheVariants as targets
 use Rattle.ss_program.specs.declared.target.SetRef.{SetRef}
+use Rattle.ss_program.specs.declared.place.Assign.TheVariants.{Add, Subtract}
 use Rattle.ss_program.specs.declared.place.Output.TheVariants.{Skip}
 use Rattle.ss_program.specs.declared.place.Place.{Place}
 use Rattle.ss_program.specs.declared.place.Place.TheVariants as places
@@ -31,10 +33,12 @@ use Rattle.ss_machine.specs.declared.entry.Entry.{Entry}
 use Rattle.ss_machine.specs.declared.entry.Entry.TheVariants.{Absent, Waiting, Running}
 use Rattle.ss_machine.specs.State.{State}
 use Rattle.ss_machine.specs.Readings.{variable_in}
-use Rattle.ss_faults.specs.Readings.{told_of, subscript_told}
+use Rattle.ss_faults.specs.declared.told.Told.{Told}
+use Rattle.ss_faults.specs.declared.told.Told.TheVariants.{Value}
+use Rattle.ss_faults.specs.Readings.{told_of, subscript_told, at_entity, attribute_told}
 use Rattle.ss_faults.specs.Missing.{place_told}
-use Rattle.ss_faults.specs.Texts.{named, valued, counted, entity_text, list_text, class_text, set_text, section_text}
-use Rattle.ss_faults.specs.Texts.{if_told, missing_text}
+use Rattle.ss_faults.specs.Texts.{label_and_value, label_and_count, entity_text, list_text, class_text, set_text}
+use Rattle.ss_faults.specs.Texts.{section_text, if_told, missing_text}
 
 -- ---- parts of statements
 
@@ -64,16 +68,16 @@ begin_of p s r (From e) = member_of p s e r ++ list_of p s r
 begin_of p s r (After e) = member_of p s e r ++ list_of p s r
 
 -- the same of a phrase
-abbrev pub begun_of : ProgramTable → State → Phrase → List ℕ
-begun_of p s (Counting d x first last step) = []
-begun_of p s (Each c is_called x count) = []
-begun_of p s (Walking d x r begin) = begin_of p s r begin
+abbrev pub beginning_of : ProgramTable → State → Phrase → List ℕ
+beginning_of p s (Counting d x first last step) = []
+beginning_of p s (Each c is_called x count) = []
+beginning_of p s (Walking d x r begin) = begin_of p s r begin
 
 -- when SCHEDULE AT asks for
 abbrev pub time_of : ProgramTable → State → When → List ℕ
-time_of p s (At e) = if_told (told_of p s e) (valued (codes " Time: "))
+time_of p s (At e) = if_told (told_of p s e) (label_and_value (codes " Time: "))
 time_of p s Now = []
-time_of p s (In e) = if_told (told_of p s e) (valued (codes " Days: "))
+time_of p s (In e) = if_told (told_of p s e) (label_and_value (codes " Days: "))
 
 -- the notice of THE
 abbrev pub notice_of : ProgramTable → State → ℕ → Notice → List ℕ
@@ -83,28 +87,45 @@ notice_of p s c (Known is_called e) = entity_of p s c e
 -- the step of a phrase
 abbrev pub step_of : ProgramTable → State → Option Expr → List ℕ
 step_of p s None = []
-step_of p s (Some e) = if_told (told_of p s e) (valued (codes " Value: "))
+step_of p s (Some e) = if_told (told_of p s e) (label_and_value (codes " Value: "))
+
+-- the value of a target before it is assigned
+abbrev pub target_value : ProgramTable → State → Target → Told
+target_value p s (targets.Variable x) = Value (variable_in s x)
+target_value p s (targets.Attribute c a i) = at_entity (subscript_told p s i) (attribute_told s c a)
+
+-- two values behind their labels, where both are told
+abbrev pub pair_of : List ℕ → List ℕ → Told → Told → List ℕ
+pair_of first second a b = if_told a (λ x. if_told b (λ y. label_and_value first x ++ label_and_value second y))
 
 -- ---- what each fault is about
 
+-- F1: of ADD and SUBTRACT both values
+abbrev pub sum_of : ProgramTable → State → Place → List ℕ
+sum_of p s (places.Assign (Add e t)) =
+    pair_of (codes " Added: ") (codes " To: ") (told_of p s e) (target_value p s t)
+sum_of p s (places.Assign (Subtract e t)) =
+    pair_of (codes " Subtracted: ") (codes " From: ") (told_of p s e) (target_value p s t)
+sum_of p s x = []
+
 -- F4: the member, and the set
-abbrev pub already_filed : ProgramTable → State → Place → List ℕ
-already_filed p s (places.Filing (File e how r)) = member_of p s e r ++ set_text p r.set
-already_filed p s (places.Filing (FileAt end e r)) = member_of p s e r ++ set_text p r.set
-already_filed p s x = []
+abbrev pub member_already_filed : ProgramTable → State → Place → List ℕ
+member_already_filed p s (places.Filing (File e how r)) = member_of p s e r ++ set_text p r.set
+member_already_filed p s (places.Filing (FileAt end e r)) = member_of p s e r ++ set_text p r.set
+member_already_filed p s x = []
 
 -- the member that FILE or REMOVE looks for, and the list
-abbrev pub sought : ProgramTable → State → Filing → List ℕ
-sought p s (File e how r) = beside_of p s how r
-sought p s (FileAt end e r) = []
-sought p s (RemoveAt end t r) = []
-sought p s (Remove e r) = member_of p s e r ++ list_of p s r
+abbrev pub member_sought : ProgramTable → State → Filing → List ℕ
+member_sought p s (File e how r) = beside_of p s how r
+member_sought p s (FileAt end e r) = []
+member_sought p s (RemoveAt end t r) = []
+member_sought p s (Remove e r) = member_of p s e r ++ list_of p s r
 
 -- F5: the member that is looked for, and the list
-abbrev pub not_filed : ProgramTable → State → Place → List ℕ
-not_filed p s (places.Filing f) = sought p s f
-not_filed p s (places.Looping (For l)) = begun_of p s l.phrase
-not_filed p s x = []
+abbrev pub member_not_filed : ProgramTable → State → Place → List ℕ
+member_not_filed p s (places.Filing f) = member_sought p s f
+member_not_filed p s (places.Looping (For l)) = beginning_of p s l.phrase
+member_not_filed p s x = []
 
 -- F6: the list
 abbrev pub empty_list : ProgramTable → State → Place → List ℕ
@@ -112,25 +133,25 @@ empty_list p s (places.Filing (RemoveAt end t r)) = list_of p s r
 empty_list p s x = []
 
 -- F7, F8: the entity
-abbrev pub ended : ProgramTable → State → Place → List ℕ
-ended p s (places.Making (Destroy c is_called e)) = entity_of p s c e
-ended p s x = []
+abbrev pub ending_entity : ProgramTable → State → Place → List ℕ
+ending_entity p s (places.Making (Destroy c is_called e)) = entity_of p s c e
+ending_entity p s x = []
 
 -- F9: the class, the time and the clock
 abbrev pub too_early : ProgramTable → State → Place → List ℕ
 too_early p s (places.Timing (timings.Schedule x)) =
-    class_text p x.class ++ time_of p s x.when ++ valued (codes " Clock: ") s.clock
+    class_text p x.class ++ time_of p s x.when ++ label_and_value (codes " Clock: ") s.clock
 too_early p s x = []
 
 -- F10: the notice
-abbrev pub scheduled_twice : ProgramTable → State → Place → List ℕ
-scheduled_twice p s (places.Timing (timings.Schedule x)) = notice_of p s x.class x.notice
-scheduled_twice p s x = []
+abbrev pub notice_scheduled_twice : ProgramTable → State → Place → List ℕ
+notice_scheduled_twice p s (places.Timing (timings.Schedule x)) = notice_of p s x.class x.notice
+notice_scheduled_twice p s x = []
 
 -- F11: the notice
-abbrev pub not_scheduled : ProgramTable → State → Place → List ℕ
-not_scheduled p s (places.Timing (timings.Cancel c is_called e)) = entity_of p s c e
-not_scheduled p s x = []
+abbrev pub notice_not_scheduled : ProgramTable → State → Place → List ℕ
+notice_not_scheduled p s (places.Timing (timings.Cancel c is_called e)) = entity_of p s c e
+notice_not_scheduled p s x = []
 
 -- the class of a notice that is scheduled
 abbrev pub timed_class : ProgramTable → Timing → List ℕ
@@ -147,51 +168,55 @@ made_class p x = []
 
 -- how many entities CREATE EVERY asks for
 abbrev pub number_of : ProgramTable → State → Option Expr → ℕ → List ℕ
-number_of p s None count = valued (codes " Value: ") (variable_in s (Global count))
-number_of p s (Some e) count = if_told (told_of p s e) (valued (codes " Value: "))
+number_of p s None count = label_and_value (codes " Value: ") (variable_in s (Global count))
+number_of p s (Some e) count = if_told (told_of p s e) (label_and_value (codes " Value: "))
 
 -- the class and the count of entities that CREATE EVERY makes
-abbrev pub made : ProgramTable → State → Making → List ℕ
-made p s (Create c is_called t) = []
-made p s (CreateEvery c e count) = class_text p c ++ number_of p s e count
-made p s (Destroy c is_called e) = []
+abbrev pub creation_count : ProgramTable → State → Making → List ℕ
+creation_count p s (Create c is_called t) = []
+creation_count p s (CreateEvery c e count) = class_text p c ++ number_of p s e count
+creation_count p s (Destroy c is_called e) = []
 
 -- F13: the class, and the count
 abbrev pub out_of_count : ProgramTable → State → Place → List ℕ
-out_of_count p s (places.Making m) = made p s m
-out_of_count p s (places.Output (Skip e)) = if_told (told_of p s e) (valued (codes " Value: "))
+out_of_count p s (places.Making m) = creation_count p s m
+out_of_count p s (places.Output (Skip e)) = if_told (told_of p s e) (label_and_value (codes " Value: "))
 out_of_count p s x = []
 
 -- the set that a phrase goes through
-abbrev pub walked : ProgramTable → Phrase → List ℕ
-walked p (Counting d x first last step) = []
-walked p (Each c is_called x count) = []
-walked p (Walking d x r begin) = set_text p r.set
+abbrev pub walked_set : ProgramTable → Phrase → List ℕ
+walked_set p (Counting d x first last step) = []
+walked_set p (Each c is_called x count) = []
+walked_set p (Walking d x r begin) = set_text p r.set
 
 -- F14: the set
 abbrev pub left_set : ProgramTable → Place → List ℕ
-left_set p (places.Looping (For l)) = walked p l.phrase
+left_set p (places.Looping (For l)) = walked_set p l.phrase
 left_set p x = []
 
 -- what stands behind BY
-abbrev pub stepped : ProgramTable → State → Phrase → List ℕ
-stepped p s (Counting d x first last step) = step_of p s step
-stepped p s (Each c is_called x count) = []
-stepped p s (Walking d x r begin) = []
+abbrev pub loop_step : ProgramTable → State → Phrase → List ℕ
+loop_step p s (Counting d x first last step) = step_of p s step
+loop_step p s (Each c is_called x count) = []
+loop_step p s (Walking d x r begin) = []
 
 -- F15: the step
 abbrev pub below_one : ProgramTable → State → Place → List ℕ
-below_one p s (places.Looping (For l)) = stepped p s l.phrase
+below_one p s (places.Looping (For l)) = loop_step p s l.phrase
 below_one p s x = []
 
 -- F16, F17, F21: how many pieces are taken before the statement
 abbrev pub pieces_taken : State → List ℕ
-pieces_taken s = counted (codes " Taken before: ") s.feed.taken
+pieces_taken s = label_and_count (codes " Taken before: ") s.feed.taken
 
 -- F18: the section
 abbrev pub too_deep : ProgramTable → Place → List ℕ
 too_deep p (places.Call c) = section_text p c.section
 too_deep p x = []
+
+-- F19: how many bytes the report has
+abbrev pub report_size : State → List ℕ
+report_size s = label_and_count (codes " Report so far: ") (length s.report)
 
 -- F22: the entry's notice, if there is one
 abbrev pub entry_of : ProgramTable → Entry → List ℕ
@@ -201,17 +226,17 @@ entry_of p (Running c k) = entity_text p c (pos k)
 
 -- what a fault names at a statement
 unfoldable pub about : ProgramTable → State → RunFault → Place → List ℕ
-about p s f.OutOfRange x = []
+about p s f.OutOfRange x = sum_of p s x
 about p s f.ZeroDivisor x = []
 about p s f.NoEntity x = missing_text p (place_told p s x)
-about p s f.AlreadyInSet x = already_filed p s x
-about p s f.NotInList x = not_filed p s x
+about p s f.AlreadyInSet x = member_already_filed p s x
+about p s f.NotInList x = member_not_filed p s x
 about p s f.EmptySet x = empty_list p s x
-about p s f.EndedInUse x = ended p s x
-about p s f.EndedOwner x = ended p s x
+about p s f.EndedInUse x = ending_entity p s x
+about p s f.EndedOwner x = ending_entity p s x
 about p s f.TimeBeforeClock x = too_early p s x
-about p s f.AlreadyScheduled x = scheduled_twice p s x
-about p s f.NotScheduled x = not_scheduled p s x
+about p s f.AlreadyScheduled x = notice_scheduled_twice p s x
+about p s f.NotScheduled x = notice_not_scheduled p s x
 about p s f.AlreadyCreated x = made_class p x
 about p s f.CountOutOfRange x = out_of_count p s x
 about p s f.MemberLeft x = left_set p x
@@ -219,7 +244,7 @@ about p s f.StepBelowOne x = below_one p s x
 about p s f.NoMoreData x = pieces_taken s
 about p s f.NotANumber x = pieces_taken s
 about p s f.TooManyFrames x = too_deep p x
-about p s f.ReportFull x = []
+about p s f.ReportFull x = report_size s
 about p s f.TooManyReferences x = made_class p x
 about p s f.NotExternal x = pieces_taken s
 about p s f.OutsideEntry x = entry_of p s.entry

@@ -3,3 +3,4 @@ pub mod Missing
 pub mod Texts
 pub mod About
 pub mod Sentence
+pub mod Asked

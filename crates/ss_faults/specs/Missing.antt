@@ -179,7 +179,8 @@ when_told p s (In e) = told_of p s e
 -- SCHEDULE
 abbrev pub schedule_told : ProgramTable → State → Schedule → Told
 schedule_told p s x =
-    both (both (listing_told p s x.listing x.notice x.arguments) (when_told p s x.when)) (notice_told p s x.class x.notice)
+    both (both (listing_told p s x.listing x.notice x.arguments) (when_told p s x.when))
+    (notice_told p s x.class x.notice)
 
 -- SCHEDULE, CANCEL and START SIMULATION
 abbrev pub timing_told : ProgramTable → State → Timing → Told

@@ -1,5 +1,6 @@
 -- What is told of an expression in a state. The value of a number, a variable or an attribute is told; that of a sum, a
--- product or a function is not. Parts are looked at from the left, up to the first that names an entity that is missing.
+-- product or a function is not. Parts are looked at from the left, up to the first that names an entity that is
+-- missing.
 use Rattle.std.specs.Prelude.{ℕ, ℤ, pos, nat_lt, length, if◌then◌else◌, Bool, true, false, Option, Some, None}
 use Rattle.std.specs.Prelude.{unwrap_or, Result, Ok, Err}
 use Rattle.ss_words.specs.declared.fault.RunFault.{RunFault}

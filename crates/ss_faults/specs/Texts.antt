@@ -1,5 +1,5 @@
 -- How the parts that a fault is about are told.
-use Rattle.std.specs.Prelude.{ℕ, ℤ, List, [], ◌∷◌, ◌++◌, codes, decimal, slice_index_or, Option, Some, None}
+use Rattle.std.specs.Prelude.{ℕ, ℤ, pos, int_lt, List, [], ◌∷◌, ◌++◌, codes, decimal, if◌then◌else◌}
 use Rattle.std.specs.Fmt.{signed_decimal}
 use Rattle.ss_program.specs.declared.kinds.Owner.{Owner}
 use Rattle.ss_program.specs.declared.kinds.Owner.TheVariants.{System, OwnedBy}
@@ -8,29 +8,29 @@ use Rattle.ss_faults.specs.declared.told.Told.{Told}
 use Rattle.ss_faults.specs.declared.told.Told.TheVariants.{Value, Untold, Missing, Unclear}
 
 -- a label and a name
-abbrev pub named : List ℕ → List ℕ → List ℕ
-named label name = label ++ name ++ codes "."
+abbrev pub label_and_name : List ℕ → List ℕ → List ℕ
+label_and_name label name = label ++ name ++ codes "."
 
 -- a label, a name and a number
-abbrev pub numbered : List ℕ → List ℕ → ℤ → List ℕ
-numbered label name x = label ++ name ++ codes " " ++ signed_decimal x ++ codes "."
+abbrev pub label_name_and_number : List ℕ → List ℕ → ℤ → List ℕ
+label_name_and_number label name x = label ++ name ++ codes " " ++ signed_decimal x ++ codes "."
 
 -- a label and a value
-abbrev pub valued : List ℕ → ℤ → List ℕ
-valued label x = label ++ signed_decimal x ++ codes "."
+abbrev pub label_and_value : List ℕ → ℤ → List ℕ
+label_and_value label x = label ++ signed_decimal x ++ codes "."
 
 -- a label and a count
-abbrev pub counted : List ℕ → ℕ → List ℕ
-counted label n = label ++ decimal n ++ codes "."
+abbrev pub label_and_count : List ℕ → ℕ → List ℕ
+label_and_count label n = label ++ decimal n ++ codes "."
 
 -- an entity
 abbrev pub entity_text : ProgramTable → ℕ → ℤ → List ℕ
-entity_text p c x = numbered (codes " Entity: ") (class_of p c).name x
+entity_text p c x = label_name_and_number (codes " Entity: ") (class_of p c).name x
 
 -- the list of an owner; the system has one
 abbrev pub owned_text : List ℕ → Owner → ℤ → List ℕ
-owned_text set System x = named (codes " List: ") set
-owned_text set (OwnedBy c) x = numbered (codes " List: ") set x
+owned_text set System x = label_and_name (codes " List: ") set
+owned_text set (OwnedBy c) x = label_name_and_number (codes " List: ") set x
 
 -- the list of a set
 abbrev pub list_text : ProgramTable → ℕ → ℤ → List ℕ
@@ -38,15 +38,15 @@ list_text p set x = owned_text (set_of p set).name (set_of p set).owner x
 
 -- a class, a set, a section
 abbrev pub class_text : ProgramTable → ℕ → List ℕ
-class_text p c = named (codes " Class: ") (class_of p c).name
+class_text p c = label_and_name (codes " Class: ") (class_of p c).name
 
 -- a set
 abbrev pub set_text : ProgramTable → ℕ → List ℕ
-set_text p set = named (codes " Set: ") (set_of p set).name
+set_text p set = label_and_name (codes " Set: ") (set_of p set).name
 
 -- a section
 abbrev pub section_text : ProgramTable → ℕ → List ℕ
-section_text p n = named (codes " Section: ") (section_of p n).name
+section_text p n = label_and_name (codes " Section: ") (section_of p n).name
 
 -- what is said of a value, if it is told
 abbrev pub if_told : Told → (ℤ → List ℕ) → List ℕ
@@ -55,9 +55,13 @@ if_told Untold text = []
 if_told (Missing c x) text = []
 if_told Unclear text = []
 
+-- that no entity has this number, where that is plain
+abbrev pub unnumbered_text : ℤ → List ℕ
+unnumbered_text x = if int_lt x (pos 1) then codes " No entity has a number below 1." else []
+
 -- an entity that is missing
 abbrev pub missing_text : ProgramTable → Told → List ℕ
-missing_text p (Missing c x) = entity_text p c x
+missing_text p (Missing c x) = entity_text p c x ++ unnumbered_text x
 missing_text p (Value x) = []
 missing_text p Untold = []
 missing_text p Unclear = []

@@ -7,6 +7,7 @@ use crate::operands::{
     push_entity_of, push_if_told, push_list_of, push_member_and_list, push_member_of,
 };
 use crate::reading::{expression_told, variable_value};
+use crate::sizes::{push_report_size, push_sum};
 use crate::texts::{
     push_class, push_counted, push_entity, push_missing, push_section, push_set, push_valued,
 };
@@ -26,7 +27,7 @@ fn push_already_filed<S: SetBoard>(
     place: &Place,
 ) -> Result<(), AllocError>
     ensures { OnOk result (text.new.items ≡ text.old.items
-        ++ spec.already_filed machine.now.input.program machine.now.state place.now) }
+        ++ spec.member_already_filed machine.now.input.program machine.now.state place.now) }
 {
     let Place::Filing(filing) = place else {
         return Ok(());
@@ -63,7 +64,7 @@ fn push_sought<S: SetBoard>(
     filing: &Filing,
 ) -> Result<(), AllocError>
     ensures { OnOk result (text.new.items ≡ text.old.items
-        ++ spec.sought machine.now.input.program machine.now.state filing.now) }
+        ++ spec.member_sought machine.now.input.program machine.now.state filing.now) }
 {
     match filing {
         Filing::File { position, set, .. } => push_beside(text, machine, position, set),
@@ -79,7 +80,7 @@ fn push_begun<S: SetBoard>(
     phrase: &Phrase,
 ) -> Result<(), AllocError>
     ensures { OnOk result (text.new.items ≡ text.old.items
-        ++ spec.begun_of machine.now.input.program machine.now.state phrase.now) }
+        ++ spec.beginning_of machine.now.input.program machine.now.state phrase.now) }
 {
     let Phrase::Walking { set, begin, .. } = phrase else {
         return Ok(());
@@ -97,7 +98,7 @@ fn push_not_filed<S: SetBoard>(
     place: &Place,
 ) -> Result<(), AllocError>
     ensures { OnOk result (text.new.items ≡ text.old.items
-        ++ spec.not_filed machine.now.input.program machine.now.state place.now) }
+        ++ spec.member_not_filed machine.now.input.program machine.now.state place.now) }
 {
     match place {
         Place::Filing(filing) => push_sought(text, machine, filing.value()),
@@ -131,7 +132,7 @@ fn push_ended<S: SetBoard>(
     place: &Place,
 ) -> Result<(), AllocError>
     ensures { OnOk result (text.new.items ≡ text.old.items
-        ++ spec.ended machine.now.input.program machine.now.state place.now) }
+        ++ spec.ending_entity machine.now.input.program machine.now.state place.now) }
 {
     let Place::Making(making) = place else {
         return Ok(());
@@ -187,7 +188,7 @@ fn push_scheduled_twice<S: SetBoard>(
     place: &Place,
 ) -> Result<(), AllocError>
     ensures { OnOk result (text.new.items ≡ text.old.items
-        ++ spec.scheduled_twice machine.now.input.program machine.now.state place.now) }
+        ++ spec.notice_scheduled_twice machine.now.input.program machine.now.state place.now) }
 {
     let Place::Timing(timing) = place else {
         return Ok(());
@@ -208,7 +209,7 @@ fn push_not_scheduled<S: SetBoard>(
     place: &Place,
 ) -> Result<(), AllocError>
     ensures { OnOk result (text.new.items ≡ text.old.items
-        ++ spec.not_scheduled machine.now.input.program machine.now.state place.now) }
+        ++ spec.notice_not_scheduled machine.now.input.program machine.now.state place.now) }
 {
     let Place::Timing(timing) = place else {
         return Ok(());
@@ -284,7 +285,7 @@ fn push_made<S: SetBoard>(
     making: &Making,
 ) -> Result<(), AllocError>
     ensures { OnOk result (text.new.items ≡ text.old.items
-        ++ spec.made machine.now.input.program machine.now.state making.now) }
+        ++ spec.creation_count machine.now.input.program machine.now.state making.now) }
 {
     match making {
         Making::CreateEvery {
@@ -408,7 +409,8 @@ pub fn push_about<S: SetBoard>(
         ++ spec.about machine.now.input.program machine.now.state fault place.now) }
 {
     match fault {
-        RunFault::OutOfRange | RunFault::ZeroDivisor | RunFault::ReportFull => Ok(()),
+        RunFault::OutOfRange => push_sum(text, machine, place),
+        RunFault::ZeroDivisor => Ok(()),
         RunFault::NoEntity => push_missing(text, machine.program(), place_told(machine, place)),
         RunFault::AlreadyInSet => push_already_filed(text, machine, place),
         RunFault::NotInList => push_not_filed(text, machine, place),
@@ -427,6 +429,7 @@ pub fn push_about<S: SetBoard>(
             push_taken(text, machine)
         }
         RunFault::TooManyFrames => push_too_deep(text, machine, place),
+        RunFault::ReportFull => push_report_size(text, machine),
         RunFault::OutsideEntry => push_entry(text, machine),
     }
 }

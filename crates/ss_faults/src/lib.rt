@@ -3,12 +3,15 @@
 #![tactic(auto)]
 
 mod about;
+mod asked;
 mod missing;
 mod operands;
 mod reading;
 mod sentence;
+mod sizes;
 mod texts;
 mod told;
 
+pub use asked::push_asked_of_fault;
 pub use sentence::push_fault_sentence;
 pub use told::Told;

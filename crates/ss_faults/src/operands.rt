@@ -1,7 +1,7 @@
 //! The entities, lists and values that a statement names.
 ghost use Rattle.std.specs.Prelude.{◌≡◌, ◌++◌, OnOk};
 ghost use Rattle.ss_faults.specs.About as spec;
-ghost use Rattle.ss_faults.specs.Texts.{if_told, valued};
+ghost use Rattle.ss_faults.specs.Texts.{if_told, label_and_value};
 
 use crate::reading::{expression_told, index_told};
 use crate::texts::{member_class, push_entity, push_list, push_valued};
@@ -14,7 +14,7 @@ use std::alloc::AllocError;
 /// Appends a value behind a label, if it is told.
 pub fn push_if_told(text: &mut Vec<u8>, label: &[u8], told: Told) -> Result<(), AllocError>
     ensures { OnOk result (text.new.items ≡ text.old.items
-        ++ if_told told (valued label.now)) }
+        ++ if_told told (label_and_value label.now)) }
 {
     match told {
         Told::Value(value) => push_valued(text, label, value),

@@ -10,7 +10,7 @@ use ss_program::{Owner, Program};
 use std::alloc::AllocError;
 
 /// Appends an integer in least digits, with its sign below 0.
-fn push_integer(text: &mut Vec<u8>, n: i64) -> Result<(), AllocError>
+pub fn push_integer(text: &mut Vec<u8>, n: i64) -> Result<(), AllocError>
     ensures { OnOk result (text.new.items ≡ text.old.items ++ signed_decimal n) }
 {
     let mut buffer = Buffer::new();
@@ -27,7 +27,7 @@ pub fn push_number(text: &mut Vec<u8>, n: u64) -> Result<(), AllocError>
 
 /// Appends a label and a name.
 fn push_named(text: &mut Vec<u8>, label: &[u8], name: &[u8]) -> Result<(), AllocError>
-    ensures { OnOk result (text.new.items ≡ text.old.items ++ spec.named label.now name.now) }
+    ensures { OnOk result (text.new.items ≡ text.old.items ++ spec.label_and_name label.now name.now) }
 {
     text.extend_from_slice(label)?;
     text.extend_from_slice(name)?;
@@ -42,7 +42,7 @@ fn push_numbered(
     number: i64,
 ) -> Result<(), AllocError>
     ensures { OnOk result (text.new.items
-        ≡ text.old.items ++ spec.numbered label.now name.now number) }
+        ≡ text.old.items ++ spec.label_name_and_number label.now name.now number) }
 {
     text.extend_from_slice(label)?;
     text.extend_from_slice(name)?;
@@ -53,7 +53,7 @@ fn push_numbered(
 
 /// Appends a label and a value.
 pub fn push_valued(text: &mut Vec<u8>, label: &[u8], value: i64) -> Result<(), AllocError>
-    ensures { OnOk result (text.new.items ≡ text.old.items ++ spec.valued label.now value) }
+    ensures { OnOk result (text.new.items ≡ text.old.items ++ spec.label_and_value label.now value) }
 {
     text.extend_from_slice(label)?;
     push_integer(text, value)?;
@@ -62,7 +62,7 @@ pub fn push_valued(text: &mut Vec<u8>, label: &[u8], value: i64) -> Result<(), A
 
 /// Appends a label and a count.
 pub fn push_counted(text: &mut Vec<u8>, label: &[u8], count: u64) -> Result<(), AllocError>
-    ensures { OnOk result (text.new.items ≡ text.old.items ++ spec.counted label.now count) }
+    ensures { OnOk result (text.new.items ≡ text.old.items ++ spec.label_and_count label.now count) }
 {
     text.extend_from_slice(label)?;
     push_number(text, count)?;
@@ -70,7 +70,7 @@ pub fn push_counted(text: &mut Vec<u8>, label: &[u8], count: u64) -> Result<(), 
 }
 
 /// The name of the class with this number, an empty one where there is none.
-fn class_name(program: &Program, class: usize) -> &[u8]
+pub fn class_name(program: &Program, class: usize) -> &[u8]
     ensures { result.now ≡ (class_of program.now class).name }
 {
     match program.classes.get(class) {
@@ -80,7 +80,7 @@ fn class_name(program: &Program, class: usize) -> &[u8]
 }
 
 /// The name of the set with this number, an empty one where there is none.
-fn set_name(program: &Program, set: usize) -> &[u8]
+pub fn set_name(program: &Program, set: usize) -> &[u8]
     ensures { result.now ≡ (set_of program.now set).name }
 {
     match program.sets.get(set) {
@@ -164,12 +164,25 @@ pub fn push_section(text: &mut Vec<u8>, program: &Program, section: usize) -> Re
     }
 }
 
+/// Appends that no entity has this number, where that is plain.
+fn push_unnumbered(text: &mut Vec<u8>, number: i64) -> Result<(), AllocError>
+    ensures { OnOk result (text.new.items ≡ text.old.items ++ spec.unnumbered_text number) }
+{
+    if number < 1 {
+        return text.extend_from_slice(b" No entity has a number below 1.");
+    }
+    Ok(())
+}
+
 /// Appends an entity that is missing.
 pub fn push_missing(text: &mut Vec<u8>, program: &Program, told: Told) -> Result<(), AllocError>
     ensures { OnOk result (text.new.items ≡ text.old.items ++ spec.missing_text program.now told) }
 {
     match told {
-        Told::Missing { class, number } => push_entity(text, program, class, number),
+        Told::Missing { class, number } => {
+            push_entity(text, program, class, number)?;
+            push_unnumbered(text, number)
+        }
         Told::Value(_) | Told::Untold | Told::Unclear => Ok(()),
     }
 }
