@@ -10,3 +10,5 @@ pub mod SameRuns
 pub mod Desks
 pub mod SourceLines
 pub mod Others
+pub mod Searches
+pub mod StopRefusals

@@ -16,6 +16,7 @@ pub mod Listing
 pub mod Breaks
 pub mod Displays
 pub mod Histories
+pub mod Past
 pub mod Help
 pub mod Points
 pub mod Prompting

@@ -5,7 +5,7 @@ use Rattle.ss_debug.specs.declared.commands.Command.TheVariants.{Move}
 use Rattle.ss_debug.specs.Turn.{answer, debugger_state_after}
 use Rattle.ss_debug.specs.AfterRefusal.{IsStateAfterRefusal}
 use Rattle.ss_prompt.specs.PromptState.{PromptState, with_debugger, IsSameBeside}
-use Rattle.ss_prompt.specs.Stops.{goes_back, stop_text, HasLookedBeside}
+use Rattle.ss_prompt.specs.Stops.{goes_back, stop_text, IsStopRefused}
 
 -- the state behind one
 abbrev pub plain_next : PromptState → Command → PromptState
@@ -20,11 +20,11 @@ plain_stop s command = []
 abbrev pub plain_said : PromptState → Command → List ℕ
 plain_said s command = answer s.input s.debugger command ++ plain_stop s command
 
--- where it was refused memory: a movement was made in part or whole, and then perhaps a step beside its end; any other
--- command left all as it was
+-- where memory was refused: a movement was made in part or whole, and then perhaps what is told of its end was refused;
+-- any other command left all as it was
 unfoldable pub IsPlainRefused : PromptState → Command → PromptState → Type 0
 IsPlainRefused s (Move m) after =
     IsSameBeside s after
-    × (IsStateAfterRefusal s.input s.debugger (Move m) after.debugger ⊎ HasLookedBeside (plain_next s (Move m)) after)
+    × (IsStateAfterRefusal s.input s.debugger (Move m) after.debugger ⊎ IsStopRefused (plain_next s (Move m)) after)
 IsPlainRefused s command after =
     IsSameBeside s after × IsStateAfterRefusal s.input s.debugger command after.debugger

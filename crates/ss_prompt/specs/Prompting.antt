@@ -60,8 +60,9 @@ abbrev pub is_quit : PromptCommand → Bool
 is_quit (Plain command) = is_plain_quit command
 is_quit _ = false
 
--- where memory was refused: a movement was made in part or whole, and then perhaps a step beside; WHY and HISTORY left
--- the debugger perhaps at an earlier state, SHOW CHANGED a step beside; any other command left all as it was
+-- where memory was refused: a movement was made in part or whole, and then perhaps a step beside, or, at a fault of which
+-- the history tells, at an earlier state; WHY and HISTORY left the debugger perhaps at an earlier state, SHOW CHANGED a
+-- step beside; any other command left all as it was
 unfoldable pub IsRefused : PromptState → PromptCommand → PromptState → Type 0
 IsRefused s (Plain command) after = IsPlainRefused s command after
 IsRefused s (Travel m) after = IsTravelRefused s m after

@@ -1,11 +1,12 @@
 -- What is told where a movement stops.
-use Rattle.std.specs.Prelude.{ℕ, ◌≡◌, ◌+◌, ◌≤◌, Bool, true, false, nat_lt, List, ◌++◌}
+use Rattle.std.specs.Prelude.{ℕ, ◌≡◌, ◌⊎◌, ◌+◌, ◌≤◌, Bool, true, false, nat_lt, List, ◌++◌}
 use Rattle.ss_debug.specs.declared.commands.Movement.{Movement as PlainMovement}
 use Rattle.ss_debug.specs.declared.commands.Movement.TheVariants.{Back, BackEvent, BackBreak}
 use Rattle.ss_debug.specs.Turn.{debugger_state_at}
 use Rattle.ss_trace.specs.declared.movement.Movement.{Movement}
 use Rattle.ss_trace.specs.declared.movement.Movement.TheVariants.{BackOver, BackOut, BackTo, BackChange, Go}
 use Rattle.ss_changes.specs.Texts.{changed_text, stop_changes, stop_changes_ahead}
+use Rattle.ss_prompt.specs.Past.{past_told, HasSearchedPast}
 use Rattle.ss_prompt.specs.PromptState.{PromptState, IsSameBeside, source_line, fault_told, answers_to}
 
 -- whether a movement of docs/DEBUGGER.md goes back
@@ -29,11 +30,11 @@ abbrev pub changes_told : Bool → PromptState → List ℕ
 changes_told false s = stop_changes s.input s.debugger.earliest s.debugger.position
 changes_told true s = stop_changes_ahead s.input s.debugger.position
 
--- what is told where a movement stops, that went back or not: what the fault means, where there is one; the line of the
--- model; what changed, or will; the answers to the questions of each stop
+-- what is told where a movement stops, that went back or not: what the fault means, where there is one, and what the
+-- history tells of it; the line of the model; what changed, or will; the answers to the questions of each stop
 abbrev pub stop_text : Bool → PromptState → List ℕ
 stop_text is_back s =
-    fault_told s.input s.debugger.position ++ source_line s ++ changes_told is_back s
+    fault_told s.input s.debugger.position ++ past_told s ++ source_line s ++ changes_told is_back s
     ++ answers_to s.input s.debugger.position s.displays
 
 -- what SHOW CHANGED answers
@@ -45,3 +46,7 @@ unfoldable pub HasLookedBeside : PromptState → PromptState → Type 0
 HasLookedBeside s after =
     IsSameBeside s after × (after.debugger ≡ debugger_state_at s.debugger after.debugger.position)
     × (s.debugger.position ≤ after.debugger.position + 1) × (after.debugger.position ≤ s.debugger.position + 1)
+
+-- where memory was refused to what is told at a stop: to what changed, or to what the history tells
+unfoldable pub IsStopRefused : PromptState → PromptState → Type 0
+IsStopRefused s after = HasLookedBeside s after ⊎ HasSearchedPast s after

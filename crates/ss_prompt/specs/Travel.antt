@@ -3,7 +3,7 @@ use Rattle.std.specs.Prelude.{ℕ, ◌⊎◌, List, ◌++◌}
 use Rattle.ss_trace.specs.declared.movement.Movement.{Movement}
 use Rattle.ss_trace.specs.Turn.{answer, state_after, IsStateAfterRefusal}
 use Rattle.ss_prompt.specs.PromptState.{PromptState, with_debugger, IsSameBeside}
-use Rattle.ss_prompt.specs.Stops.{travels_back, stop_text, HasLookedBeside}
+use Rattle.ss_prompt.specs.Stops.{travels_back, stop_text, IsStopRefused}
 
 -- the state behind one
 abbrev pub travel_next : PromptState → Movement → PromptState
@@ -14,8 +14,8 @@ abbrev pub travel_said : PromptState → Movement → List ℕ
 travel_said s m =
     answer s.input s.debugger m ++ stop_text (travels_back m s.debugger.position) (travel_next s m)
 
--- where it was refused memory it was made in part or whole, and then perhaps a step beside its end
+-- where memory was refused it was made in part or whole, and then perhaps what is told of its end was refused
 unfoldable pub IsTravelRefused : PromptState → Movement → PromptState → Type 0
 IsTravelRefused s m after =
     IsSameBeside s after
-    × (IsStateAfterRefusal s.input s.debugger m after.debugger ⊎ HasLookedBeside (travel_next s m) after)
+    × (IsStateAfterRefusal s.input s.debugger m after.debugger ⊎ IsStopRefused (travel_next s m) after)

@@ -7,7 +7,7 @@ ghost use Rattle.ss_debug.specs.Turn.{is_quit as is_plain_quit};
 ghost use Rattle.ss_trace.specs.Question.{question_text};
 ghost use Rattle.ss_prompt.specs.PromptState.{state_at, with_questions, fault_told, source_line};
 ghost use Rattle.ss_prompt.specs.PromptState.{place_text, greeting};
-ghost use Rattle.ss_prompt.specs.Stops.{changes_told, stop_text, changed_said, HasLookedBeside};
+ghost use Rattle.ss_prompt.specs.Stops.{changes_told, stop_text, changed_said, HasLookedBeside, IsStopRefused};
 ghost use Rattle.ss_prompt.specs.Plain.{plain_next, plain_said, IsPlainRefused};
 ghost use Rattle.ss_prompt.specs.Travel.{travel_next, travel_said, IsTravelRefused};
 ghost use Rattle.ss_prompt.specs.Sights.{sight_said};
@@ -17,6 +17,7 @@ ghost use Rattle.ss_prompt.specs.Displays.{displays_with, display_text, cleared_
 ghost use Rattle.ss_prompt.specs.Prompting.{prompt_answer, prompt_state_after, IsRefused, is_quit};
 
 mod model;
+mod past;
 
 use crate::commands::PromptCommand;
 use crate::displays::{display, push_answers, undisplay};
@@ -94,19 +95,31 @@ impl<'a> PromptDesk<'a> {
         swap(&mut self.displays, displays);
     }
 
-    /// Appends what the fault means, where the state is faulted, and the line of the model.
-    fn push_source<S: SetBoard>(
+    /// Appends what the fault means, where the state is faulted.
+    fn push_fault<S: SetBoard>(
         &self,
         debugger: &Debugger<S>,
         answer: &mut Vec<u8>,
     ) -> Result<(), AllocError>
         ensures { OnOk result (answer.new.items ≡ answer.old.items
-            ++ fault_told debugger.now.machine.input (position debugger.now.machine)
-            ++ source_line (state_at debugger.now self.now)) }
+            ++ fault_told debugger.now.machine.input (position debugger.now.machine)) }
     {
         let machine = debugger.machine();
         machine.known();
-        push_fault_sentence(self.alloc, machine, answer)?;
+        push_fault_sentence(self.alloc, machine, answer)
+    }
+
+    /// Appends the line of the model.
+    fn push_source<S: SetBoard>(
+        &self,
+        debugger: &Debugger<S>,
+        answer: &mut Vec<u8>,
+    ) -> Result<(), AllocError>
+        ensures { OnOk result (answer.new.items
+            ≡ answer.old.items ++ source_line (state_at debugger.now self.now)) }
+    {
+        let machine = debugger.machine();
+        machine.known();
         push_marked_line(answer, &self.lines, b"> ", present_line(machine))
     }
 
@@ -119,6 +132,7 @@ impl<'a> PromptDesk<'a> {
         ensures { OnOk result (text.new.items
             ≡ text.old.items ++ place_text (state_at debugger.now self.now)) }
     {
+        self.push_fault(debugger, text)?;
         self.push_source(debugger, text)?;
         push_answers(debugger, &self.displays, text)
     }
@@ -146,7 +160,7 @@ impl<'a> PromptDesk<'a> {
     }
 
     /// Appends what is told where a movement stops, that went back or not.
-    #[tactic(auto, unfolding(crate::specs::Stops::HasLookedBeside))]
+    #[tactic(auto, using(crate::proofs::StopRefusals::stops))]
     fn push_stop<S: SetBoard>(
         &self,
         debugger: &mut Debugger<S>,
@@ -158,8 +172,10 @@ impl<'a> PromptDesk<'a> {
         ensures said { OnOk result (answer.new.items
             ≡ answer.old.items ++ stop_text is_back (state_at debugger.old self.now)) }
         ensures memory { OnErr result
-            (HasLookedBeside (state_at debugger.old self.now) (state_at debugger.new self.now)) }
+            (IsStopRefused (state_at debugger.old self.now) (state_at debugger.new self.now)) }
     {
+        self.push_fault(debugger, answer)?;
+        self.push_past(debugger, answer)?;
         self.push_source(debugger, answer)?;
         self.push_changes(debugger, is_back, answer)?;
         push_answers(debugger, &self.displays, answer)

@@ -1,0 +1,65 @@
+-- What the history tells of a fault where a movement stops: where the entity that is missing ended, or when the list that
+-- a loop names changed.
+use Rattle.std.specs.Prelude.{ℕ, zero, suc, ◌≡◌, ◌⊎◌, List, [], ◌++◌, codes, decimal, Option, Some, None}
+use Rattle.ss_machine.specs.Run.{Input, run}
+use Rattle.ss_debug.specs.declared.commands.Question.TheVariants.{Entity, Set}
+use Rattle.ss_debug.specs.Answer.{state_line}
+use Rattle.ss_debug.specs.CommandLines.{command_words}
+use Rattle.ss_trace.specs.declared.question.Question.{Question}
+use Rattle.ss_trace.specs.declared.question.Question.TheVariants.{Shown}
+use Rattle.ss_trace.specs.History.{newest_change}
+use Rattle.ss_faults.specs.Asked.{state_asked}
+use Rattle.ss_prompt.specs.Asked.{asked_of}
+use Rattle.ss_prompt.specs.Histories.{HasLookedBack}
+use Rattle.ss_prompt.specs.PromptState.{PromptState}
+
+-- that an entity ended in no step that is kept: where all are kept, it never was
+abbrev pub no_end_text : ℕ → List ℕ
+no_end_text zero = codes " was never made.\n"
+no_end_text (suc e) =
+    codes " ended before STATE " ++ decimal (suc e) ++ codes ", the earliest that is kept, or was never made.\n"
+
+-- where an entity that is missing ended: in the state whose step was the last at which it changed, if there is one
+abbrev pub end_text : Input → List ℕ → ℕ → Option ℕ → List ℕ
+end_text t words earliest None = words ++ no_end_text earliest
+end_text t words earliest (Some q) = words ++ codes " ended in " ++ state_line t q
+
+-- that a list changed in no step that is kept
+abbrev pub no_list_change_text : ℕ → List ℕ
+no_list_change_text earliest = codes " has not changed since STATE " ++ decimal earliest ++ codes ".\n"
+
+-- when a list changed last
+abbrev pub list_change_text : Input → List ℕ → ℕ → Option ℕ → List ℕ
+list_change_text t words earliest None = words ++ no_list_change_text earliest
+list_change_text t words earliest (Some q) = words ++ codes " changed last in " ++ state_line t q
+
+-- the same of a question that is asked with these words, of the last step at which it changed; of others nothing
+abbrev pub change_text : Input → List ℕ → Question → ℕ → Option ℕ → List ℕ
+change_text t words (Shown (Entity name x)) earliest step = end_text t words earliest step
+change_text t words (Shown (Set name owner)) earliest step = list_change_text t words earliest step
+change_text t words _ earliest step = []
+
+-- what is told of a question, if there is one
+abbrev pub question_text : PromptState → List ℕ → Option Question → List ℕ
+question_text s words None = []
+question_text s words (Some x) =
+    change_text s.input words x s.debugger.earliest
+    (newest_change s.input x s.debugger.earliest s.debugger.position)
+
+-- the words with which the history is asked of the state's fault
+abbrev pub words_asked : PromptState → List ℕ
+words_asked s =
+    let state = run s.input s.debugger.position in state_asked s.input.program state state.status
+
+-- the question of these words
+abbrev pub question_asked : PromptState → Option Question
+question_asked s = asked_of (command_words (words_asked s))
+
+-- what the history tells of the state's fault
+abbrev pub past_told : PromptState → List ℕ
+past_told s = question_text s (words_asked s) (question_asked s)
+
+-- where memory was refused to that: the history is asked something, and the debugger stands between the earliest kept
+-- position and its own; or it stands where it stood
+unfoldable pub HasSearchedPast : PromptState → PromptState → Type 0
+HasSearchedPast s after = (after ≡ s) ⊎ ((question_asked s ≡ None → ⊥) × HasLookedBack s after)

@@ -1,0 +1,183 @@
+//! What the history tells of a fault where a movement stops.
+ghost use Rattle.std.specs.Prelude.{◌≡◌, ◌⊎◌, ◌++◌, IfOk, OnErr, OnOk, is_some};
+ghost use Rattle.ss_machine.specs.Moment.{position};
+ghost use Rattle.ss_machine.specs.Run.{run};
+ghost use Rattle.ss_trace.specs.History.{newest_change, why_head};
+ghost use Rattle.ss_faults.specs.Asked.{state_asked};
+ghost use Rattle.ss_prompt.specs.Histories.{HasLookedBack};
+ghost use Rattle.ss_prompt.specs.Past as spec;
+ghost use Rattle.ss_prompt.specs.PromptState.{state_at};
+
+use crate::asked::asked;
+use crate::desk::PromptDesk;
+use ss_debug::{Debugger, Question as PlainQuestion, push_number};
+use ss_faults::push_asked_of_fault;
+use ss_links::SetBoard;
+use ss_trace::{Question, push_why};
+use std::alloc::AllocError;
+
+/// The earliest kept position.
+fn earliest<S: SetBoard>(debugger: &Debugger<S>) -> u64
+    ensures { result ≡ debugger.now.machine.forgotten }
+{
+    let machine = debugger.machine();
+    machine.position() - machine.kept()
+}
+
+/// Appends that an entity ended in no step that is kept.
+fn push_no_end(text: &mut Vec<u8>, earliest: u64) -> Result<(), AllocError>
+    ensures { OnOk result (text.new.items ≡ text.old.items ++ spec.no_end_text earliest) }
+{
+    if earliest == 0 {
+        return text.extend_from_slice(b" was never made.\n");
+    }
+    text.extend_from_slice(b" ended before STATE ")?;
+    push_number(text, earliest)?;
+    text.extend_from_slice(b", the earliest that is kept, or was never made.\n")
+}
+
+/// Appends that a list did not change in a step that is kept.
+fn push_no_list_change(text: &mut Vec<u8>, earliest: u64) -> Result<(), AllocError>
+    ensures { OnOk result (text.new.items ≡ text.old.items ++ spec.no_list_change_text earliest) }
+{
+    text.extend_from_slice(b" has not changed since STATE ")?;
+    push_number(text, earliest)?;
+    text.extend_from_slice(b".\n")
+}
+
+impl<'a> PromptDesk<'a> {
+    /// Looks for the last step at which a question changed. Appends its state line, and tells
+    /// whether there is one.
+    #[tactic(auto, using(crate::proofs::Searches::found), unfolding(crate::specs::Histories::HasLookedBack))]
+    fn search<S: SetBoard>(
+        &self,
+        debugger: &mut Debugger<S>,
+        question: &Question,
+        head: &mut Vec<u8>,
+    ) -> Result<bool, AllocError>
+        ensures place { OnOk result (state_at debugger.new self.now ≡ state_at debugger.old self.now) }
+        ensures head { OnOk result (head.new.items ≡ head.old.items
+            ++ why_head debugger.old.machine.input debugger.old.machine.forgotten
+            (newest_change debugger.old.machine.input question.now
+            debugger.old.machine.forgotten (position debugger.old.machine))) }
+        ensures found { IfOk result (λ found. found ≡ is_some
+            (newest_change debugger.old.machine.input question.now
+            debugger.old.machine.forgotten (position debugger.old.machine))) }
+        ensures memory { OnErr result
+            (HasLookedBack (state_at debugger.old self.now) (state_at debugger.new self.now)) }
+    {
+        debugger.machine().known();
+        let mut change = Vec::new(self.alloc);
+        let line = push_why(debugger, question, head, &mut change)?;
+        Ok(line.is_some())
+    }
+
+    /// Appends where an entity that is missing ended.
+    #[tactic(auto, using(crate::proofs::Searches::ends), unfolding(crate::specs::Histories::HasLookedBack))]
+    fn push_end<S: SetBoard>(
+        &self,
+        debugger: &mut Debugger<S>,
+        words: &[u8],
+        question: &Question,
+        text: &mut Vec<u8>,
+    ) -> Result<(), AllocError>
+        ensures place { OnOk result (state_at debugger.new self.now ≡ state_at debugger.old self.now) }
+        ensures said { OnOk result (text.new.items ≡ text.old.items
+            ++ spec.end_text debugger.old.machine.input words.now debugger.old.machine.forgotten
+            (newest_change debugger.old.machine.input question.now
+            debugger.old.machine.forgotten (position debugger.old.machine))) }
+        ensures memory { OnErr result
+            (HasLookedBack (state_at debugger.old self.now) (state_at debugger.new self.now)) }
+    {
+        debugger.machine().known();
+        let mut head = Vec::new(self.alloc);
+        let found = self.search(debugger, question, &mut head)?;
+        text.extend_from_slice(words)?;
+        if found {
+            text.extend_from_slice(b" ended in ")?;
+            return text.extend_from_slice(&head);
+        }
+        push_no_end(text, earliest(debugger))
+    }
+
+    /// Appends when a list changed last.
+    #[tactic(auto, using(crate::proofs::Searches::list_changes), unfolding(crate::specs::Histories::HasLookedBack))]
+    fn push_list_change<S: SetBoard>(
+        &self,
+        debugger: &mut Debugger<S>,
+        words: &[u8],
+        question: &Question,
+        text: &mut Vec<u8>,
+    ) -> Result<(), AllocError>
+        ensures place { OnOk result (state_at debugger.new self.now ≡ state_at debugger.old self.now) }
+        ensures said { OnOk result (text.new.items ≡ text.old.items
+            ++ spec.list_change_text debugger.old.machine.input words.now
+            debugger.old.machine.forgotten
+            (newest_change debugger.old.machine.input question.now
+            debugger.old.machine.forgotten (position debugger.old.machine))) }
+        ensures memory { OnErr result
+            (HasLookedBack (state_at debugger.old self.now) (state_at debugger.new self.now)) }
+    {
+        debugger.machine().known();
+        let mut head = Vec::new(self.alloc);
+        let found = self.search(debugger, question, &mut head)?;
+        text.extend_from_slice(words)?;
+        if found {
+            text.extend_from_slice(b" changed last in ")?;
+            return text.extend_from_slice(&head);
+        }
+        push_no_list_change(text, earliest(debugger))
+    }
+
+    /// Appends what the history tells of a question that is asked with these words.
+    fn push_change<S: SetBoard>(
+        &self,
+        debugger: &mut Debugger<S>,
+        words: &[u8],
+        question: &Question,
+        text: &mut Vec<u8>,
+    ) -> Result<(), AllocError>
+        ensures place { OnOk result (state_at debugger.new self.now ≡ state_at debugger.old self.now) }
+        ensures said { OnOk result (text.new.items ≡ text.old.items
+            ++ spec.change_text debugger.old.machine.input words.now question.now
+            debugger.old.machine.forgotten
+            (newest_change debugger.old.machine.input question.now
+            debugger.old.machine.forgotten (position debugger.old.machine))) }
+        ensures memory { OnErr result
+            (HasLookedBack (state_at debugger.old self.now) (state_at debugger.new self.now)) }
+    {
+        match question {
+            Question::Shown(PlainQuestion::Entity(..)) => {
+                self.push_end(debugger, words, question, text)
+            }
+            Question::Shown(PlainQuestion::Set(..)) => {
+                self.push_list_change(debugger, words, question, text)
+            }
+            _ => Ok(()),
+        }
+    }
+
+    /// Appends what the history tells of the state's fault: where the entity that is missing ended,
+    /// or when the list that a loop names changed last.
+    #[tactic(auto, unfolding(crate::specs::Past::HasSearchedPast))]
+    pub(crate) fn push_past<S: SetBoard>(
+        &self,
+        debugger: &mut Debugger<S>,
+        text: &mut Vec<u8>,
+    ) -> Result<(), AllocError>
+        ensures place { OnOk result (state_at debugger.new self.now ≡ state_at debugger.old self.now) }
+        ensures said { OnOk result (text.new.items
+            ≡ text.old.items ++ spec.past_told (state_at debugger.old self.now)) }
+        ensures memory { OnErr result (spec.HasSearchedPast (state_at debugger.old self.now)
+            (state_at debugger.new self.now)) }
+    {
+        let mut words = Vec::new(self.alloc);
+        let machine = debugger.machine();
+        machine.known();
+        push_asked_of_fault(machine, &mut words)?;
+        match asked(&words) {
+            Some(question) => self.push_change(debugger, &words, &question, text),
+            None => Ok(()),
+        }
+    }
+}
