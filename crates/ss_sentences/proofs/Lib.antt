@@ -1,4 +1,4 @@
 pub mod Parts
 pub mod Whole
-pub mod Filling
+pub mod Gaps
 pub mod Sayings

@@ -11,7 +11,8 @@ use Rattle.ss_sentences.specs.declared.candidate.Judgement.{Judgement}
 use Rattle.ss_sentences.specs.declared.refusal.TheConstants.{LONGEST_TEXT_JUDGED}
 use Rattle.ss_sentences.specs.Candidates.{IsFitting, candidate_of, candidates}
 use Rattle.ss_sentences.specs.Grammar.{IsRefused, IsSpelled}
-use Rattle.ss_sentences.specs.Refusals.{AreJudged, AreSaid, IsSaid, IsSaidOf, behind_text, front_of, sentence_text, unread_text}
+use Rattle.ss_sentences.specs.Refusals.{AreJudged, AreSaid, IsSaid, IsSaidOf, behind_text, front_of, sentence_text}
+use Rattle.ss_sentences.specs.Unread.{unread_text}
 
 -- of words that are refused by a rule
 pub said_by_rule : (model : List ℕ) (ws : List WordAt) (rule : TextRule) (i : ℕ) (js : List Judgement) (said : List ℕ)
@@ -28,7 +29,8 @@ judged_none model front js long e = inl (long, e)
 
 -- of another each candidate
 pub judged_all : (model : List ℕ) (front : List WordAt) (js : List Judgement) → length model ≤ LONGEST_TEXT_JUDGED
-    → All (λ j. IsFitting front j.told.now j.tried j.fits) js → map candidate_of js ≡ candidates → AreJudged model front js
+    → All (λ j. IsFitting front j.told.now j.tried j.fits) js → map candidate_of js ≡ candidates
+    → AreJudged model front js
 unfolding AreJudged
 judged_all model front js short all complete = inr (short, all, complete)
 

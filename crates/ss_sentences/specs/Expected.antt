@@ -9,19 +9,19 @@ abbrev pub separator : Bool → List ℕ
 separator is_first = if is_first then codes " " else codes ", "
 
 -- those of the candidates that fit, where so many bytes have room on the line, and on a new line where they have none
-abbrev pub listed : Bool → ℕ → List Judgement → List ℕ
-listed is_first room [] = codes "\n"
-listed is_first room (j ∷ js) = elim j.fits [
-  | false ↦ listed is_first room js
+abbrev pub fitting_list : Bool → ℕ → List Judgement → List ℕ
+fitting_list is_first room [] = codes "\n"
+fitting_list is_first room (j ∷ js) = elim j.fits [
+  | false ↦ fitting_list is_first room js
   | true ↦ let told = j.told.now in elim (nat_lt (room - length told) 2) [
-    | true ↦ codes ",\n  " ++ told ++ listed false (FURTHER_ROOM - length told) js
-    | false ↦ separator is_first ++ told ++ listed false (room - length told - 2) js
+    | true ↦ codes ",\n  " ++ told ++ fitting_list false (FURTHER_ROOM - length told) js
+    | false ↦ separator is_first ++ told ++ fitting_list false (room - length told - 2) js
   ]
 ]
 
 -- what could stand at a place
 unfoldable pub expected_text : List Judgement → List ℕ
-expected_text js = EXPECTED.now ++ listed true FIRST_ROOM js
+expected_text js = EXPECTED.now ++ fitting_list true FIRST_ROOM js
 
 -- a candidate that is told so fits
 abbrev pub fits : List Judgement → List ℕ → Bool

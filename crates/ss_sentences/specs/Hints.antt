@@ -7,7 +7,7 @@ use Rattle.ss_sentences.specs.declared.hints.TheConstants.{IFS, ALWAYS, DOS, LOO
 use Rattle.ss_sentences.specs.declared.hints.TheConstants.{DROPPED_HINT, RESERVED_HINT, UNIT_HINT, IF_HINT, DO_HINT}
 use Rattle.ss_sentences.specs.Candidates.{keeps_article}
 use Rattle.ss_sentences.specs.Expected.{fits}
-use Rattle.ss_sentences.specs.Pieces.{filled, last_kind, last_text}
+use Rattle.ss_sentences.specs.Pieces.{gaps_filled, last_kind, last_text}
 use Rattle.ss_columns.specs.Reserved.{dropped, is_kind_among, reserved}
 
 -- a name, reserved or not
@@ -28,7 +28,7 @@ ends_in_dropped ws = is_dropped_word (last_kind None ws) && not (keeps_article (
 
 -- a hint that names a word, if it is given
 abbrev pub hint_text : Bool → List ℕ → List ℕ → List ℕ
-hint_text is_given hint word = elim is_given [ true ↦ filled hint word word | false ↦ [] ]
+hint_text is_given hint word = elim is_given [ true ↦ gaps_filled hint word word | false ↦ [] ]
 
 -- what a refused word hints at: that it is reserved, where a name fits and no statement begins; that it is no unit,
 -- where one fits

@@ -4,4 +4,6 @@ pub mod Candidates
 pub mod Expected
 pub mod Pieces
 pub mod Hints
+pub mod Breach
+pub mod Unread
 pub mod Refusals

@@ -16,12 +16,12 @@ begins_gap (b ∷ []) = false
 begins_gap (b ∷ c ∷ bs) = b == 123 && c == 125
 
 -- a sentence with a word in the place of its first `{}`, and another in that of its others
-unfoldable pub filled : List ℕ → List ℕ → List ℕ → List ℕ
-filled [] word others = []
-filled (b ∷ []) word others = b ∷ []
-filled (b ∷ c ∷ bs) word others = elim (b == 123 && c == 125) [
-  | true ↦ word ++ filled bs others others
-  | false ↦ b ∷ filled (c ∷ bs) word others
+unfoldable pub gaps_filled : List ℕ → List ℕ → List ℕ → List ℕ
+gaps_filled [] word others = []
+gaps_filled (b ∷ []) word others = b ∷ []
+gaps_filled (b ∷ c ∷ bs) word others = elim (b == 123 && c == 125) [
+  | true ↦ word ++ gaps_filled bs others others
+  | false ↦ b ∷ gaps_filled (c ∷ bs) word others
 ]
 
 -- how a sign is told
@@ -56,13 +56,13 @@ last_kind last [] = last
 last_kind last (w ∷ ws) = last_kind (Some w.kind) ws
 
 -- how a word is told, if there is one
-abbrev pub told : Option Kind → List ℕ
-told None = codes "the start of the text"
-told (Some k) = kind_text k
+abbrev pub word_told : Option Kind → List ℕ
+word_told None = codes "the start of the text"
+word_told (Some k) = kind_text k
 
 -- how the last of these words is told
 abbrev pub last_text : List WordAt → List ℕ
-last_text ws = told (last_kind None ws)
+last_text ws = word_told (last_kind None ws)
 
 -- a column, if there is one
 abbrev pub column_text : Option ℕ → List ℕ

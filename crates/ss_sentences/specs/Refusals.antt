@@ -16,13 +16,9 @@ use Rattle.ss_sentences.specs.Candidates.{IsFitting, candidate_of, candidates}
 use Rattle.ss_sentences.specs.Expected.{expected_text}
 use Rattle.ss_sentences.specs.Grammar.{IsRefused, IsSpelled, is_end}
 use Rattle.ss_sentences.specs.Hints.{block_hints, front_hints, word_hints}
-use Rattle.ss_sentences.specs.Pieces.{filled, last_text, place_text, source_text}
+use Rattle.ss_sentences.specs.Pieces.{gaps_filled, last_text, place_text, source_text}
+use Rattle.ss_sentences.specs.Unread.{unread_text}
 use Rattle.ss_sentences.specs.Wording.{rule_sentence}
-
--- the sentence of a rule L at its line
-abbrev pub unread_text : List ℕ → TextRule → ℕ → List ℕ
-unread_text model rule line =
-    place_text line None ++ rule_sentence (text_rule_code rule) ++ codes "\n" ++ source_text model line None
 
 -- how the last of so many words is told
 abbrev pub told_before : List WordAt → ℕ → List ℕ
@@ -32,7 +28,7 @@ told_before ws count = last_text (take count ws)
 abbrev pub sentence_text : List ℕ → List WordAt → TextRule → ℕ → List ℕ
 sentence_text model ws rule i =
     place_text (line_at ws i) (column_at model ws i)
-    ++ filled (rule_sentence (text_rule_code rule)) (told_before ws (i + 1)) (told_before ws i)
+    ++ gaps_filled (rule_sentence (text_rule_code rule)) (told_before ws (i + 1)) (told_before ws i)
     ++ codes "\n" ++ source_text model (line_at ws i) (column_at model ws i)
 
 -- each candidate is judged behind these words; none where the text is too long

@@ -30,7 +30,7 @@ pub fn push_expected(text: &mut Vec<u8>, judged: &[Judgement]) -> Result<(), All
 
 fn push_listed(text: &mut Vec<u8>, judged: &[Judgement]) -> Result<(), AllocError>
     ensures { OnOk result (text.new.items
-        ≡ text.old.items ++ spec.listed true FIRST_ROOM judged.now) }
+        ≡ text.old.items ++ spec.fitting_list true FIRST_ROOM judged.now) }
 {
     let mut is_first = true;
     let mut room = FIRST_ROOM;

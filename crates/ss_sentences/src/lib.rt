@@ -2,12 +2,14 @@
 //! a refused text the word at which it is refused, where that stands, and what could stand there.
 #![tactic(auto)]
 
+mod breach;
 mod candidate;
 mod expected;
 mod grammar;
 mod hints;
 mod pieces;
 mod refusal;
+mod unread;
 mod wording;
 
 pub use candidate::{Judgement, Tried};

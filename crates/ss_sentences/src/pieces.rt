@@ -17,7 +17,7 @@ pub fn push_filled(
     others: &[u8],
 ) -> Result<(), AllocError>
     ensures { OnOk result (text.new.items
-        ≡ text.old.items ++ spec.filled sentence.now first.now others.now) }
+        ≡ text.old.items ++ spec.gaps_filled sentence.now first.now others.now) }
 {
     let mut word = first;
     let mut rest = sentence;
@@ -137,7 +137,7 @@ fn blank_of(byte: u8) -> u8
 }
 
 /// The first bytes, so many of them.
-fn first_bytes(bytes: &[u8], count: usize) -> &[u8]
+pub fn first_bytes(bytes: &[u8], count: usize) -> &[u8]
     ensures { result.now ≡ take count bytes.now }
 {
     &bytes[..count.min(bytes.len())]

@@ -9,8 +9,9 @@ use crate::expected::push_expected;
 use crate::grammar::{is_end, spelled};
 use crate::hints::{push_block_hints, push_front_hints, push_word_hints};
 use crate::pieces::{last_text, push_filled, push_place, push_source};
+use crate::unread::unread_said;
 use crate::wording::rule_sentence;
-use ss_columns::{Place, numbered_words, place_of};
+use ss_columns::{numbered_words, place_of};
 use ss_words::{TextFault, TextRule, Word, Words, words};
 use std::alloc::{AllocError, Global};
 
@@ -27,26 +28,8 @@ pub fn text_refusal(alloc: Global, model: &[u8]) -> Result<Vec<u8>, AllocError>
     match words(alloc, model) {
         Ok(words) => said_of_words(alloc, model, &words),
         Err(TextFault::Memory) => Err(AllocError),
-        Err(TextFault::Refused { rule, line }) => said_of_line(alloc, model, rule, line),
+        Err(TextFault::Refused { rule, line }) => unread_said(alloc, model, rule, line),
     }
-}
-
-/// What a text that a rule L refuses is refused with.
-fn said_of_line(
-    alloc: Global,
-    model: &[u8],
-    rule: TextRule,
-    line: usize,
-) -> Result<Vec<u8>, AllocError>
-    ensures { IfOk result (λ said. said.items ≡ spec.unread_text model.now rule line) }
-{
-    let place = Place { line, column: None };
-    let mut text = Vec::new(alloc);
-    push_place(&mut text, place)?;
-    text.extend_from_slice(rule_sentence(rule.code()))?;
-    text.extend_from_slice(b"\n")?;
-    push_source(alloc, &mut text, model, place)?;
-    Ok(text)
 }
 
 /// What the words of a model are refused with, if they are.

@@ -7,22 +7,23 @@ ghost use Rattle.ss_sentences.specs.Wording as spec;
 use ss_words::RunFault;
 
 /// The sentence of each rule on the text and of each rule of the checker, by its code. The first
-/// `{}` stands for the word at which the text is refused, the second for the word before it.
+/// `{}` stands for what is refused; the second, of L3, for its length, and of a rule P for the word
+/// before it.
 pub const RULE_SENTENCES: [(&[u8], &[u8]); 22] = [
-    (
-        b"L1",
-        b"This line has a byte that has no meaning where it stands.",
-    ),
+    (b"L1", b"The byte {} has no meaning where it stands."),
     (
         b"L2",
-        b"A number here is no whole number from 0 to 9223372036854775807.",
+        b"{} is no whole number from 0 to 9223372036854775807.",
     ),
-    (b"L3", b"A word here is longer than 80 bytes."),
+    (b"L3", b"{} has {} bytes: a word has at most 80."),
     (
         b"L4",
-        b"Behind THUS the line must end, and as many picture lines must follow as PRINT says, 1 to 100.",
+        b"Behind {} the line must end, and as many picture lines must follow as PRINT says, 1 to 100.",
     ),
-    (b"L5", b"This line of a picture has more than 132 bytes."),
+    (
+        b"L5",
+        b"This line of a picture has {} bytes: it may have 132.",
+    ),
     (b"P1", b"{} does not fit behind {}."),
     (b"P2", b"The text ends behind {}, where no program ends."),
     (
@@ -128,13 +129,10 @@ pub const FAULT_SENTENCES: [(u8, &[u8]); 22] = [
 pub fn rule_sentence(code: &str) -> &'static [u8]
     ensures { result.now ≡ spec.rule_sentence code.now }
 {
-    sentence_beside(code.as_bytes(), &RULE_SENTENCES)
+    text_beside(code.as_bytes(), &RULE_SENTENCES)
 }
 
-fn sentence_beside(
-    code: &[u8],
-    mut rows: &'static [(&'static [u8], &'static [u8])],
-) -> &'static [u8]
+fn text_beside(code: &[u8], mut rows: &'static [(&'static [u8], &'static [u8])]) -> &'static [u8]
     ensures { result.now
         ≡ spec.beside code.now (map (λ row. (row.0.now, row.1.now)) rows.entry.now) }
 {
@@ -152,10 +150,11 @@ fn sentence_beside(
 pub fn fault_sentence(fault: RunFault) -> &'static [u8]
     ensures { result.now ≡ spec.fault_sentence (run_fault_number fault) }
 {
-    fault_beside(fault.number(), &FAULT_SENTENCES)
+    text_beside_number(fault.number(), &FAULT_SENTENCES)
 }
 
-fn fault_beside(number: u8, mut rows: &'static [(u8, &'static [u8])]) -> &'static [u8]
+/// The text beside a number in a table; empty where it has none.
+pub fn text_beside_number(number: u8, mut rows: &'static [(u8, &'static [u8])]) -> &'static [u8]
     ensures { result.now
         ≡ spec.beside_number number (map (λ row. (row.0, row.1.now)) rows.entry.now) }
 {

@@ -1,6 +1,6 @@
 use Rattle.std.proofs.Common.{◌∙◌, sym, rules, arith}
 use Rattle.std.proofs.lemmas.Grind.{common_steps}
-use Rattle.ss_sentences.proofs.Filling.{gap_step, letter_step, no_more}
+use Rattle.ss_sentences.proofs.Gaps.{gap_step, letter_step, no_more}
 use Rattle.ss_sentences.proofs.pieces.push_filled.Goals as goal
 
 pub loop-word-preserved-then-begins_gap : goal.loop-word-preserved-then-begins_gap

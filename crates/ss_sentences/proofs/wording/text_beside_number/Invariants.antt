@@ -1,6 +1,6 @@
 use Rattle.std.proofs.Common.{◌≡◌, map, length}
 use Rattle.ss_sentences.specs.Wording as spec
-use Rattle.ss_sentences.proofs.wording.fault_beside.Given as goal
+use Rattle.ss_sentences.proofs.wording.text_beside_number.Given as goal
 
 abbrev pub invariant-loop-rows : goal.invariant-loop-rows
 invariant-loop-rows l =

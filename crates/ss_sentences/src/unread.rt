@@ -1,0 +1,300 @@
+//! What is said of a text that a rule L refuses.
+ghost use Rattle.std.specs.Prelude.{◌≡◌, ◌-◌, ◌++◌, IfOk, OnOk, slice_index};
+ghost use Rattle.ss_sentences.specs.Breach as breach;
+ghost use Rattle.ss_sentences.specs.Unread as spec;
+
+use crate::breach::{breach_column, front_line, front_run, is_of_picture};
+use crate::pieces::{first_bytes, push_filled, push_number, push_place, push_source};
+use crate::wording::{rule_sentence, text_beside_number};
+use ss_columns::{Place, behind_feed, behind_feeds, is_allowed, run_len, with_blank_comments};
+use ss_words::characters::{BLANK, CARRIAGE_RETURN, LINE_FEED, STOP, TAB, TILDE};
+use ss_words::{TextRule, without_stops};
+use std::alloc::{AllocError, Global};
+
+/// So many bytes of a run are told, and a mark where it has more. The definitions read these too.
+pub const LONGEST_RUN_TOLD: usize = 40;
+
+pub const CUT_MARK: &[u8] = b"..";
+
+/// What is often meant by a byte that has no meaning. The definitions read this table too.
+pub const BYTE_HINTS: [(u8, &[u8]); 17] = [
+    (
+        b'/',
+        b"A quotient is DIV.F(x, y), and what is left over MOD.F(x, y).\n",
+    ),
+    (b'%', b"What is left over by a division is MOD.F(x, y).\n"),
+    (
+        b'_',
+        b"A name is of letters, digits and stops: MEAN.WAIT.\n",
+    ),
+    (
+        b'\'',
+        b"A comment begins with two of these bytes, and ends with two or with its line.\n",
+    ),
+    (
+        b'"',
+        b"Only the picture of a PRINT is a text: the lines behind it, as they stand.\n",
+    ),
+    (
+        b'!',
+        b"Unequal is NE, not is NOT, and a comment begins with ''.\n",
+    ),
+    (b'#', b"A comment begins with ''.\n"),
+    (
+        b';',
+        b"Nothing parts statements: a new one begins with its first word.\n",
+    ),
+    (
+        b':',
+        b"Nothing parts statements: a new one begins with its first word.\n",
+    ),
+    (b'[', b"A subscript stands in parentheses: SIZE(JOB).\n"),
+    (b']', b"A subscript stands in parentheses: SIZE(JOB).\n"),
+    (
+        b'{',
+        b"What belongs together ends with its word: ALWAYS, LOOP or END.\n",
+    ),
+    (
+        b'}',
+        b"What belongs together ends with its word: ALWAYS, LOOP or END.\n",
+    ),
+    (b'&', b"Conditions are joined by AND.\n"),
+    (b'|', b"Conditions are joined by OR.\n"),
+    (b'^', b"A power is written as a product: X * X.\n"),
+    (
+        b'$',
+        b"A name is of letters, digits and stops: MEAN.WAIT.\n",
+    ),
+];
+
+/// The other hints. The definitions read them too.
+pub const OUTSIDE_HINT: &[u8] =
+    b"A text has the characters from the blank to ~, and tabs; no others.\n";
+
+pub const STOP_HINT: &[u8] = b"Values are whole: no digits stand behind a stop.\n";
+
+pub const GREAT_HINT: &[u8] = b"It is greater than the greatest value.\n";
+
+pub const BEHIND_HINT: &[u8] = b"More stands behind it on this line.\n";
+
+pub const BELOW_HINT: &[u8] = b"Lines below this one: {}.\n";
+
+// ---- what stands there
+
+/// Appends a byte as it is written, or its number.
+fn push_byte(text: &mut Vec<u8>, byte: u8) -> Result<(), AllocError>
+    ensures { OnOk result (text.new.items ≡ text.old.items ++ spec.byte_text byte) }
+{
+    if byte > BLANK && byte <= TILDE {
+        return Ok(text.push(byte)?);
+    }
+    push_number(text, usize::from(byte))
+}
+
+/// Appends a run; of a long one the first bytes.
+fn push_run(text: &mut Vec<u8>, run: &[u8]) -> Result<(), AllocError>
+    ensures { OnOk result (text.new.items ≡ text.old.items ++ spec.run_text run.now) }
+{
+    if run.len() > LONGEST_RUN_TOLD {
+        text.extend_from_slice(first_bytes(run, LONGEST_RUN_TOLD))?;
+        return text.extend_from_slice(CUT_MARK);
+    }
+    text.extend_from_slice(run)
+}
+
+/// The line from a column on.
+fn from_column(line: &[u8], column: usize) -> &[u8]
+    ensures { result.now ≡ spec.from_column line.now column }
+{
+    &line[column.saturating_sub(1).min(line.len())..]
+}
+
+/// The byte at a column; 0 where there is none.
+fn byte_at(line: &[u8], column: usize) -> u8
+    ensures { result ≡ slice_index line.now (column - 1) }
+{
+    match line.get(column.saturating_sub(1)) {
+        Some(byte) => *byte,
+        None => 0,
+    }
+}
+
+/// Appends what the sentence of a rule names first.
+fn push_breach(
+    text: &mut Vec<u8>,
+    rule: TextRule,
+    line: &[u8],
+    column: usize,
+) -> Result<(), AllocError>
+    ensures { OnOk result (text.new.items ≡ text.old.items ++ spec.breach_text rule line.now column) }
+{
+    match rule {
+        TextRule::StrayByte => push_byte(text, byte_at(line, column)),
+        TextRule::LongPictureLine => push_number(text, line.len()),
+        _ => push_run(text, front_run(from_column(line, column))),
+    }
+}
+
+/// Appends the sentence of a rule that is broken at a column of a line.
+fn push_breach_sentence(
+    alloc: Global,
+    text: &mut Vec<u8>,
+    rule: TextRule,
+    line: &[u8],
+    column: usize,
+) -> Result<(), AllocError>
+    ensures { OnOk result (text.new.items
+        ≡ text.old.items ++ spec.breach_sentence rule line.now column) }
+{
+    let mut first = Vec::new(alloc);
+    push_breach(&mut first, rule, line, column)?;
+    let mut size = Vec::new(alloc);
+    push_number(&mut size, front_run(from_column(line, column)).len())?;
+    push_filled(text, rule_sentence(rule.code()), &first, &size)
+}
+
+// ---- hints
+
+/// A last byte that makes the piece behind the last line feed a line.
+fn ends_last_line(byte: u8, behind: &[u8]) -> bool
+    ensures { result ≡ spec.ends_last_line byte behind.now }
+{
+    behind.is_empty() && byte != CARRIAGE_RETURN
+}
+
+/// How many lines a text has.
+#[tactic(auto, unfolding(crate::specs::Unread::line_count))]
+fn line_count(text: &[u8]) -> usize
+    ensures { result ≡ spec.line_count text.now }
+{
+    let mut count = 0;
+    let mut rest = text;
+    while let [byte, behind @ ..] = rest {
+        if *byte == LINE_FEED || ends_last_line(*byte, behind) {
+            count += 1;
+        }
+        rest = behind;
+    }
+    count
+}
+
+/// What is often meant by a byte.
+fn byte_hint(byte: u8) -> &'static [u8]
+    ensures { result.now ≡ spec.byte_hint byte }
+{
+    if is_allowed(byte) {
+        return text_beside_number(byte, &BYTE_HINTS);
+    }
+    OUTSIDE_HINT
+}
+
+/// Whether a stop stands in a run.
+fn has_stop(run: &[u8]) -> bool
+    ensures { result ≡ spec.has_stop run.now }
+{
+    run.iter().any(|byte| *byte == STOP)
+}
+
+/// Why a run is no number.
+fn number_hint(run: &[u8]) -> &'static [u8]
+    ensures { result.now ≡ spec.number_hint run.now }
+{
+    if has_stop(without_stops(run)) {
+        return STOP_HINT;
+    }
+    GREAT_HINT
+}
+
+/// Whether only blanks and comments stand here.
+#[tactic(auto, unfolding(ss_words::specs::TextBytes::is_blank))]
+fn is_bare(alloc: Global, behind: &[u8]) -> Result<bool, AllocError>
+    ensures { IfOk result (λ bare. bare ≡ spec.is_bare behind.now) }
+{
+    let plain = with_blank_comments(alloc, behind)?;
+    Ok(plain.iter().all(|byte| *byte == BLANK || *byte == TAB))
+}
+
+/// Appends what stands behind THUS or FOLLOWS.
+fn push_picture_hint(
+    alloc: Global,
+    text: &mut Vec<u8>,
+    behind: &[u8],
+    below: &[u8],
+) -> Result<(), AllocError>
+    ensures { OnOk result (text.new.items
+        ≡ text.old.items ++ spec.picture_hint behind.now below.now) }
+{
+    if !is_bare(alloc, behind)? {
+        return text.extend_from_slice(BEHIND_HINT);
+    }
+    let mut count = Vec::new(alloc);
+    push_number(&mut count, line_count(below))?;
+    push_filled(text, BELOW_HINT, &count, &count)
+}
+
+/// The line behind the run at its front.
+fn behind_run(line: &[u8]) -> &[u8]
+    ensures { result.now ≡ spec.behind_run line.now }
+{
+    &line[run_len(line)..]
+}
+
+/// Appends what the breach of a rule at a column hints at.
+fn push_breach_hint(
+    alloc: Global,
+    text: &mut Vec<u8>,
+    rule: TextRule,
+    line: &[u8],
+    column: usize,
+    below: &[u8],
+) -> Result<(), AllocError>
+    ensures { OnOk result (text.new.items
+        ≡ text.old.items ++ spec.breach_hint rule line.now column below.now) }
+{
+    match rule {
+        TextRule::StrayByte => text.extend_from_slice(byte_hint(byte_at(line, column))),
+        TextRule::BadNumber => {
+            text.extend_from_slice(number_hint(front_run(from_column(line, column))))
+        }
+        TextRule::NoPicture => {
+            push_picture_hint(alloc, text, behind_run(from_column(line, column)), below)
+        }
+        _ => Ok(()),
+    }
+}
+
+// ---- all that is said
+
+/// The text before its rest.
+fn before_rest<'a>(model: &'a [u8], rest: &[u8]) -> &'a [u8]
+    ensures { result.now ≡ spec.before_rest model.now rest.now }
+{
+    &model[..model.len().saturating_sub(rest.len())]
+}
+
+/// What is said of a model that a rule L refuses on a line.
+#[tactic(auto, unfolding(crate::specs::Unread::unread_text))]
+pub fn unread_said(
+    alloc: Global,
+    model: &[u8],
+    rule: TextRule,
+    line: usize,
+) -> Result<Vec<u8>, AllocError>
+    ensures { IfOk result (λ said. said.items ≡ spec.unread_text model.now rule line) }
+{
+    let rest = behind_feeds(line.saturating_sub(1), model);
+    let bytes = front_line(rest);
+    let of_picture = is_of_picture(alloc, before_rest(model, rest))?;
+    let column = breach_column(alloc, rule, of_picture, bytes)?;
+    let place = Place {
+        line,
+        column: Some(column),
+    };
+    let mut text = Vec::new(alloc);
+    push_place(&mut text, place)?;
+    push_breach_sentence(alloc, &mut text, rule, bytes, column)?;
+    text.extend_from_slice(b"\n")?;
+    push_source(alloc, &mut text, model, place)?;
+    push_breach_hint(alloc, &mut text, rule, bytes, column, behind_feed(rest))?;
+    Ok(text)
+}
