@@ -1,1 +1,2 @@
 pub mod CountMaps
+pub mod DeclarationPlaces

@@ -30,6 +30,8 @@ pub record Facts : Type 0 where
   pub sections : List Declaration
   -- the names behind PRIORITY ORDER IS
   pub ordered : List Declaration
+  -- of each attribute its class
+  pub attributes : List (List ℕ)
 
 -- a name where it stands
 pub record Standpoint : Type 0 where

@@ -11,7 +11,9 @@ use Rattle.ss_names.specs.declared.here.Here.{Here}
 use Rattle.ss_names.specs.declared.meaning.Meaning.{Meaning}
 use Rattle.ss_names.specs.declared.meaning.Meaning.TheVariants as m
 use Rattle.ss_names.specs.Here.{at_name, behind}
+use Rattle.ss_names.specs.declared.values.List.TheVariants as l
 use Rattle.ss_names.specs.Meanings.{Declaration, with_declaration}
+use Rattle.ss_names.specs.Values.{given_count, in_list}
 
 -- what a name directly behind this last word is: a set that is owned
 abbrev pub owned_behind : Option AReserved → Option Meaning → Option Meaning
@@ -92,22 +94,40 @@ class_at h class w = if is_every h.last || is_define h.last
 abbrev pub class_of : Here → List ℕ → List ℕ
 class_of h class = if is_every h.begun || is_rank h.last then class else []
 
--- a name on a line, with its place, is declared as this here
-abbrev pub declaration : Here → List ℕ → List ℕ → PlainAt → Meaning → Declaration
-declaration h class n w meaning =
-    record { name = n; meaning = meaning; of = class_of h class; line = w.line; index = w.index }
+-- how many values a routine is given by its head, before these words; another name 0
+abbrev pub head_given : Meaning → List PlainAt → ℕ
+head_given m.Routine ws = given_count ws
+head_given _ ws = 0
+
+-- how many values it yields by its head
+abbrev pub head_yielded : Meaning → List PlainAt → ℕ
+head_yielded m.Routine ws = in_list l.Yielded ws
+head_yielded _ ws = 0
+
+-- a name on a line, with its place, is declared as this here, before these words
+abbrev pub declaration : Here → List ℕ → List ℕ → PlainAt → List PlainAt → Meaning → Declaration
+declaration h class n w ws meaning = record {
+  name = n;
+  meaning = meaning;
+  of = class_of h class;
+  line = w.line;
+  index = w.index;
+  given = head_given meaning ws;
+  yielded = head_yielded meaning ws;
+}
 
 -- a name put to what is collected, if it is wanted
-abbrev pub with_name : List Declaration → Wanted → Here → List ℕ → List ℕ → PlainAt → List Declaration
-with_name ds wanted h class n w = elim (collected_as wanted h) [
-  | Some meaning ↦ with_declaration ds (declaration h class n w meaning)
+abbrev pub with_name :
+    List Declaration → Wanted → Here → List ℕ → List ℕ → PlainAt → List PlainAt → List Declaration
+with_name ds wanted h class n w ws = elim (collected_as wanted h) [
+  | Some meaning ↦ with_declaration ds (declaration h class n w ws meaning)
   | None ↦ ds
 ]
 
--- a word put to it
-abbrev pub with_word : List Declaration → Wanted → Here → List ℕ → PlainAt → List Declaration
-with_word ds wanted h class w = elim w.word [
-  | name n ↦ with_name ds wanted h class n w
+-- a word put to it, before these
+abbrev pub with_word : List Declaration → Wanted → Here → List ℕ → PlainAt → List PlainAt → List Declaration
+with_word ds wanted h class w ws = elim w.word [
+  | name n ↦ with_name ds wanted h class n w ws
   | number n ↦ ds
   | mark k ↦ ds
   | picture ls ↦ ds
@@ -118,4 +138,4 @@ unfoldable pub collected : Wanted → List Declaration → Here → List ℕ →
 collected wanted ds h class [] = ds
 collected wanted ds h class (w ∷ ws) =
     let k = here_at h w in
-    collected wanted (with_word ds wanted k class w) (behind k w.word w.line ws) (class_at k class w) ws
+    collected wanted (with_word ds wanted k class w ws) (behind k w.word w.line ws) (class_at k class w) ws

@@ -4,11 +4,12 @@ pub mod Saying
 pub mod Roles
 pub mod Meanings
 pub mod Here
+pub mod Positions
+pub mod Values
 pub mod Collected
 pub mod Keys
 pub mod Unread
 pub mod Unused
-pub mod Positions
 pub mod Ranked
 pub mod Warnings
 pub mod Known

@@ -1,7 +1,6 @@
 -- What names are declared as.
-use Rattle.std.specs.Prelude.{ℕ, Bool, true, false, ◌||◌, nat_le, List, [], ◌∷◌, ◌++◌, length, bytes_eq, Option, Some}
-use Rattle.std.specs.Prelude.{None, is_some, if◌then◌else◌}
-use Rattle.ss_names.specs.declared.declarations.TheConstants.{MOST_DECLARED}
+use Rattle.std.specs.Prelude.{ℕ, Bool, true, false, List, [], ◌∷◌, ◌++◌, map, bytes_eq, Option, Some, None, is_some}
+use Rattle.std.specs.Prelude.{if◌then◌else◌}
 use Rattle.ss_names.specs.declared.meaning.Meaning.{Meaning}
 use Rattle.ss_names.specs.declared.meaning.Meaning.TheVariants as m
 use Rattle.ss_names.specs.declared.meaning.Row.{Row}
@@ -18,11 +17,26 @@ pub record Declaration : Type 0 where
   pub line : ℕ
   -- the place of its word among the words of the text
   pub index : ℕ
+  -- of a routine how many values its head is given, of another name 0
+  pub given : ℕ
+  -- the same of those that it yields
+  pub yielded : ℕ
 
 -- a declaration of the code
 abbrev pub declaration_at : Row → Declaration
-declaration_at r =
-    record { name = r.name.now; meaning = r.meaning; of = r.of.now; line = r.line; index = r.index }
+declaration_at r = record {
+  name = r.name.now;
+  meaning = r.meaning;
+  of = r.of.now;
+  line = r.line;
+  index = r.index;
+  given = r.given;
+  yielded = r.yielded;
+}
+
+-- the names of declarations
+abbrev pub names_of : List Declaration → List (List ℕ)
+names_of ds = map (λ d. d.name) ds
 
 -- two declarations of a name may stand side by side: of one set, or of classes under one kind of heading
 abbrev pub may_repeat : Meaning → Meaning → Bool
@@ -38,7 +52,16 @@ abbrev pub declared_as : List Declaration → List ℕ → Option Declaration
 declared_as [] n = None
 declared_as (d ∷ ds) n = if bytes_eq n d.name then Some d else declared_as ds n
 
--- declarations with a further one, unless its name has one, or there are as many as a program has
+-- declarations with a further one, unless its name has one
 abbrev pub with_declaration : List Declaration → Declaration → List Declaration
-with_declaration ds d =
-    if nat_le MOST_DECLARED (length ds) || is_some (declared_as ds d.name) then ds else ds ++ d ∷ []
+with_declaration ds d = if is_some (declared_as ds d.name) then ds else ds ++ d ∷ []
+
+-- an attribute
+abbrev pub is_attribute : Meaning → Bool
+is_attribute m.Attribute = true
+is_attribute _ = false
+
+-- of each attribute its class
+unfoldable pub attribute_classes : List Declaration → List (List ℕ)
+attribute_classes [] = []
+attribute_classes (d ∷ ds) = if is_attribute d.meaning then d.of ∷ attribute_classes ds else attribute_classes ds

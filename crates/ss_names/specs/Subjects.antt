@@ -20,7 +20,7 @@ use Rattle.ss_names.specs.Counts.{has_wrong_count}
 use Rattle.ss_names.specs.Collected.{collected, here_at}
 use Rattle.ss_names.specs.Here.{at_start, behind}
 use Rattle.ss_names.specs.Known.{Known, known, given, known_text}
-use Rattle.ss_names.specs.Meanings.{Declaration, declared_as}
+use Rattle.ss_names.specs.Meanings.{Declaration, attribute_classes, declared_as}
 use Rattle.ss_names.specs.Positions.{opens, position}
 
 -- a name, and what is wrong with it
@@ -36,12 +36,13 @@ subject_at a = record { name = a.name.now; wrong = a.wrong }
 
 -- what a text declares, and what it says of sets and events
 abbrev pub facts_of : List PlainAt → Facts
-facts_of ws = record {
-  names = collected Declared [] at_start [] ws;
+facts_of ws = let names = collected Declared [] at_start [] ws in record {
+  names = names;
   owned = collected Owned [] at_start [] ws;
   joined = collected Joined [] at_start [] ws;
   sections = collected Sections [] at_start [] ws;
   ordered = collected Ordered [] at_start [] ws;
+  attributes = attribute_classes names;
 }
 
 -- a name where it stands, before these words
@@ -94,36 +95,33 @@ abbrev pub named : List ℕ → Option Wrong → Option Subject
 named n (Some x) = Some (record { name = n; wrong = x })
 named n None = None
 
--- what a name breaks of a rule, before these words of a text
-abbrev pub broken : Facts → NameRule → Standpoint → List PlainAt → List PlainAt → Option Wrong
-broken f rule.WrongCount a ws all = where_so (has_wrong_count f a ws all) w.WrongCount
-broken f x a ws all = wrong f x a
+-- what a name breaks of a rule, before these words
+abbrev pub broken : Facts → NameRule → Standpoint → List PlainAt → Option Wrong
+broken f rule.WrongCount a ws = where_so (has_wrong_count f a ws) w.WrongCount
+broken f x a ws = wrong f x a
 
 -- what a name breaks, if it is one of what begins on a line
-abbrev pub name_subject :
-    Facts → NameRule → ℕ → Here → List ℕ → List ℕ → ℕ → List PlainAt → List PlainAt → Option Subject
-name_subject f x line h ranked n index ws all = if not (h.line == line)
-    then None
-    else named n (broken f x (standpoint h ranked n index ws) ws all)
+abbrev pub name_subject : Facts → NameRule → ℕ → Here → List ℕ → List ℕ → ℕ → List PlainAt → Option Subject
+name_subject f x line h ranked n index ws =
+    if not (h.line == line) then None else named n (broken f x (standpoint h ranked n index ws) ws)
 
 -- what a word breaks
-abbrev pub word_subject :
-    Facts → NameRule → ℕ → Here → List ℕ → PlainAt → List PlainAt → List PlainAt → Option Subject
-word_subject f x line h ranked w ws all = elim w.word [
-  | name n ↦ name_subject f x line h ranked n w.index ws all
+abbrev pub word_subject : Facts → NameRule → ℕ → Here → List ℕ → PlainAt → List PlainAt → Option Subject
+word_subject f x line h ranked w ws = elim w.word [
+  | name n ↦ name_subject f x line h ranked n w.index ws
   | number n ↦ None
   | mark m ↦ None
   | picture ls ↦ None
 ]
 
 -- the first name of what begins on a line of a text that breaks a rule
-unfoldable pub subject : Facts → NameRule → ℕ → List PlainAt → Here → List ℕ → List PlainAt → Option Subject
-subject f x line all h ranked [] = None
-subject f x line all h ranked (w ∷ ws) =
+unfoldable pub subject : Facts → NameRule → ℕ → Here → List ℕ → List PlainAt → Option Subject
+subject f x line h ranked [] = None
+subject f x line h ranked (w ∷ ws) =
     let at = here_at h w in
-    elim (word_subject f x line at ranked w ws all) [
+    elim (word_subject f x line at ranked w ws) [
       | Some found ↦ Some found
-      | None ↦ subject f x line all (behind at w.word w.line ws) (ranked_at f at ranked w) ws
+      | None ↦ subject f x line (behind at w.word w.line ws) (ranked_at f at ranked w) ws
     ]
 
 -- ---- as it is told
@@ -182,7 +180,7 @@ subject_text f None = []
 
 -- what a breach of a rule on a line is about, among these words
 abbrev pub breach_of_words : List PlainAt → NameRule → ℕ → List ℕ
-breach_of_words ws x line = let f = facts_of ws in subject_text f (subject f x line ws at_start [] ws)
+breach_of_words ws x line = let f = facts_of ws in subject_text f (subject f x line at_start [] ws)
 
 -- the same in a model, where a rule is about names
 abbrev pub breach_by : List ℕ → ℕ → Option NameRule → List ℕ

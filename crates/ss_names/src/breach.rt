@@ -4,10 +4,11 @@ ghost use Rattle.ss_names.specs.Breaches as spec;
 ghost use Rattle.ss_names.specs.Known.{known_at};
 ghost use Rattle.ss_names.specs.Meanings.{declaration_at, declared_as};
 
-use crate::declarations::declared;
+use crate::declarations::Declarations;
 use crate::events::{wrong_event, wrong_priority};
 use crate::known::{Known, What, given, known_as};
 use crate::meaning::{Meaning, Row, may_repeat};
+use crate::name_counts::NameCounts;
 use crate::position::Position;
 use ss_words::Reserved;
 use std::marker::Model;
@@ -16,30 +17,31 @@ use std::marker::Model;
 #[derive(Drop)]
 pub struct Facts<'a> {
     /// What names are declared as.
-    pub names: Vec<Row<'a>>,
+    pub names: Declarations<'a>,
     /// The sets behind OWNS, with the class that owns each; of the system it is empty.
-    pub owned: Vec<Row<'a>>,
+    pub owned: Declarations<'a>,
     /// The sets behind BELONGS TO, with the class of their members.
-    pub joined: Vec<Row<'a>>,
+    pub joined: Declarations<'a>,
     /// The events that have a section.
-    pub sections: Vec<Row<'a>>,
+    pub sections: Declarations<'a>,
     /// The names behind PRIORITY ORDER IS.
-    pub ordered: Vec<Row<'a>>,
+    pub ordered: Declarations<'a>,
+    /// Of each attribute its class.
+    pub attributes: NameCounts,
 }
 
 impl<'a> Model for Facts<'a> {
-    ghost use Rattle.std.specs.Prelude.{map};
     ghost use Rattle.ss_names.specs.Breaches.{Facts as TextFacts};
-    ghost use Rattle.ss_names.specs.Meanings.{declaration_at};
 
     ghost Value = { TextFacts };
 
     ghost view = { λ a. record {
-      names = map declaration_at a.names.items;
-      owned = map declaration_at a.owned.items;
-      joined = map declaration_at a.joined.items;
-      sections = map declaration_at a.sections.items;
-      ordered = map declaration_at a.ordered.items;
+      names = a.names;
+      owned = a.owned;
+      joined = a.joined;
+      sections = a.sections;
+      ordered = a.ordered;
+      attributes = a.attributes;
     } };
 }
 
@@ -179,11 +181,11 @@ fn is_declared_twice(facts: &Facts<'_>, at: Standpoint<'_>) -> bool
 }
 
 /// Whether the first of some places of a name stands before this one.
-pub fn stands_before(places: &[Row<'_>], at: Standpoint<'_>) -> bool
+pub fn stands_before(places: &Declarations<'_>, at: Standpoint<'_>) -> bool
     ensures { result ≡ spec.stands_before (spec.standing_at at.entry)
-        (declared_as (map declaration_at places.now) at.entry.name.now) }
+        (declared_as places.now at.entry.name.now) }
 {
-    match declared(places, at.name) {
+    match places.get(at.name) {
         Some(row) => row.index < at.index,
         None => false,
     }
@@ -200,7 +202,7 @@ fn is_undeclared(known: Known<'_>) -> bool
 fn conflicts(facts: &Facts<'_>, at: Standpoint<'_>) -> bool
     ensures { result ≡ spec.conflicts facts.now (spec.standing_at at.entry) }
 {
-    match declared(&facts.names, at.name) {
+    match facts.names.get(at.name) {
         Some(row) => {
             if row.index != at.index {
                 return !repeats(row.meaning, at.declared);
@@ -297,7 +299,7 @@ fn takes_subscript(facts: &Facts<'_>, known: Known<'_>) -> bool
 fn is_of_system(facts: &Facts<'_>, set: &[u8]) -> bool
     ensures { result ≡ spec.is_of_system facts.now set.now }
 {
-    match declared(&facts.owned, set) {
+    match facts.owned.get(set) {
         Some(row) => row.of.is_empty(),
         None => false,
     }
@@ -312,7 +314,7 @@ fn wrong_owner(facts: &Facts<'_>, at: Standpoint<'_>) -> Option<Wrong>
     if !is_set_here(at.declared) {
         return None;
     }
-    match declared(&facts.owned, at.name) {
+    match facts.owned.get(at.name) {
         Some(row) => where_so(is_owns(at.last) && row.index < at.index, Wrong::OwnedTwice),
         None => Some(Wrong::Ownerless),
     }
@@ -325,7 +327,7 @@ fn wrong_member(facts: &Facts<'_>, at: Standpoint<'_>) -> Option<Wrong>
     if !is_set_here(at.declared) {
         return None;
     }
-    match declared(&facts.joined, at.name) {
+    match facts.joined.get(at.name) {
         Some(row) => wrong_joining(row, at),
         None => Some(Wrong::Memberless),
     }

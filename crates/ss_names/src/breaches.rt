@@ -10,7 +10,7 @@ ghost use Rattle.ss_names.specs.Meanings.{declaration_at};
 use crate::breach::{Facts, NameRule, Standpoint, Wrong, breaks, rule_of, where_so};
 use crate::collected::{Wanted, collect, here_at};
 use crate::counts::has_wrong_count;
-use crate::declarations::declared;
+use crate::declarations::attribute_classes;
 use crate::here::Here;
 use crate::known::{Known, What, given, known_as, push_known};
 use crate::meaning::Row;
@@ -29,12 +29,15 @@ struct Subject<'a> {
 fn facts_of<'a>(alloc: Global, words: &[PlainWord<'a>]) -> Result<Facts<'a>, AllocError>
     ensures { IfOk result (λ facts. facts ≡ spec.facts_of (map plain_at words.now)) }
 {
+    let names = collect(alloc, Wanted::Declared, words)?;
+    let attributes = attribute_classes(alloc, &names)?;
     Ok(Facts {
-        names: collect(alloc, Wanted::Declared, words)?,
+        names,
         owned: collect(alloc, Wanted::Owned, words)?,
         joined: collect(alloc, Wanted::Joined, words)?,
         sections: collect(alloc, Wanted::Sections, words)?,
         ordered: collect(alloc, Wanted::Ordered, words)?,
+        attributes,
     })
 }
 
@@ -76,28 +79,24 @@ fn ranked_behind<'a>(facts: &Facts<'a>, here: Here, ranked: &'a [u8], name: &'a 
 fn members_of<'a>(facts: &Facts<'a>, set: &[u8]) -> &'a [u8]
     ensures { result.now ≡ spec.members_of facts.now set.now }
 {
-    match declared(&facts.joined, set) {
+    match facts.joined.get(set) {
         Some(row) => row.of,
         None => b"",
     }
 }
 
-/// What a name breaks of a rule, before these words of a text.
+/// What a name breaks of a rule, before these words.
 fn broken(
     facts: &Facts<'_>,
     rule: NameRule,
     at: Standpoint<'_>,
     behind: &[PlainWord<'_>],
-    words: &[PlainWord<'_>],
 ) -> Option<Wrong>
     ensures { result ≡ spec.broken facts.now rule (standing_at at.entry)
-        (map plain_at behind.now) (map plain_at words.now) }
+        (map plain_at behind.now) }
 {
     match rule {
-        NameRule::WrongCount => where_so(
-            has_wrong_count(facts, at, behind, words),
-            Wrong::WrongCount,
-        ),
+        NameRule::WrongCount => where_so(has_wrong_count(facts, at, behind), Wrong::WrongCount),
         _ => breaks(facts, rule, at),
     }
 }
@@ -111,11 +110,10 @@ fn word_subject<'a>(
     ranked: &'a [u8],
     word: &PlainWord<'a>,
     behind: &[PlainWord<'a>],
-    words: &[PlainWord<'a>],
 ) -> Option<Subject<'a>>
     ensures { option_map spec.subject_at result
         ≡ spec.word_subject facts.now rule line here ranked.now (plain_at word.now)
-        (map plain_at behind.now) (map plain_at words.now) }
+        (map plain_at behind.now) }
 {
     let Plain::Name(name) = word.kind() else {
         return None;
@@ -124,7 +122,7 @@ fn word_subject<'a>(
         return None;
     }
     let at = standpoint(here, ranked, name.bytes(), word.index, behind);
-    match broken(facts, rule, at, behind, words) {
+    match broken(facts, rule, at, behind) {
         Some(wrong) => Some(Subject {
             name: name.bytes(),
             wrong,
@@ -152,15 +150,14 @@ fn first_subject<'a>(
     words: &[PlainWord<'a>],
 ) -> Option<Subject<'a>>
     ensures { option_map spec.subject_at result
-        ≡ spec.subject facts.now rule line (map plain_at words.now) at_start []
-        (map plain_at words.now) }
+        ≡ spec.subject facts.now rule line at_start [] (map plain_at words.now) }
 {
     let mut here = Here::at_start();
     let mut ranked: &'a [u8] = b"";
     let mut rest = words;
     while let [word, behind @ ..] = rest {
         let at = here_at(here, word);
-        if let Some(found) = word_subject(facts, rule, line, at, ranked, word, behind, words) {
+        if let Some(found) = word_subject(facts, rule, line, at, ranked, word, behind) {
             return Some(found);
         }
         ranked = ranked_at(facts, at, ranked, word);
@@ -200,15 +197,15 @@ fn told_as<'a>(facts: &Facts<'a>, subject: Subject<'a>) -> Known<'a>
         Wrong::DeclaredTwice => first_known(facts, subject.name),
         Wrong::OwnedTwice => told_place(
             known_as(&facts.names, subject.name),
-            declared(&facts.owned, subject.name),
+            facts.owned.get(subject.name),
         ),
         Wrong::JoinedTwice => told_place(
             known_as(&facts.names, subject.name),
-            declared(&facts.joined, subject.name),
+            facts.joined.get(subject.name),
         ),
         Wrong::OrderedTwice => told_place(
             known_as(&facts.names, subject.name),
-            declared(&facts.ordered, subject.name),
+            facts.ordered.get(subject.name),
         ),
         _ => known_as(&facts.names, subject.name),
     }

@@ -3,11 +3,11 @@ ghost use Rattle.std.specs.Prelude.{◌≡◌, [], IfOk, OnOk, map};
 ghost use Rattle.ss_words.specs.Plain.{plain_at};
 ghost use Rattle.ss_names.specs.Collected as spec;
 ghost use Rattle.ss_names.specs.Here.{at_start};
-ghost use Rattle.ss_names.specs.Meanings.{declaration_at};
 
-use crate::declarations::add;
+use crate::declarations::Declarations;
 use crate::here::Here;
 use crate::meaning::{Meaning, Row};
+use crate::values::{List, given_count, in_list};
 use ss_words::{Mark, Plain, PlainWord, Reserved};
 use std::alloc::{AllocError, Global};
 
@@ -139,32 +139,52 @@ fn class_of<'a>(here: Here, class: &'a [u8]) -> &'a [u8]
     b""
 }
 
-/// Puts a word to what is collected, if it is wanted.
+/// How many values a routine is given by its head, before these words; another name 0.
+fn head_given(meaning: Meaning, behind: &[PlainWord<'_>]) -> usize
+    ensures { result ≡ spec.head_given meaning (map plain_at behind.now) }
+{
+    match meaning {
+        Meaning::Routine => given_count(behind),
+        _ => 0,
+    }
+}
+
+/// How many values it yields by its head.
+fn head_yielded(meaning: Meaning, behind: &[PlainWord<'_>]) -> usize
+    ensures { result ≡ spec.head_yielded meaning (map plain_at behind.now) }
+{
+    match meaning {
+        Meaning::Routine => in_list(List::Yielded, behind),
+        _ => 0,
+    }
+}
+
+/// Puts a word to what is collected, if it is wanted, before these words.
 fn collect_word<'a>(
-    found: &mut Vec<Row<'a>>,
+    found: &mut Declarations<'a>,
     wanted: Wanted,
     here: Here,
     class: &'a [u8],
     word: &PlainWord<'a>,
+    behind: &[PlainWord<'a>],
 ) -> Result<(), AllocError>
-    ensures { OnOk result (map declaration_at found.new.items
-        ≡ spec.with_word (map declaration_at found.old.items) wanted here class.now
-        (plain_at word.now)) }
+    ensures { OnOk result (found.new
+        ≡ spec.with_word found.old wanted here class.now (plain_at word.now)
+        (map plain_at behind.now)) }
 {
     let Plain::Name(name) = word.kind() else {
         return Ok(());
     };
     match collected_as(wanted, here) {
-        Some(meaning) => add(
-            found,
-            Row {
-                name: name.bytes(),
-                meaning,
-                of: class_of(here, class),
-                line: word.line(),
-                index: word.index,
-            },
-        ),
+        Some(meaning) => found.add(Row {
+            name: name.bytes(),
+            meaning,
+            of: class_of(here, class),
+            line: word.line(),
+            index: word.index,
+            given: head_given(meaning, behind),
+            yielded: head_yielded(meaning, behind),
+        }),
         None => Ok(()),
     }
 }
@@ -175,17 +195,17 @@ pub fn collect<'a>(
     alloc: Global,
     wanted: Wanted,
     words: &[PlainWord<'a>],
-) -> Result<Vec<Row<'a>>, AllocError>
-    ensures { IfOk result (λ found. map declaration_at found.items
-        ≡ spec.collected wanted [] at_start [] (map plain_at words.now)) }
+) -> Result<Declarations<'a>, AllocError>
+    ensures { IfOk result
+        (λ found. found ≡ spec.collected wanted [] at_start [] (map plain_at words.now)) }
 {
-    let mut found = Vec::new(alloc);
+    let mut found = Declarations::new(alloc);
     let mut here = Here::at_start();
     let mut class: &'a [u8] = b"";
     let mut rest = words;
     while let [word, behind @ ..] = rest {
         let at = here_at(here, word);
-        collect_word(&mut found, wanted, at, class, word)?;
+        collect_word(&mut found, wanted, at, class, word, behind)?;
         class = class_at(at, class, word);
         here = at.behind(word.kind(), word.line(), behind);
         rest = behind;

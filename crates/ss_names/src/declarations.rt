@@ -1,52 +1,131 @@
-//! Declarations of names, each found by going through them: a program has a bounded number.
-ghost use Rattle.std.specs.Prelude.{◌≡◌, is_some, map, option_map, OnOk};
+//! Declarations of names, each found by its name.
+ghost use Rattle.std.specs.Prelude.{◌≡◌, ◌<◌, [], is_some, length, option_map, slice_get, IfSome, OnOk, Some};
 ghost use Rattle.ss_names.specs.Meanings as spec;
 ghost use Rattle.ss_names.specs.Meanings.{declaration_at};
 
-use crate::meaning::Row;
-use ss_words::limits::{MOST_ATTRIBUTES, MOST_CLASSES, MOST_SECTIONS, MOST_SETS, MOST_VARIABLES};
-use std::alloc::AllocError;
+use crate::meaning::{Meaning, Row};
+use crate::name_counts::NameCounts;
+use ss_program::NameTable;
+use std::alloc::{AllocError, Global};
+use std::marker::Model;
 
-/// So many names a program declares at most. The definitions read this number too.
-pub const MOST_DECLARED: usize = MOST_CLASSES
-    + MOST_CLASSES * MOST_ATTRIBUTES
-    + MOST_VARIABLES
-    + MOST_SETS
-    + MOST_SECTIONS;
+/// The first declaration of each name, in their order. A name's is found in time that grows with the
+/// logarithm of their number.
+#[derive(Drop)]
+pub struct Declarations<'a> {
+    rows: Vec<Row<'a>>,
+    names: NameTable,
+}
 
-/// The declaration of a name, if it has one.
-pub fn declared<'a>(rows: &[Row<'a>], name: &[u8]) -> Option<Row<'a>>
-    ensures { option_map declaration_at result
-        ≡ spec.declared_as (map declaration_at rows.now) name.now }
+impl<'a> Model for Declarations<'a> {
+    ghost use Rattle.std.specs.Prelude.{List, ◌≡◌, map};
+    ghost use Rattle.ss_names.specs.Meanings.{Declaration, declaration_at, names_of};
+
+    ghost Value = { List Declaration };
+
+    ghost view = { λ a. map declaration_at a.rows.items };
+
+    ghost invariant = { λ a. a.names ≡ names_of (map declaration_at a.rows.items) };
+}
+
+impl<'a> Declarations<'a> {
+    /// No declarations.
+    pub fn new(alloc: Global) -> Self
+        ensures { result ≡ [] }
+    {
+        Declarations {
+            rows: Vec::new(alloc),
+            names: NameTable::new(alloc),
+        }
+    }
+
+    /// The place of the declaration of a name, if it has one.
+    fn place(&self, name: &[u8]) -> Option<usize>
+        ensures value { result ≡ position (bytes_eq name.now) (spec.names_of self.now) }
+        ensures within { IfSome result (λ i. i < length self.now) }
+    {
+        self.names.number(name)
+    }
+
+    /// The declaration at this place.
+    fn row(&self, place: usize) -> Row<'a>
+        requires { place < length self.now }
+        ensures { slice_get self.now place ≡ Some (declaration_at result) }
+    {
+        self.rows[place]
+    }
+
+    /// The declaration of a name, if it has one.
+    #[tactic(auto, using(crate::proofs::DeclarationPlaces::place_found, crate::proofs::DeclarationPlaces::place_missed))]
+    pub fn get(&self, name: &[u8]) -> Option<Row<'a>>
+        ensures { option_map declaration_at result ≡ spec.declared_as self.now name.now }
+    {
+        match self.place(name) {
+            Some(place) => Some(self.row(place)),
+            None => None,
+        }
+    }
+
+    /// Whether a name has a declaration.
+    pub fn has(&self, name: &[u8]) -> bool
+        ensures { result ≡ is_some (spec.declared_as self.now name.now) }
+    {
+        self.get(name).is_some()
+    }
+
+    /// The declarations, in order.
+    fn rows(&self) -> &[Row<'a>]
+        ensures { map declaration_at result.now ≡ self.now }
+    {
+        &self.rows
+    }
+
+    /// Puts a declaration at the end, unless its name has one.
+    pub fn add(&mut self, row: Row<'a>) -> Result<(), AllocError>
+        ensures { OnOk result
+            (self.new ≡ spec.with_declaration self.old (declaration_at row.entry)) }
+    {
+        if self.has(row.name) {
+            return Ok(());
+        }
+        self.rows.reserve(1)?;
+        self.names.add(row.name)?;
+        self.rows.push_reserved(row);
+        Ok(())
+    }
+}
+
+/// Of each attribute among declarations its class.
+pub fn attribute_classes(
+    alloc: Global,
+    declarations: &Declarations<'_>,
+) -> Result<NameCounts, AllocError>
+    ensures { IfOk result (λ names. names ≡ spec.attribute_classes declarations.now) }
 {
+    classes_of(alloc, declarations.rows())
+}
+
+/// Of each attribute among rows its class.
+#[tactic(auto, unfolding(crate::specs::Meanings::attribute_classes))]
+fn classes_of(alloc: Global, rows: &[Row<'_>]) -> Result<NameCounts, AllocError>
+    ensures { IfOk result
+        (λ names. names ≡ spec.attribute_classes (map declaration_at rows.now)) }
+{
+    let mut names = NameCounts::new(alloc);
     let mut rest = rows;
     while let [row, behind @ ..] = rest {
-        if name == row.name {
-            return Some(*row);
+        if is_attribute(row.meaning) {
+            names.add(row.of)?;
         }
         rest = behind;
     }
-    None
+    Ok(names)
 }
 
-/// Whether a name has a declaration.
-pub fn is_declared(rows: &[Row<'_>], name: &[u8]) -> bool
-    ensures { result ≡ is_some (spec.declared_as (map declaration_at rows.now) name.now) }
+fn is_attribute(meaning: Meaning) -> bool
+    ensures { result ≡ spec.is_attribute meaning }
 {
-    match declared(rows, name) {
-        Some(_) => true,
-        None => false,
-    }
+    matches!(meaning, Meaning::Attribute)
 }
 
-/// Puts a declaration at the end, unless its name has one, or there are as many as a program has.
-pub fn add<'a>(rows: &mut Vec<Row<'a>>, row: Row<'a>) -> Result<(), AllocError>
-    ensures { OnOk result (map declaration_at rows.new.items
-        ≡ spec.with_declaration (map declaration_at rows.old.items) (declaration_at row.entry)) }
-{
-    if rows.len() >= MOST_DECLARED || is_declared(rows, row.name) {
-        return Ok(());
-    }
-    rows.push(row)?;
-    Ok(())
-}
+ghost use Rattle.std.specs.Prelude.{bytes_eq, map, position, IfOk};

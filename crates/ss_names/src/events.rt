@@ -3,7 +3,7 @@ ghost use Rattle.std.specs.Prelude.{◌≡◌};
 ghost use Rattle.ss_names.specs.Breaches as spec;
 
 use crate::breach::{Facts, Standpoint, Wrong, stands_before, where_so};
-use crate::declarations::is_declared;
+use crate::declarations::Declarations;
 use crate::known::{What, known_as};
 use crate::meaning::Meaning;
 use crate::position::Position;
@@ -15,7 +15,7 @@ pub fn wrong_event(facts: &Facts<'_>, at: Standpoint<'_>) -> Option<Wrong>
     match at.position {
         Position::Head => where_so(!is_event(facts, at.name), Wrong::NoEvent),
         Position::Declared | Position::EventClass | Position::Ordered => where_so(
-            is_event(facts, at.name) && !is_declared(&facts.sections, at.name),
+            is_event(facts, at.name) && !facts.sections.has(at.name),
             Wrong::NoSection,
         ),
         _ => None,

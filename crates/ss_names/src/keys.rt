@@ -2,11 +2,9 @@
 ghost use Rattle.std.specs.Prelude.{◌≡◌, IfOk, map};
 ghost use Rattle.ss_words.specs.Plain.{plain_at};
 ghost use Rattle.ss_names.specs.Keys as spec;
-ghost use Rattle.ss_names.specs.Meanings.{declaration_at};
 ghost use Rattle.ss_names.specs.Roles.{at_start};
 
-use crate::declarations::is_declared;
-use crate::meaning::Row;
+use crate::declarations::Declarations;
 use crate::name_counts::NameCounts;
 use crate::roles::{Role, Standing, same_role};
 use itoa::Buffer;
@@ -26,14 +24,14 @@ pub fn section_behind(section: u32, word: &PlainWord<'_>) -> u32
 /// What a name is counted as: itself where it is declared; else with its section before it.
 pub fn key(
     alloc: Global,
-    declarations: &[Row<'_>],
+    declarations: &Declarations<'_>,
     section: u32,
     name: &[u8],
 ) -> Result<Vec<u8>, AllocError>
     ensures { IfOk result (λ key. key.items
-        ≡ spec.key (map declaration_at declarations.now) section name.now) }
+        ≡ spec.key declarations.now section name.now) }
 {
-    if is_declared(declarations, name) {
+    if declarations.has(name) {
         return Vec::from_slice(alloc, name);
     }
     let mut buffer = Buffer::new();
@@ -57,12 +55,12 @@ fn is_counted(role: Option<Role>, standing: Standing) -> bool
 #[tactic(auto, unfolding(crate::specs::Keys::keys_with))]
 pub fn keys_with(
     alloc: Global,
-    declarations: &[Row<'_>],
+    declarations: &Declarations<'_>,
     role: Option<Role>,
     words: &[PlainWord<'_>],
 ) -> Result<NameCounts, AllocError>
     ensures { IfOk result (λ names. names
-        ≡ spec.keys_with (map declaration_at declarations.now) role 0 at_start
+        ≡ spec.keys_with declarations.now role 0 at_start
         (map plain_at words.now)) }
 {
     let mut names = NameCounts::new(alloc);

@@ -4,7 +4,7 @@ ghost use Rattle.ss_names.specs.Known as spec;
 ghost use Rattle.ss_names.specs.Known.{known_at};
 ghost use Rattle.ss_names.specs.Meanings.{declaration_at};
 
-use crate::declarations::declared;
+use crate::declarations::Declarations;
 use crate::meaning::{Meaning, Row};
 use itoa::Buffer;
 use ss_columns::is_among;
@@ -50,14 +50,14 @@ pub struct Known<'a> {
 }
 
 /// What a name is that begins as those do that are kept of a set or class.
-fn companion<'a>(declarations: &[Row<'a>], name: &[u8]) -> Known<'a>
-    ensures { known_at result ≡ spec.companion (map declaration_at declarations.now) name.now }
+fn companion<'a>(declarations: &Declarations<'a>, name: &[u8]) -> Known<'a>
+    ensures { known_at result ≡ spec.companion declarations.now name.now }
 {
     if name.len() < 3 {
         return undeclared();
     }
     let (front, base) = (&name[..2], &name[2..]);
-    match declared(declarations, base) {
+    match declarations.get(base) {
         Some(row) => companion_of(front, row),
         None => undeclared(),
     }
@@ -117,8 +117,8 @@ fn count_what(front: &[u8]) -> What
 }
 
 /// What the language, a set or a class gives a name, whatever else it is declared as.
-pub fn given<'a>(declarations: &[Row<'a>], name: &[u8]) -> Known<'a>
-    ensures { known_at result ≡ spec.given (map declaration_at declarations.now) name.now }
+pub fn given<'a>(declarations: &Declarations<'a>, name: &[u8]) -> Known<'a>
+    ensures { known_at result ≡ spec.given declarations.now name.now }
 {
     if is_among(name, &CLOCK) {
         return of_language(What::Clock);
@@ -130,10 +130,10 @@ pub fn given<'a>(declarations: &[Row<'a>], name: &[u8]) -> Known<'a>
 }
 
 /// What a name is: by its own declaration, if it has one, or else what is given.
-pub fn known_as<'a>(declarations: &[Row<'a>], name: &[u8]) -> Known<'a>
-    ensures { known_at result ≡ spec.known (map declaration_at declarations.now) name.now }
+pub fn known_as<'a>(declarations: &Declarations<'a>, name: &[u8]) -> Known<'a>
+    ensures { known_at result ≡ spec.known declarations.now name.now }
 {
-    match declared(declarations, name) {
+    match declarations.get(name) {
         Some(row) => Known {
             what: What::Declared(row.meaning),
             of: row.of,

@@ -22,6 +22,7 @@ mod ranked;
 mod roles;
 mod unread;
 mod unused;
+mod values;
 mod warnings;
 
 pub use breaches::push_breach;

@@ -28,6 +28,10 @@ pub struct Row<'a> {
     pub line: usize,
     /// The place of its word among the words of the text, from 0.
     pub index: u32,
+    /// Of a routine how many values its head is given; of another name 0.
+    pub given: usize,
+    /// The same of those that it yields.
+    pub yielded: usize,
 }
 
 /// Whether two declarations of a name may stand side by side: of one set, or of classes under one

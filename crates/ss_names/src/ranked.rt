@@ -2,13 +2,11 @@
 ghost use Rattle.std.specs.Prelude.{◌≡◌, ◌++◌, [], OnOk, map};
 ghost use Rattle.ss_words.specs.Plain.{plain_at};
 ghost use Rattle.ss_names.specs.Here.{at_start};
-ghost use Rattle.ss_names.specs.Meanings.{declaration_at};
 ghost use Rattle.ss_names.specs.Ranked as spec;
 
 use crate::collected::here_at;
-use crate::declarations::declared;
+use crate::declarations::Declarations;
 use crate::here::Here;
-use crate::meaning::Row;
 use crate::once::push_warning;
 use crate::position::{Position, opens, position_at};
 use ss_words::{Mark, Plain, PlainWord, Reserved};
@@ -120,24 +118,24 @@ fn subscript<'a>(behind: &[PlainWord<'a>]) -> &'a [u8]
 
 /// The name of the entity of an attribute: its subscript where that begins with a name, or its class
 /// where it has none.
-fn entity<'a>(names: &[Row<'a>], name: &[u8], behind: &[PlainWord<'a>]) -> &'a [u8]
+fn entity<'a>(names: &Declarations<'a>, name: &[u8], behind: &[PlainWord<'a>]) -> &'a [u8]
     ensures { result.now
-        ≡ spec.entity (map declaration_at names.now) name.now (map plain_at behind.now) }
+        ≡ spec.entity names.now name.now (map plain_at behind.now) }
 {
     if opens(behind) {
         return subscript(behind);
     }
-    match declared(names, name) {
+    match names.get(name) {
         Some(row) => row.of,
         None => b"",
     }
 }
 
 /// Whether a name ranks the set of a FILE.
-fn ranks(keys: &[Row<'_>], name: &[u8], set: &[u8]) -> bool
-    ensures { result ≡ spec.ranks (map declaration_at keys.now) name.now set.now }
+fn ranks(keys: &Declarations<'_>, name: &[u8], set: &[u8]) -> bool
+    ensures { result ≡ spec.ranks keys.now name.now set.now }
 {
-    match declared(keys, name) {
+    match keys.get(name) {
         Some(row) => row.of == set,
         None => false,
     }
@@ -151,15 +149,15 @@ fn is_target(position: Position) -> bool
 
 /// Whether a name is a key that is set of an entity behind its FILE.
 fn is_told(
-    names: &[Row<'_>],
-    keys: &[Row<'_>],
+    names: &Declarations<'_>,
+    keys: &Declarations<'_>,
     member: &[u8],
     set: &[u8],
     here: Here,
     name: &[u8],
     behind: &[PlainWord<'_>],
 ) -> bool
-    ensures { result ≡ spec.is_told (map declaration_at names.now) (map declaration_at keys.now)
+    ensures { result ≡ spec.is_told names.now keys.now
         member.now set.now here name.now (map plain_at behind.now) }
 {
     is_target(position_at(here, behind))
@@ -171,8 +169,8 @@ fn is_told(
 /// Appends what is said of a word, if it is such a key.
 fn push_ranked_word(
     text: &mut Vec<u8>,
-    names: &[Row<'_>],
-    keys: &[Row<'_>],
+    names: &Declarations<'_>,
+    keys: &Declarations<'_>,
     member: &[u8],
     set: &[u8],
     here: Here,
@@ -180,7 +178,7 @@ fn push_ranked_word(
     behind: &[PlainWord<'_>],
 ) -> Result<(), AllocError>
     ensures { OnOk result (text.new.items ≡ text.old.items
-        ++ spec.ranked_word (map declaration_at names.now) (map declaration_at keys.now)
+        ++ spec.ranked_word names.now keys.now
         member.now set.now here (plain_at word.now) (map plain_at behind.now)) }
 {
     let Plain::Name(name) = word.kind() else {
@@ -197,12 +195,12 @@ fn push_ranked_word(
 #[tactic(auto, unfolding(crate::specs::Ranked::ranked_text))]
 pub fn push_ranked<'a>(
     text: &mut Vec<u8>,
-    names: &[Row<'a>],
-    keys: &[Row<'a>],
+    names: &Declarations<'a>,
+    keys: &Declarations<'a>,
     words: &[PlainWord<'a>],
 ) -> Result<(), AllocError>
     ensures { OnOk result (text.new.items ≡ text.old.items
-        ++ spec.ranked_text (map declaration_at names.now) (map declaration_at keys.now)
+        ++ spec.ranked_text names.now keys.now
         [] [] at_start (map plain_at words.now)) }
 {
     let mut here = Here::at_start();

@@ -1,12 +1,11 @@
 //! Names that are set and never read, and names that are read and never set.
 ghost use Rattle.std.specs.Prelude.{◌≡◌, ◌++◌, [], IfOk, OnOk, map};
 ghost use Rattle.ss_words.specs.Plain.{plain_at};
-ghost use Rattle.ss_names.specs.Meanings.{declaration_at};
 ghost use Rattle.ss_names.specs.Unread as spec;
 
+use crate::declarations::Declarations;
 use crate::keys::{key, keys_with, section_behind};
 use crate::language::is_of_language;
-use crate::meaning::Row;
 use crate::name_counts::NameCounts;
 use crate::once::push_warning;
 use crate::roles::Role;
@@ -48,12 +47,12 @@ impl Model for Counted {
 /// How often names stand among words, and with a role.
 fn count_names(
     alloc: Global,
-    declarations: &[Row<'_>],
+    declarations: &Declarations<'_>,
     role: Role,
     words: &[PlainWord<'_>],
 ) -> Result<Counted, AllocError>
     ensures { IfOk result (λ counted. counted
-        ≡ spec.counted (map declaration_at declarations.now) role (map plain_at words.now)) }
+        ≡ spec.counted declarations.now role (map plain_at words.now)) }
 {
     Ok(Counted {
         all: keys_with(alloc, declarations, None, words)?,
@@ -106,7 +105,7 @@ fn push_section_name(
     text: &mut Vec<u8>,
     said: &[u8],
     names: &NameCounts,
-    declarations: &[Row<'_>],
+    declarations: &Declarations<'_>,
     counted: &Counted,
     before: &NameCounts,
     section: u32,
@@ -114,7 +113,7 @@ fn push_section_name(
     name: &[u8],
 ) -> Result<(), AllocError>
     ensures { OnOk result (text.new.items ≡ text.old.items
-        ++ spec.section_name said.now names.now (map declaration_at declarations.now) counted.now
+        ++ spec.section_name said.now names.now declarations.now counted.now
         before.now section line name.now) }
 {
     let key = key(alloc, declarations, section, name)?;
@@ -127,14 +126,14 @@ fn push_only_word(
     text: &mut Vec<u8>,
     said: &[u8],
     names: &NameCounts,
-    declarations: &[Row<'_>],
+    declarations: &Declarations<'_>,
     counted: &Counted,
     before: &NameCounts,
     section: u32,
     word: &PlainWord<'_>,
 ) -> Result<(), AllocError>
     ensures { OnOk result (text.new.items ≡ text.old.items
-        ++ spec.only_word said.now names.now (map declaration_at declarations.now) counted.now
+        ++ spec.only_word said.now names.now declarations.now counted.now
         before.now section (plain_at word.now)) }
 {
     let Plain::Name(name) = word.kind() else {
@@ -158,12 +157,12 @@ fn push_only_word(
 fn add_word(
     alloc: Global,
     before: &mut NameCounts,
-    declarations: &[Row<'_>],
+    declarations: &Declarations<'_>,
     section: u32,
     word: &PlainWord<'_>,
 ) -> Result<(), AllocError>
     ensures { OnOk result (before.new
-        ≡ spec.before_behind (map declaration_at declarations.now) before.old section
+        ≡ spec.before_behind declarations.now before.old section
         (plain_at word.now)) }
 {
     let Plain::Name(name) = word.kind() else {
@@ -181,12 +180,12 @@ pub fn push_only(
     text: &mut Vec<u8>,
     said: &[u8],
     names: &NameCounts,
-    declarations: &[Row<'_>],
+    declarations: &Declarations<'_>,
     counted: &Counted,
     words: &[PlainWord<'_>],
 ) -> Result<(), AllocError>
     ensures { OnOk result (text.new.items ≡ text.old.items
-        ++ spec.only_text said.now names.now (map declaration_at declarations.now) counted.now
+        ++ spec.only_text said.now names.now declarations.now counted.now
         [] 0 (map plain_at words.now)) }
 {
     let mut before = NameCounts::new(alloc);
@@ -218,11 +217,11 @@ pub fn push_uses(
     said: &[u8],
     role: Role,
     names: &NameCounts,
-    declarations: &[Row<'_>],
+    declarations: &Declarations<'_>,
     words: &[PlainWord<'_>],
 ) -> Result<(), AllocError>
     ensures { OnOk result (text.new.items ≡ text.old.items
-        ++ spec.uses_text said.now role names.now (map declaration_at declarations.now)
+        ++ spec.uses_text said.now role names.now declarations.now
         (map plain_at words.now)) }
 {
     let counted = count_names(alloc, declarations, role, words)?;

@@ -1,17 +1,16 @@
 use Rattle.std.proofs.Common.{◌≡◌, ◌++◌, [], map, length}
 use Rattle.ss_words.specs.Plain.{plain_at}
 use Rattle.ss_names.specs.Here.{at_start}
-use Rattle.ss_names.specs.Meanings.{declaration_at}
 use Rattle.ss_names.specs.Ranked.{ranked_text}
 use Rattle.ss_names.proofs.ranked.push_ranked.Given as goal
 
 abbrev pub invariant-loop-rest : goal.invariant-loop-rest
 invariant-loop-rest l =
     l.text.items
-    ++ ranked_text (map declaration_at l.names) (map declaration_at l.keys) l.member l.set l.here
+    ++ ranked_text l.names l.keys l.member l.set l.here
     (map plain_at l.rest)
     ≡ l.fn.text.items
-    ++ ranked_text (map declaration_at l.names) (map declaration_at l.keys) [] [] at_start (map plain_at l.words)
+    ++ ranked_text l.names l.keys [] [] at_start (map plain_at l.words)
 
 abbrev pub decreases-loop-rest : goal.decreases-loop-rest
 decreases-loop-rest l = length l.rest

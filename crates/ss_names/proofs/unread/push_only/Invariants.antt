@@ -1,14 +1,13 @@
 use Rattle.std.proofs.Common.{◌≡◌, ◌++◌, [], map, length}
 use Rattle.ss_words.specs.Plain.{plain_at}
-use Rattle.ss_names.specs.Meanings.{declaration_at}
 use Rattle.ss_names.specs.Unread.{only_text}
 use Rattle.ss_names.proofs.unread.push_only.Given as goal
 
 abbrev pub invariant-loop-rest : goal.invariant-loop-rest
 invariant-loop-rest l =
-    l.text.items ++ only_text l.said l.names (map declaration_at l.declarations) l.counted l.before l.section
+    l.text.items ++ only_text l.said l.names l.declarations l.counted l.before l.section
     (map plain_at l.rest)
-    ≡ l.fn.text.items ++ only_text l.said l.names (map declaration_at l.declarations) l.counted [] 0
+    ≡ l.fn.text.items ++ only_text l.said l.names l.declarations l.counted [] 0
     (map plain_at l.words)
 
 abbrev pub decreases-loop-rest : goal.decreases-loop-rest

@@ -1,7 +1,7 @@
 use Rattle.std.proofs.Common.{◌≡◌, map, length}
 use Rattle.ss_words.specs.Plain.{plain_at}
-use Rattle.ss_names.specs.Counts.{within}
-use Rattle.ss_names.proofs.counts.within.Given as goal
+use Rattle.ss_names.specs.Values.{within}
+use Rattle.ss_names.proofs.values.within.Given as goal
 
 abbrev pub invariant-loop-rest : goal.invariant-loop-rest
 invariant-loop-rest l = within l.depth l.count (map plain_at l.rest) ≡ within 1 1 (map plain_at l.words)
