@@ -30,6 +30,12 @@ pub record Facts : Type 0 where
   pub sections : List Declaration
   -- the names behind PRIORITY ORDER IS
   pub ordered : List Declaration
+  -- the sets in their DEFINE
+  pub disciplines : List Declaration
+  -- the events behind BREAK
+  pub ties : List Declaration
+  -- the names behind EXTERNAL EVENTS ARE
+  pub externals : List Declaration
   -- of each attribute its class
   pub attributes : List (List ℕ)
 
@@ -43,10 +49,14 @@ pub record Standpoint : Type 0 where
   pub position : Position
   -- what it is declared as here, if it is
   pub declared : Option Meaning
+  -- the reserved word that begins its item, head or statement
+  pub begun : Option AReserved
   -- the reserved word behind which it stands, alone or in a list
   pub last : Option AReserved
   -- whether a parenthesis is opened directly behind it
   pub opens : Bool
+  -- whether it is a parameter that stands again in its head
+  pub repeated : Bool
   -- the class whose attributes are keys here, empty where there is none
   pub ranked : List ℕ
 
@@ -57,8 +67,10 @@ standing_at a = record {
   index = a.index;
   position = a.position;
   declared = a.declared;
+  begun = a.begun;
   last = a.last;
   opens = a.opens;
+  repeated = a.repeated;
   ranked = a.ranked.now;
 }
 
@@ -114,16 +126,48 @@ abbrev pub stands_before : Standpoint → Option Declaration → Bool
 stands_before a (Some d) = nat_lt d.index a.index
 stands_before a None = false
 
--- a name that is declared here conflicts; a parameter is declared or given; an event has a section before
-abbrev pub is_declared_twice_at : Facts → Standpoint → Position → Bool
-is_declared_twice_at f a p.Declared = conflicts f a
-is_declared_twice_at f a p.Local = not (is_undeclared (known_in f a.name))
-is_declared_twice_at f a p.Head = stands_before a (declared_as f.sections a.name)
-is_declared_twice_at f a _ = false
+-- a set is named here
+abbrev pub is_set_here : Option Meaning → Bool
+is_set_here (Some m.Set) = true
+is_set_here _ = false
+
+-- DEFINE
+abbrev pub is_define : Option AReserved → Bool
+is_define (Some r.Define) = true
+is_define _ = false
+
+-- a set stands in its DEFINE here
+abbrev pub is_in_define : Standpoint → Bool
+is_in_define a = is_set_here a.declared && is_define a.last
+
+-- a name that is declared here conflicts, or is a set whose discipline is given before
+abbrev pub wrong_declaration : Facts → Standpoint → Option Wrong
+wrong_declaration f a = if conflicts f a
+    then Some w.DeclaredTwice
+    else where_so (is_in_define a && stands_before a (declared_as f.disciplines a.name)) w.DisciplinedTwice
+
+-- a parameter is declared or given, or stands again
+abbrev pub wrong_parameter : Facts → Standpoint → Option Wrong
+wrong_parameter f a =
+    if not (is_undeclared (known_in f a.name)) then Some w.DeclaredTwice else where_so a.repeated w.ParameterTwice
+
+-- an event of an item that this word begins: behind BREAK its ties are broken before; it is named external before
+abbrev pub wrong_item : Facts → Standpoint → Option AReserved → Option Wrong
+wrong_item f a (Some r.Break) = where_so (stands_before a (declared_as f.ties a.name)) w.BrokenTwice
+wrong_item f a (Some r.External) = where_so (stands_before a (declared_as f.externals a.name)) w.ExternalTwice
+wrong_item f a _ = None
+
+-- what is wrong with a declaration, a parameter, an event of an item, or an event with a section before
+abbrev pub second_at : Facts → Standpoint → Position → Option Wrong
+second_at f a p.Declared = wrong_declaration f a
+second_at f a p.Local = wrong_parameter f a
+second_at f a p.Head = where_so (stands_before a (declared_as f.sections a.name)) w.DeclaredTwice
+second_at f a p.EventClass = wrong_item f a a.begun
+second_at f a _ = None
 
 -- C1
-abbrev pub is_declared_twice : Facts → Standpoint → Bool
-is_declared_twice f a = is_declared_twice_at f a a.position
+abbrev pub second_declaration : Facts → Standpoint → Option Wrong
+second_declaration f a = second_at f a a.position
 
 -- ---- C2
 
@@ -232,11 +276,6 @@ is_owns _ = false
 abbrev pub is_to : Option AReserved → Bool
 is_to (Some r.To) = true
 is_to _ = false
-
--- a set is named here
-abbrev pub is_set_here : Option Meaning → Bool
-is_set_here (Some m.Set) = true
-is_set_here _ = false
 
 -- of a set with this first OWNS: a second one is wrong; without one it has no owner
 abbrev pub wrong_owner_by : Standpoint → Option Declaration → Option Wrong
@@ -359,7 +398,7 @@ wrong_target f a = wrong_target_at (known_in f a.name).what a.position
 
 -- what a name breaks of a rule where it stands, if it does
 abbrev pub wrong : Facts → NameRule → Standpoint → Option Wrong
-wrong f rule.DeclaredTwice a = where_so (is_declared_twice f a) w.DeclaredTwice
+wrong f rule.DeclaredTwice a = second_declaration f a
 wrong f rule.WrongClass a = where_so (is_wrong_class f a) w.WrongClass
 wrong f rule.WrongUse a = where_so (is_misused f a) w.WrongUse
 wrong f rule.WrongOwner a = wrong_owner f a

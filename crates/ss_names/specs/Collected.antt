@@ -6,7 +6,7 @@ use Rattle.ss_words.specs.declared.reserved.Reserved.{Reserved as AReserved}
 use Rattle.ss_words.specs.declared.reserved.Reserved.TheVariants as r
 use Rattle.ss_words.specs.Plain.{PlainAt, name, number, mark, picture}
 use Rattle.ss_names.specs.declared.collected.Wanted.{Wanted}
-use Rattle.ss_names.specs.declared.collected.Wanted.TheVariants.{Declared, Owned, Joined, Sections, Keys, Ordered}
+use Rattle.ss_names.specs.declared.collected.Wanted.TheVariants.{Declared, Owned, Joined, Sections, Keys, Ordered, Disciplines, Ties, Externals}
 use Rattle.ss_names.specs.declared.here.Here.{Here}
 use Rattle.ss_names.specs.declared.meaning.Meaning.{Meaning}
 use Rattle.ss_names.specs.declared.meaning.Meaning.TheVariants as m
@@ -53,6 +53,11 @@ abbrev pub is_define : Option AReserved → Bool
 is_define (Some r.Define) = true
 is_define _ = false
 
+-- what is declared, if it is a set
+abbrev pub set_only : Option Meaning → Option Meaning
+set_only (Some m.Set) = Some m.Set
+set_only _ = None
+
 -- a key in a DEFINE
 abbrev pub behind_rank : Here → Option Meaning
 behind_rank h = if is_rank h.last && is_define h.begun then Some m.Attribute else None
@@ -66,6 +71,28 @@ ordered_in _ = None
 abbrev pub behind_priority : Here → Option Meaning
 behind_priority h = ordered_in h.begun
 
+-- a set in the list of its DEFINE
+abbrev pub behind_define : Here → Option Meaning
+behind_define h = if is_define h.last then set_only h.names else None
+
+-- BREAK
+abbrev pub broken_behind : Option AReserved → Option Meaning
+broken_behind (Some r.Break) = Some m.Event
+broken_behind _ = None
+
+-- directly behind BREAK
+abbrev pub behind_break : Here → Option Meaning
+behind_break h = broken_behind h.last
+
+-- EXTERNAL
+abbrev pub external_in : Option AReserved → Option Meaning
+external_in (Some r.External) = Some m.Event
+external_in _ = None
+
+-- in the list behind EXTERNAL EVENTS ARE
+abbrev pub behind_external : Here → Option Meaning
+behind_external h = external_in h.begun
+
 -- what a name is collected as here, if it is wanted
 abbrev pub collected_as : Wanted → Here → Option Meaning
 collected_as Declared h = h.names
@@ -74,6 +101,9 @@ collected_as Joined h = behind_belongs h
 collected_as Sections h = behind_event h
 collected_as Keys h = behind_rank h
 collected_as Ordered h = behind_priority h
+collected_as Disciplines h = behind_define h
+collected_as Ties h = behind_break h
+collected_as Externals h = behind_external h
 
 -- what stands before a word, where a name may begin an assignment
 abbrev pub here_at : Here → PlainAt → Here

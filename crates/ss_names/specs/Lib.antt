@@ -16,4 +16,8 @@ pub mod Known
 pub mod Index
 pub mod Breaches
 pub mod Counts
+pub mod Parameters
+pub mod Landmarks
+pub mod Pictures
+pub mod Statements
 pub mod Subjects

@@ -11,7 +11,7 @@ use Rattle.ss_names.specs.declared.breach.NameRule.TheVariants as rule
 use Rattle.ss_names.specs.declared.breach.Wrong.{Wrong}
 use Rattle.ss_names.specs.declared.breach.Wrong.TheVariants as w
 use Rattle.ss_names.specs.declared.breaches.Subject.{Subject as CodeSubject}
-use Rattle.ss_names.specs.declared.collected.Wanted.TheVariants.{Declared, Owned, Joined, Sections, Ordered}
+use Rattle.ss_names.specs.declared.collected.Wanted.TheVariants.{Declared, Owned, Joined, Sections, Ordered, Disciplines, Ties, Externals}
 use Rattle.ss_names.specs.declared.here.Here.{Here}
 use Rattle.ss_names.specs.declared.known.What.{What}
 use Rattle.ss_names.specs.declared.known.What.TheVariants as k
@@ -21,7 +21,10 @@ use Rattle.ss_names.specs.Collected.{collected, here_at}
 use Rattle.ss_names.specs.Here.{at_start, behind}
 use Rattle.ss_names.specs.Known.{Known, known, given, known_text}
 use Rattle.ss_names.specs.Meanings.{Declaration, attribute_classes, declared_as}
+use Rattle.ss_names.specs.Parameters.{is_repeated}
 use Rattle.ss_names.specs.Positions.{opens, position}
+use Rattle.ss_names.specs.Statements.{statement_breach, statement_rule}
+use Rattle.ss_names.specs.declared.statements.StatementRule.{StatementRule}
 
 -- a name, and what is wrong with it
 pub record Subject : Type 0 where
@@ -42,6 +45,9 @@ facts_of ws = let names = collected Declared [] at_start [] ws in record {
   joined = collected Joined [] at_start [] ws;
   sections = collected Sections [] at_start [] ws;
   ordered = collected Ordered [] at_start [] ws;
+  disciplines = collected Disciplines [] at_start [] ws;
+  ties = collected Ties [] at_start [] ws;
+  externals = collected Externals [] at_start [] ws;
   attributes = attribute_classes names;
 }
 
@@ -52,8 +58,10 @@ standpoint h ranked n index ws = record {
   index = index;
   position = position h ws;
   declared = h.names;
+  begun = h.begun;
   last = h.last;
   opens = opens ws;
+  repeated = is_repeated h n ws;
   ranked = ranked;
 }
 
@@ -139,6 +147,10 @@ wrong_text w.WrongKey = codes ": it is no attribute of the class that is ranked.
 wrong_text w.NoSection = codes ": it has no EVENT section.\n"
 wrong_text w.NoEvent = codes ": it is no class of event notices.\n"
 wrong_text w.OrderedTwice = codes ": it is ordered a second time here.\n"
+wrong_text w.DisciplinedTwice = codes ": its discipline is given a second time here.\n"
+wrong_text w.ParameterTwice = codes ": it is a parameter twice here.\n"
+wrong_text w.BrokenTwice = codes ": its ties are broken a second time here.\n"
+wrong_text w.ExternalTwice = codes ": it is named external a second time here.\n"
 wrong_text w.WrongCount = codes ": it has another count of values here than it takes.\n"
 wrong_text w.Fixed = codes ": it cannot be set.\n"
 wrong_text w.NoVariable = codes ": it is no variable, as a loop needs.\n"
@@ -161,13 +173,20 @@ told_place a None = a
 abbrev pub line_in : Option Declaration → Option ℕ
 line_in d = option_map (λ x. x.line) d
 
--- what a name is whose second declaration, owner or members are wrong, with the place of the first; else what it is
+-- the first place of a name that stands a second time: behind OWNS, BELONGS TO, PRIORITY, DEFINE, BREAK, EXTERNAL
+abbrev pub first_place : Facts → List ℕ → Wrong → Option Declaration
+first_place f n w.OwnedTwice = declared_as f.owned n
+first_place f n w.JoinedTwice = declared_as f.joined n
+first_place f n w.OrderedTwice = declared_as f.ordered n
+first_place f n w.DisciplinedTwice = declared_as f.disciplines n
+first_place f n w.BrokenTwice = declared_as f.ties n
+first_place f n w.ExternalTwice = declared_as f.externals n
+first_place f n _ = None
+
+-- what a name is, with the line of that place, if it has one; where its declaration is wrong, what it is first
 abbrev pub told_by : Facts → List ℕ → Wrong → Known
 told_by f n w.DeclaredTwice = first_known f n
-told_by f n w.OwnedTwice = told_place (known f.names n) (line_in (declared_as f.owned n))
-told_by f n w.JoinedTwice = told_place (known f.names n) (line_in (declared_as f.joined n))
-told_by f n w.OrderedTwice = told_place (known f.names n) (line_in (declared_as f.ordered n))
-told_by f n _ = known f.names n
+told_by f n x = told_place (known f.names n) (line_in (first_place f n x))
 
 -- what the name of a subject is
 abbrev pub told_as : Facts → Subject → Known
@@ -178,18 +197,23 @@ abbrev pub subject_text : Facts → Option Subject → List ℕ
 subject_text f (Some x) = x.name ++ codes " is " ++ known_text (told_as f x) ++ wrong_text x.wrong
 subject_text f None = []
 
--- what a breach of a rule on a line is about, among these words
-abbrev pub breach_of_words : List PlainAt → NameRule → ℕ → List ℕ
-breach_of_words ws x line = let f = facts_of ws in subject_text f (subject f x line at_start [] ws)
+-- what a breach of a rule on a line is about, among these words, if the rule is about names
+abbrev pub name_breach : List PlainAt → ℕ → Option NameRule → List ℕ
+name_breach ws line (Some x) = let f = facts_of ws in subject_text f (subject f x line at_start [] ws)
+name_breach ws line None = []
 
--- the same in a model, where a rule is about names
-abbrev pub breach_by : List ℕ → ℕ → Option NameRule → List ℕ
-breach_by model line None = []
-breach_by model line (Some x) = elim (words_of model) [
-  | Ok ws ↦ breach_of_words (plain_words_of ws) x line
+-- the same, if it is about statements
+abbrev pub place_breach : List PlainAt → ℕ → Option StatementRule → List ℕ
+place_breach ws line (Some x) = statement_breach x line ws
+place_breach ws line None = []
+
+-- what the breach of the rule with this code is about: its name, and its statement
+abbrev pub breach_of_words : List PlainAt → List ℕ → ℕ → List ℕ
+breach_of_words ws code line = name_breach ws line (rule_of code) ++ place_breach ws line (statement_rule code)
+
+-- the same on a line of a model; nothing where a rule L refuses it
+unfoldable pub breach_text : List ℕ → List ℕ → ℕ → List ℕ
+breach_text model code line = elim (words_of model) [
+  | Ok ws ↦ breach_of_words (plain_words_of ws) code line
   | Err f ↦ []
 ]
-
--- what the breach of the rule with this code on a line of a model is about
-unfoldable pub breach_text : List ℕ → List ℕ → ℕ → List ℕ
-breach_text model code line = breach_by model line (rule_of code)

@@ -39,20 +39,20 @@ is_reserved (Some (Reserved w)) = true
 is_reserved _ = false
 
 -- one more behind a comma at this depth
-abbrev pub counted : ℕ → ℕ → ℕ → Option Mark → ℕ
-counted top d n j = if is_comma j && d == top then one_more n else n
+abbrev pub count_behind : ℕ → ℕ → ℕ → Option Mark → ℕ
+count_behind top d n j = if is_comma j && d == top then one_more n else n
 
 -- how many values stand behind an opened parenthesis, before its own is closed, where so many are open
 unfoldable pub within : ℕ → ℕ → List PlainAt → ℕ
 within d n [] = n
 within d n (w ∷ ws) = let j = mark_in w.word in
-    if is_close j && nat_le d 1 then n else within (depth_at d j) (counted 1 d n j) ws
+    if is_close j && nat_le d 1 then n else within (depth_at d j) (count_behind 1 d n j) ws
 
 -- how many values stand in a list, up to the next reserved word
-unfoldable pub listed : ℕ → ℕ → List PlainAt → ℕ
-listed d n [] = n
-listed d n (w ∷ ws) = let j = mark_in w.word in
-    if is_reserved j then n else listed (depth_at d j) (counted 0 d n j) ws
+unfoldable pub list_count : ℕ → ℕ → List PlainAt → ℕ
+list_count d n [] = n
+list_count d n (w ∷ ws) = let j = mark_in w.word in
+    if is_reserved j then n else list_count (depth_at d j) (count_behind 0 d n j) ws
 
 -- GIVEN
 abbrev pub is_given : Option Mark → Bool
@@ -84,7 +84,7 @@ goes_on _ = true
 unfoldable pub in_list : AList → List PlainAt → ℕ
 in_list a [] = 0
 in_list a (w ∷ ws) = let j = mark_in w.word in
-    if begins_list a j then listed 0 1 ws else if not (goes_on j) then 0 else in_list a ws
+    if begins_list a j then list_count 0 1 ws else if not (goes_on j) then 0 else in_list a ws
 
 -- how many values stand between parentheses directly behind a name, 0 where none is opened
 abbrev pub arguments : List PlainAt → ℕ

@@ -2,14 +2,15 @@
 ghost use Rattle.std.specs.Prelude.{◌≡◌, map};
 ghost use Rattle.ss_names.specs.Breaches as spec;
 ghost use Rattle.ss_names.specs.Known.{known_at};
-ghost use Rattle.ss_names.specs.Meanings.{declaration_at, declared_as};
+ghost use Rattle.ss_names.specs.Meanings.{declaration_at};
 
 use crate::declarations::Declarations;
 use crate::events::{wrong_event, wrong_priority};
-use crate::known::{Known, What, given, known_as};
-use crate::meaning::{Meaning, Row, may_repeat};
+use crate::known::{Known, What, known_as};
+use crate::meaning::{Meaning, Row};
 use crate::name_counts::NameCounts;
 use crate::position::Position;
+use crate::second::second_declaration;
 use ss_words::Reserved;
 use std::marker::Model;
 
@@ -26,6 +27,12 @@ pub struct Facts<'a> {
     pub sections: Declarations<'a>,
     /// The names behind PRIORITY ORDER IS.
     pub ordered: Declarations<'a>,
+    /// The sets in their DEFINE.
+    pub disciplines: Declarations<'a>,
+    /// The events behind BREAK.
+    pub ties: Declarations<'a>,
+    /// The names behind EXTERNAL EVENTS ARE.
+    pub externals: Declarations<'a>,
     /// Of each attribute its class.
     pub attributes: NameCounts,
 }
@@ -41,6 +48,9 @@ impl<'a> Model for Facts<'a> {
       joined = a.joined;
       sections = a.sections;
       ordered = a.ordered;
+      disciplines = a.disciplines;
+      ties = a.ties;
+      externals = a.externals;
       attributes = a.attributes;
     } };
 }
@@ -54,10 +64,14 @@ pub struct Standpoint<'a> {
     pub position: Position,
     /// What it is declared as here, if it is.
     pub declared: Option<Meaning>,
+    /// The reserved word that begins its item, head or statement.
+    pub begun: Option<Reserved>,
     /// The reserved word behind which it stands, alone or in a list.
     pub last: Option<Reserved>,
     /// Whether a parenthesis is opened directly behind it.
     pub opens: bool,
+    /// Whether it is a parameter that stands again in its head.
+    pub repeated: bool,
     /// The class whose attributes are keys here; empty where there is none.
     pub ranked: &'a [u8],
 }
@@ -76,6 +90,10 @@ pub enum Wrong {
     NoSection,
     NoEvent,
     OrderedTwice,
+    DisciplinedTwice,
+    ParameterTwice,
+    BrokenTwice,
+    ExternalTwice,
     WrongCount,
     Fixed,
     NoVariable,
@@ -146,7 +164,7 @@ pub fn breaks(facts: &Facts<'_>, rule: NameRule, at: Standpoint<'_>) -> Option<W
     ensures { result ≡ spec.wrong facts.now rule (spec.standing_at at.entry) }
 {
     match rule {
-        NameRule::DeclaredTwice => where_so(is_declared_twice(facts, at), Wrong::DeclaredTwice),
+        NameRule::DeclaredTwice => second_declaration(facts, at),
         NameRule::WrongClass => where_so(is_wrong_class(facts, at), Wrong::WrongClass),
         NameRule::WrongUse => where_so(is_misused(facts, at), Wrong::WrongUse),
         NameRule::WrongOwner => wrong_owner(facts, at),
@@ -163,70 +181,6 @@ pub fn where_so(is_so: bool, wrong: Wrong) -> Option<Wrong>
     ensures { result ≡ spec.where_so is_so wrong }
 {
     if is_so { Some(wrong) } else { None }
-}
-
-// ---- C1
-
-/// Whether a name is declared here, or is a parameter, and is declared elsewhere or given by the
-/// language; or is an event that has a section before.
-fn is_declared_twice(facts: &Facts<'_>, at: Standpoint<'_>) -> bool
-    ensures { result ≡ spec.is_declared_twice facts.now (spec.standing_at at.entry) }
-{
-    match at.position {
-        Position::Declared => conflicts(facts, at),
-        Position::Local => !is_undeclared(known_as(&facts.names, at.name)),
-        Position::Head => stands_before(&facts.sections, at),
-        _ => false,
-    }
-}
-
-/// Whether the first of some places of a name stands before this one.
-pub fn stands_before(places: &Declarations<'_>, at: Standpoint<'_>) -> bool
-    ensures { result ≡ spec.stands_before (spec.standing_at at.entry)
-        (declared_as places.now at.entry.name.now) }
-{
-    match places.get(at.name) {
-        Some(row) => row.index < at.index,
-        None => false,
-    }
-}
-
-fn is_undeclared(known: Known<'_>) -> bool
-    ensures { result ≡ spec.is_undeclared (known_at known.entry) }
-{
-    matches!(known.what, What::Undeclared)
-}
-
-/// Whether a name that is declared here is declared before as what does not go with that, or is
-/// given by the language, a set or a class.
-fn conflicts(facts: &Facts<'_>, at: Standpoint<'_>) -> bool
-    ensures { result ≡ spec.conflicts facts.now (spec.standing_at at.entry) }
-{
-    match facts.names.get(at.name) {
-        Some(row) => {
-            if row.index != at.index {
-                return !repeats(row.meaning, at.declared);
-            }
-            is_given(facts, at.name)
-        }
-        None => false,
-    }
-}
-
-fn repeats(first: Meaning, second: Option<Meaning>) -> bool
-    ensures { result ≡ spec.repeats first second }
-{
-    match second {
-        Some(second) => may_repeat(first, second),
-        None => false,
-    }
-}
-
-/// Whether the language, a set or a class gives a name, whatever else it is declared as.
-fn is_given(facts: &Facts<'_>, name: &[u8]) -> bool
-    ensures { result ≡ spec.is_given facts.now name.now }
-{
-    !is_undeclared(given(&facts.names, name))
 }
 
 // ---- C2
@@ -355,7 +309,7 @@ fn is_to(last: Option<Reserved>) -> bool
     matches!(last, Some(Reserved::To))
 }
 
-fn is_set_here(declared: Option<Meaning>) -> bool
+pub fn is_set_here(declared: Option<Meaning>) -> bool
     ensures { result ≡ spec.is_set_here declared }
 {
     matches!(declared, Some(Meaning::Set))

@@ -14,7 +14,9 @@ use crate::declarations::attribute_classes;
 use crate::here::Here;
 use crate::known::{Known, What, given, known_as, push_known};
 use crate::meaning::Row;
+use crate::parameters::is_repeated;
 use crate::position::{opens, position_at};
+use crate::statements::{StatementRule, push_statement_breach, statement_rule};
 use ss_words::{Plain, PlainWord, Reserved, TextFault, plain_words, words};
 use std::alloc::{AllocError, Global};
 
@@ -37,6 +39,9 @@ fn facts_of<'a>(alloc: Global, words: &[PlainWord<'a>]) -> Result<Facts<'a>, All
         joined: collect(alloc, Wanted::Joined, words)?,
         sections: collect(alloc, Wanted::Sections, words)?,
         ordered: collect(alloc, Wanted::Ordered, words)?,
+        disciplines: collect(alloc, Wanted::Disciplines, words)?,
+        ties: collect(alloc, Wanted::Ties, words)?,
+        externals: collect(alloc, Wanted::Externals, words)?,
         attributes,
     })
 }
@@ -57,8 +62,10 @@ fn standpoint<'a>(
         index,
         position: position_at(here, behind),
         declared: here.names,
+        begun: here.begun,
         last: here.last,
         opens: opens(behind),
+        repeated: is_repeated(here, name, behind),
         ranked,
     }
 }
@@ -183,6 +190,10 @@ fn wrong_text(wrong: Wrong) -> &'static [u8]
         Wrong::NoSection => b": it has no EVENT section.\n",
         Wrong::NoEvent => b": it is no class of event notices.\n",
         Wrong::OrderedTwice => b": it is ordered a second time here.\n",
+        Wrong::DisciplinedTwice => b": its discipline is given a second time here.\n",
+        Wrong::ParameterTwice => b": it is a parameter twice here.\n",
+        Wrong::BrokenTwice => b": its ties are broken a second time here.\n",
+        Wrong::ExternalTwice => b": it is named external a second time here.\n",
         Wrong::WrongCount => b": it has another count of values here than it takes.\n",
         Wrong::Fixed => b": it cannot be set.\n",
         Wrong::NoVariable => b": it is no variable, as a loop needs.\n",
@@ -195,19 +206,26 @@ fn told_as<'a>(facts: &Facts<'a>, subject: Subject<'a>) -> Known<'a>
 {
     match subject.wrong {
         Wrong::DeclaredTwice => first_known(facts, subject.name),
-        Wrong::OwnedTwice => told_place(
+        _ => told_place(
             known_as(&facts.names, subject.name),
-            facts.owned.get(subject.name),
+            first_place(facts, subject),
         ),
-        Wrong::JoinedTwice => told_place(
-            known_as(&facts.names, subject.name),
-            facts.joined.get(subject.name),
-        ),
-        Wrong::OrderedTwice => told_place(
-            known_as(&facts.names, subject.name),
-            facts.ordered.get(subject.name),
-        ),
-        _ => known_as(&facts.names, subject.name),
+    }
+}
+
+/// The first place of a name that stands a second time in such a list.
+fn first_place<'a>(facts: &Facts<'a>, subject: Subject<'a>) -> Option<Row<'a>>
+    ensures { option_map declaration_at result
+        ≡ spec.first_place facts.now subject.name.now subject.wrong }
+{
+    match subject.wrong {
+        Wrong::OwnedTwice => facts.owned.get(subject.name),
+        Wrong::JoinedTwice => facts.joined.get(subject.name),
+        Wrong::OrderedTwice => facts.ordered.get(subject.name),
+        Wrong::DisciplinedTwice => facts.disciplines.get(subject.name),
+        Wrong::BrokenTwice => facts.ties.get(subject.name),
+        Wrong::ExternalTwice => facts.externals.get(subject.name),
+        _ => None,
     }
 }
 
@@ -254,25 +272,60 @@ fn push_subject(
     text.extend_from_slice(wrong_text(subject.wrong))
 }
 
-fn push_breach_of_words(
+/// Appends what a breach of a rule on names is about, if it is one.
+fn push_name_breach(
     alloc: Global,
     words: &[PlainWord<'_>],
-    rule: NameRule,
+    rule: Option<NameRule>,
     line: usize,
     text: &mut Vec<u8>,
 ) -> Result<(), AllocError>
     ensures { OnOk result (text.new.items ≡ text.old.items
-        ++ spec.breach_of_words (map plain_at words.now) rule line) }
+        ++ spec.name_breach (map plain_at words.now) line rule) }
 {
+    let Some(rule) = rule else {
+        return Ok(());
+    };
     let facts = facts_of(alloc, words)?;
     push_subject(text, &facts, first_subject(&facts, rule, line, words))
 }
 
-/// Appends which name the breach of a rule of the checker is about, what that name is, where it is
-/// declared and what is wrong with it (docs/SENTENCES.md): of the first name of the statement on
-/// this line that breaks the rule with this code, as `C10`. Nothing where the words tell of none,
-/// for a rule that is about no name, and where a rule L refuses the model. The only error is that
-/// memory was refused.
+/// Appends what a breach of a rule on statements is about, if it is one.
+fn push_place_breach(
+    alloc: Global,
+    words: &[PlainWord<'_>],
+    rule: Option<StatementRule>,
+    line: usize,
+    text: &mut Vec<u8>,
+) -> Result<(), AllocError>
+    ensures { OnOk result (text.new.items ≡ text.old.items
+        ++ spec.place_breach (map plain_at words.now) line rule) }
+{
+    let Some(rule) = rule else {
+        return Ok(());
+    };
+    push_statement_breach(alloc, text, rule, line, words)
+}
+
+fn push_breach_of_words(
+    alloc: Global,
+    words: &[PlainWord<'_>],
+    code: &[u8],
+    line: usize,
+    text: &mut Vec<u8>,
+) -> Result<(), AllocError>
+    ensures { OnOk result (text.new.items ≡ text.old.items
+        ++ spec.breach_of_words (map plain_at words.now) code.now line) }
+{
+    push_name_breach(alloc, words, rule_of(code), line, text)?;
+    push_place_breach(alloc, words, statement_rule(code), line, text)
+}
+
+/// Appends what the breach of the rule of the checker with this code, as `C10`, is about
+/// (docs/SENTENCES.md): of the first name of the statement on this line that breaks it what it is,
+/// where it is declared and what is wrong with it; of the statement that breaks it what stands round
+/// it. Nothing where the words tell of none, for another code, and where a rule L refuses the model.
+/// The only error is that memory was refused.
 #[tactic(auto, unfolding(crate::specs::Subjects::breach_text))]
 pub fn push_breach(
     alloc: Global,
@@ -284,13 +337,10 @@ pub fn push_breach(
     ensures { OnOk result (text.new.items
         ≡ text.old.items ++ spec.breach_text model.now code.now line) }
 {
-    let Some(rule) = rule_of(code.as_bytes()) else {
-        return Ok(());
-    };
     match words(alloc, model) {
         Ok(words) => {
             let plain = plain_words(alloc, &words)?;
-            push_breach_of_words(alloc, &plain, rule, line, text)
+            push_breach_of_words(alloc, &plain, code.as_bytes(), line, text)
         }
         Err(TextFault::Memory) => Err(AllocError),
         Err(TextFault::Refused { .. }) => Ok(()),

@@ -26,6 +26,12 @@ pub enum Wanted {
     Keys,
     /// The names behind PRIORITY ORDER IS.
     Ordered,
+    /// The sets in their DEFINE.
+    Disciplines,
+    /// The events behind BREAK.
+    Ties,
+    /// The names behind EXTERNAL EVENTS ARE.
+    Externals,
 }
 
 /// What a name is collected as here, if it is.
@@ -39,6 +45,9 @@ fn collected_as(wanted: Wanted, here: Here) -> Option<Meaning>
         Wanted::Sections => behind_event(here),
         Wanted::Keys => behind_rank(here),
         Wanted::Ordered => behind_priority(here),
+        Wanted::Disciplines => behind_define(here),
+        Wanted::Ties => behind_break(here),
+        Wanted::Externals => behind_external(here),
     }
 }
 
@@ -83,6 +92,33 @@ fn behind_priority(here: Here) -> Option<Meaning>
 {
     match here.begun {
         Some(Reserved::Priority) => Some(Meaning::Event),
+        _ => None,
+    }
+}
+
+fn behind_define(here: Here) -> Option<Meaning>
+    ensures { result ≡ spec.behind_define here }
+{
+    match here.names {
+        Some(Meaning::Set) if is_define(here.last) => Some(Meaning::Set),
+        _ => None,
+    }
+}
+
+fn behind_break(here: Here) -> Option<Meaning>
+    ensures { result ≡ spec.behind_break here }
+{
+    match here.last {
+        Some(Reserved::Break) => Some(Meaning::Event),
+        _ => None,
+    }
+}
+
+fn behind_external(here: Here) -> Option<Meaning>
+    ensures { result ≡ spec.behind_external here }
+{
+    match here.begun {
+        Some(Reserved::External) => Some(Meaning::Event),
         _ => None,
     }
 }

@@ -2,11 +2,12 @@
 ghost use Rattle.std.specs.Prelude.{◌≡◌};
 ghost use Rattle.ss_names.specs.Breaches as spec;
 
-use crate::breach::{Facts, Standpoint, Wrong, stands_before, where_so};
+use crate::breach::{Facts, Standpoint, Wrong, where_so};
 use crate::declarations::Declarations;
 use crate::known::{What, known_as};
 use crate::meaning::Meaning;
 use crate::position::Position;
+use crate::second::stands_before;
 
 /// What is wrong with an event that is named here: it has no section, or its section is of no event.
 pub fn wrong_event(facts: &Facts<'_>, at: Standpoint<'_>) -> Option<Wrong>

@@ -1,7 +1,7 @@
 //! Names that stand once.
 ghost use Rattle.std.specs.Prelude.{◌≡◌, ◌++◌, OnOk, map};
 ghost use Rattle.ss_words.specs.Plain.{plain_at};
-ghost use Rattle.ss_names.specs.Saying.{warning};
+ghost use Rattle.ss_names.specs.Saying.{number_text, warning};
 ghost use Rattle.ss_names.specs.Roles.{at_start};
 ghost use Rattle.ss_names.specs.Warnings as spec;
 
@@ -31,6 +31,23 @@ pub fn push_warning(
     text.extend_from_slice(b": ")?;
     text.extend_from_slice(name)?;
     text.extend_from_slice(said)
+}
+
+/// Appends what is said before a number, the number, and what is said behind it.
+#[tactic(auto, unfolding(crate::specs::Saying::number_text))]
+pub fn push_number(
+    text: &mut Vec<u8>,
+    before: &[u8],
+    number: usize,
+    behind: &[u8],
+) -> Result<(), AllocError>
+    ensures { OnOk result (text.new.items
+        ≡ text.old.items ++ number_text before.now number behind.now) }
+{
+    let mut buffer = Buffer::new();
+    text.extend_from_slice(before)?;
+    text.extend_from_slice(buffer.format(number).as_bytes())?;
+    text.extend_from_slice(behind)
 }
 
 /// Appends what is said of a name.

@@ -38,7 +38,7 @@ pub enum Position {
 }
 
 /// The reserved word or sign directly behind, if one stands there.
-fn first_mark(words: &[PlainWord<'_>]) -> Option<Mark>
+pub fn first_mark(words: &[PlainWord<'_>]) -> Option<Mark>
     ensures { result ≡ spec.first_mark (map plain_at words.now) }
 {
     match words {

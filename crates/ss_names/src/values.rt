@@ -64,9 +64,9 @@ fn within(words: &[PlainWord<'_>]) -> usize
 }
 
 /// How many values stand in a list, up to the next reserved word.
-#[tactic(auto, unfolding(crate::specs::Values::listed))]
-fn listed(words: &[PlainWord<'_>]) -> usize
-    ensures { result ≡ spec.listed 0 1 (map plain_at words.now) }
+#[tactic(auto, unfolding(crate::specs::Values::list_count))]
+pub fn list_count(words: &[PlainWord<'_>]) -> usize
+    ensures { result ≡ spec.list_count 0 1 (map plain_at words.now) }
 {
     let mut depth: u32 = 0;
     let mut count: usize = 1;
@@ -128,7 +128,7 @@ pub fn in_list(list: List, words: &[PlainWord<'_>]) -> usize
     while let [word, behind @ ..] = rest {
         let mark = word.kind().mark();
         if begins_list(list, mark) {
-            return listed(behind);
+            return list_count(behind);
         }
         if !goes_on(mark) {
             return 0;

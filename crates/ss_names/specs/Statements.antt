@@ -1,0 +1,144 @@
+-- Which statement a breach of the checker's rules is about, where it is about no name, and what is said of it.
+use Rattle.std.specs.Prelude.{ℕ, ◌==◌, ◌&&◌, ◌||◌, Bool, true, false, not, nat_lt, List, [], ◌∷◌, ◌++◌, length, map}
+use Rattle.std.specs.Prelude.{bytes_eq, codes, Option, Some, None, if◌then◌else◌}
+use Rattle.ss_words.specs.declared.mark.Mark.{Mark}
+use Rattle.ss_words.specs.declared.mark.Mark.TheVariants.{Reserved}
+use Rattle.ss_words.specs.declared.reserved.Reserved.{Reserved as AReserved}
+use Rattle.ss_words.specs.declared.reserved.Reserved.TheVariants as r
+use Rattle.ss_words.specs.Plain.{PlainAt, plain_at}
+use Rattle.ss_words.specs.PlainRules.{mark_in}
+use Rattle.ss_names.specs.declared.here.Here.{Here}
+use Rattle.ss_names.specs.declared.statements.Beginning.{Beginning}
+use Rattle.ss_names.specs.declared.statements.StatementRule.{StatementRule}
+use Rattle.ss_names.specs.declared.statements.StatementRule.TheVariants as rule
+use Rattle.ss_names.specs.declared.statements.TheConstants.{STATEMENT_RULES}
+use Rattle.ss_names.specs.Collected.{here_at}
+use Rattle.ss_names.specs.Here.{at_start, behind}
+use Rattle.ss_names.specs.Landmarks.{Landmarks, landmarks_behind, no_landmarks}
+use Rattle.ss_names.specs.Pictures.{fields_of, picture_text, value_count}
+use Rattle.ss_names.specs.Positions.{first_mark}
+use Rattle.ss_names.specs.Saying.{number_text}
+
+-- the rule beside this code in a table, if it is there
+abbrev pub rule_in : List ℕ → List (List ℕ × StatementRule) → Option StatementRule
+rule_in code [] = None
+rule_in code (row ∷ rows) = if bytes_eq row.0 code then Some row.1 else rule_in code rows
+
+-- the rule with this code, if it is about statements
+unfoldable pub statement_rule : List ℕ → Option StatementRule
+statement_rule code = rule_in code (map (λ row. (row.0.now, row.1)) STATEMENT_RULES)
+
+-- ---- which statement
+
+-- a rule asks about the statement that a word begins: C10 PRINT, C11 MAIN, C12 PRIORITY, C13 START, C14 IF
+abbrev pub asks_about : StatementRule → AReserved → Bool
+asks_about rule.WrongPicture r.Print = true
+asks_about rule.WrongMain r.Main = true
+asks_about rule.SecondPriority r.Priority = true
+asks_about rule.WrongStart r.Start = true
+asks_about rule.WithoutFind r.If = true
+asks_about _ _ = false
+
+-- the same of a reserved word or sign, if there is one
+abbrev pub asks_about_mark : StatementRule → Option Mark → Bool
+asks_about_mark x (Some (Reserved w)) = asks_about x w
+asks_about_mark x _ = false
+
+-- the same of a word of the text
+abbrev pub asks_at : StatementRule → PlainAt → Bool
+asks_at x w = asks_about_mark x (mark_in w.word)
+
+-- FOUND or NONE
+abbrev pub is_of_find : Option Mark → Bool
+is_of_find (Some (Reserved r.Found)) = true
+is_of_find (Some (Reserved r.NoneFound)) = true
+is_of_find _ = false
+
+-- FIND
+abbrev pub is_find : Option AReserved → Bool
+is_find (Some r.Find) = true
+is_find _ = false
+
+-- the statement before these words breaks a rule that asks about it: MAIN or PRIORITY stands before it, its section has
+-- a name, no FIND stands directly before it; of a line with a C10 its PRINT does, since a picture ends its line
+abbrev pub is_broken : StatementRule → Landmarks → Here → List PlainAt → Bool
+is_broken rule.WrongPicture a h ws = true
+is_broken rule.WrongMain a h ws = nat_lt 0 a.main
+is_broken rule.SecondPriority a h ws = nat_lt 0 a.priority
+is_broken rule.WrongStart a h ws = not (length a.section == 0)
+is_broken rule.WithoutFind a h ws = is_of_find (first_mark ws) && not (is_find h.begun)
+
+-- a word on this line begins a statement that breaks a rule
+abbrev pub is_broken_at : StatementRule → ℕ → Landmarks → Here → PlainAt → List PlainAt → Bool
+is_broken_at x line a h w ws = w.line == line && asks_at x w && is_broken x a h ws
+
+-- where a statement begins: what stands before its first word, and the words behind that
+pub record Spot : Type 0 where
+  -- the landmarks before it
+  pub landmarks : Landmarks
+  -- the item, head or statement before it
+  pub here : Here
+  -- the words behind its first
+  pub behind : List PlainAt
+
+-- where a statement of the code begins
+abbrev pub spot_at : Beginning → Spot
+spot_at a = record {
+  landmarks = record { main = a.main; priority = a.priority; section = a.section.now; head = a.head };
+  here = a.here;
+  behind = map plain_at a.behind.now;
+}
+
+-- the first statement that begins on a line and breaks a rule, among words behind others
+unfoldable pub statement : StatementRule → ℕ → Landmarks → Here → List PlainAt → Option Spot
+statement x line a h [] = None
+statement x line a h (w ∷ ws) =
+    let at = here_at h w in
+    if is_broken_at x line a at w ws
+    then Some (record { landmarks = a; here = at; behind = ws })
+    else statement x line (landmarks_behind a at w) (behind at w.word w.line ws) ws
+
+-- MAIN
+abbrev pub is_main : Option Mark → Bool
+is_main (Some (Reserved r.Main)) = true
+is_main _ = false
+
+-- MAIN stands among words
+unfoldable pub has_main : List PlainAt → Bool
+has_main [] = false
+has_main (w ∷ ws) = is_main (mark_in w.word) || has_main ws
+
+-- ---- what is said of it
+
+-- the section of a statement, with the line of its head
+abbrev pub section_text : List ℕ → ℕ → List ℕ
+section_text n line = codes "It stands in the section " ++ n ++ number_text (codes ", line ") line (codes ".\n")
+
+-- what is said of a statement that breaks a rule
+abbrev pub statement_text : StatementRule → Spot → List ℕ
+statement_text rule.WrongPicture a = picture_text (value_count a.behind) (fields_of a.behind)
+statement_text rule.WrongMain a =
+    number_text (codes "The first MAIN stands on line ") a.landmarks.main (codes ".\n")
+statement_text rule.SecondPriority a =
+    number_text (codes "The first PRIORITY stands on line ") a.landmarks.priority (codes ".\n")
+statement_text rule.WrongStart a = section_text a.landmarks.section a.landmarks.head
+statement_text rule.WithoutFind a =
+    number_text (codes "What begins on line ") a.here.line (codes " stands before it, and is no FIND.\n")
+
+-- C11
+abbrev pub is_main_rule : StatementRule → Bool
+is_main_rule rule.WrongMain = true
+is_main_rule _ = false
+
+-- what is said where there is no such statement among words: that no section is MAIN
+abbrev pub no_statement_text : StatementRule → List PlainAt → List ℕ
+no_statement_text x ws = if is_main_rule x && not (has_main ws) then codes "No section is MAIN.\n" else []
+
+-- what is said of the statement of a text, if there is one
+abbrev pub found_text : StatementRule → List PlainAt → Option Spot → List ℕ
+found_text x ws (Some a) = statement_text x a
+found_text x ws None = no_statement_text x ws
+
+-- what is said of the first statement that begins on a line of a text and breaks a rule
+abbrev pub statement_breach : StatementRule → ℕ → List PlainAt → List ℕ
+statement_breach x line ws = found_text x ws (statement x line no_landmarks at_start ws)

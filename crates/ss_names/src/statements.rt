@@ -1,0 +1,288 @@
+//! Which statement a breach of the checker's rules is about, where it is about no name.
+ghost use Rattle.std.specs.Prelude.{◌≡◌, ◌++◌, OnOk, map};
+ghost use Rattle.ss_words.specs.Plain.{plain_at};
+ghost use Rattle.ss_names.specs.Here.{at_start};
+ghost use Rattle.ss_names.specs.Statements as spec;
+
+use crate::collected::here_at;
+use crate::here::Here;
+use crate::landmarks::{Track, track_at_start, track_behind};
+use crate::once::push_number;
+use crate::pictures::{fields_of, push_picture_text, value_count};
+use crate::position::first_mark;
+use ss_words::{Mark, PlainWord, Reserved};
+use std::alloc::{AllocError, Global};
+
+/// The rules that are about statements, each with its question.
+#[derive(Clone, Copy, Debug, PartialEq, Eq)]
+pub enum StatementRule {
+    /// C10
+    WrongPicture,
+    /// C11
+    WrongMain,
+    /// C12
+    SecondPriority,
+    /// C13
+    WrongStart,
+    /// C14
+    WithoutFind,
+}
+
+/// The codes of these rules. The definitions read this table too.
+pub const STATEMENT_RULES: [(&[u8], StatementRule); 5] = [
+    (b"C10", StatementRule::WrongPicture),
+    (b"C11", StatementRule::WrongMain),
+    (b"C12", StatementRule::SecondPriority),
+    (b"C13", StatementRule::WrongStart),
+    (b"C14", StatementRule::WithoutFind),
+];
+
+/// The rule with this code, as `C10`, if it is one of these.
+#[tactic(auto, unfolding(crate::specs::Statements::statement_rule))]
+pub fn statement_rule(code: &[u8]) -> Option<StatementRule>
+    ensures { result ≡ spec.statement_rule code.now }
+{
+    rule_in(code, &STATEMENT_RULES)
+}
+
+fn rule_in(
+    code: &[u8],
+    mut rows: &'static [(&'static [u8], StatementRule)],
+) -> Option<StatementRule>
+    ensures { result ≡ spec.rule_in code.now (map (λ row. (row.0.now, row.1)) rows.entry.now) }
+{
+    while let [row, rest @ ..] = rows {
+        if row.0 == code {
+            return Some(row.1);
+        }
+        rows = rest;
+    }
+    None
+}
+
+/// Whether a rule asks about the statement that this word begins.
+fn asks_about(rule: StatementRule, word: Reserved) -> bool
+    ensures { result ≡ spec.asks_about rule word }
+{
+    match rule {
+        StatementRule::WrongPicture => matches!(word, Reserved::Print),
+        StatementRule::WrongMain => matches!(word, Reserved::Main),
+        StatementRule::SecondPriority => matches!(word, Reserved::Priority),
+        StatementRule::WrongStart => matches!(word, Reserved::Start),
+        StatementRule::WithoutFind => matches!(word, Reserved::If),
+    }
+}
+
+/// The same of a word of the text.
+fn asks_at(rule: StatementRule, word: &PlainWord<'_>) -> bool
+    ensures { result ≡ spec.asks_at rule (plain_at word.now) }
+{
+    match word.kind().mark() {
+        Some(Mark::Reserved(reserved)) => asks_about(rule, reserved),
+        _ => false,
+    }
+}
+
+/// Whether FOUND or NONE stands here.
+fn is_of_find(mark: Option<Mark>) -> bool
+    ensures { result ≡ spec.is_of_find mark }
+{
+    matches!(
+        mark,
+        Some(Mark::Reserved(Reserved::Found | Reserved::NoneFound))
+    )
+}
+
+fn is_find(word: Option<Reserved>) -> bool
+    ensures { result ≡ spec.is_find word }
+{
+    matches!(word, Some(Reserved::Find))
+}
+
+/// Whether the statement before these words breaks a rule that asks about it.
+fn is_broken(rule: StatementRule, track: Track<'_>, here: Here, behind: &[PlainWord<'_>]) -> bool
+    ensures { result
+        ≡ spec.is_broken rule (landmarks_at track.entry) here (map plain_at behind.now) }
+{
+    match rule {
+        StatementRule::WrongPicture => true,
+        StatementRule::WrongMain => track.main > 0,
+        StatementRule::SecondPriority => track.priority > 0,
+        StatementRule::WrongStart => !track.section.is_empty(),
+        StatementRule::WithoutFind => is_of_find(first_mark(behind)) && !is_find(here.begun),
+    }
+}
+
+/// Whether a word on this line begins a statement that breaks a rule.
+fn is_broken_at(
+    rule: StatementRule,
+    line: usize,
+    track: Track<'_>,
+    here: Here,
+    word: &PlainWord<'_>,
+    behind: &[PlainWord<'_>],
+) -> bool
+    ensures { result ≡ spec.is_broken_at rule line (landmarks_at track.entry) here
+        (plain_at word.now) (map plain_at behind.now) }
+{
+    word.line() == line && asks_at(rule, word) && is_broken(rule, track, here, behind)
+}
+
+/// Where a statement begins: what stands before its first word, and the words behind that.
+#[derive(Clone, Copy)]
+pub struct Beginning<'a, 'b> {
+    /// The line of the first MAIN, and of the first PRIORITY; 0 where there is none.
+    pub main: usize,
+    pub priority: usize,
+    /// The name of the section, and the line of its head.
+    pub section: &'a [u8],
+    pub head: usize,
+    pub here: Here,
+    pub behind: &'b [PlainWord<'a>],
+}
+
+/// The first statement that begins on a line and breaks a rule.
+#[tactic(auto, unfolding(crate::specs::Statements::statement))]
+fn first_statement<'a, 'b>(
+    rule: StatementRule,
+    line: usize,
+    words: &'b [PlainWord<'a>],
+) -> Option<Beginning<'a, 'b>>
+    ensures { option_map spec.spot_at result
+        ≡ spec.statement rule line no_landmarks at_start (map plain_at words.now) }
+{
+    let mut here = Here::at_start();
+    let mut track: Track<'a> = track_at_start();
+    let mut rest = words;
+    while let [word, behind @ ..] = rest {
+        let at = here_at(here, word);
+        if is_broken_at(rule, line, track, at, word, behind) {
+            return Some(Beginning {
+                main: track.main,
+                priority: track.priority,
+                section: track.section,
+                head: track.head,
+                here: at,
+                behind,
+            });
+        }
+        track = track_behind(track, at, word);
+        here = at.behind(word.kind(), word.line(), behind);
+        rest = behind;
+    }
+    None
+}
+
+fn is_main(mark: Option<Mark>) -> bool
+    ensures { result ≡ spec.is_main mark }
+{
+    matches!(mark, Some(Mark::Reserved(Reserved::Main)))
+}
+
+/// Whether MAIN stands among words.
+#[tactic(auto, unfolding(crate::specs::Statements::has_main))]
+fn has_main(words: &[PlainWord<'_>]) -> bool
+    ensures { result ≡ spec.has_main (map plain_at words.now) }
+{
+    let mut rest = words;
+    while let [word, behind @ ..] = rest {
+        if is_main(word.kind().mark()) {
+            return true;
+        }
+        rest = behind;
+    }
+    false
+}
+
+/// Appends the section in which a statement stands.
+fn push_section(text: &mut Vec<u8>, section: &[u8], line: usize) -> Result<(), AllocError>
+    ensures { OnOk result (text.new.items
+        ≡ text.old.items ++ spec.section_text section.now line) }
+{
+    text.extend_from_slice(b"It stands in the section ")?;
+    text.extend_from_slice(section)?;
+    push_number(text, b", line ", line, b".\n")
+}
+
+/// Appends what is said of a PRINT before these words.
+fn push_print(alloc: Global, text: &mut Vec<u8>, behind: &[PlainWord<'_>]) -> Result<(), AllocError>
+    ensures { OnOk result (text.new.items ≡ text.old.items
+        ++ pictures.picture_text (pictures.value_count (map plain_at behind.now))
+        (pictures.fields_of (map plain_at behind.now))) }
+{
+    let fields = fields_of(alloc, behind)?;
+    push_picture_text(text, value_count(behind), fields)
+}
+
+/// Appends what is said of a statement that breaks a rule.
+fn push_statement(
+    alloc: Global,
+    text: &mut Vec<u8>,
+    rule: StatementRule,
+    at: Beginning<'_, '_>,
+) -> Result<(), AllocError>
+    ensures { OnOk result (text.new.items
+        ≡ text.old.items ++ spec.statement_text rule (spec.spot_at at.entry)) }
+{
+    match rule {
+        StatementRule::WrongPicture => push_print(alloc, text, at.behind),
+        StatementRule::WrongMain => {
+            push_number(text, b"The first MAIN stands on line ", at.main, b".\n")
+        }
+        StatementRule::SecondPriority => push_number(
+            text,
+            b"The first PRIORITY stands on line ",
+            at.priority,
+            b".\n",
+        ),
+        StatementRule::WrongStart => push_section(text, at.section, at.head),
+        StatementRule::WithoutFind => push_number(
+            text,
+            b"What begins on line ",
+            at.here.line,
+            b" stands before it, and is no FIND.\n",
+        ),
+    }
+}
+
+fn is_main_rule(rule: StatementRule) -> bool
+    ensures { result ≡ spec.is_main_rule rule }
+{
+    matches!(rule, StatementRule::WrongMain)
+}
+
+/// Appends what is said where there is no such statement: that no section is MAIN.
+fn push_no_statement(
+    text: &mut Vec<u8>,
+    rule: StatementRule,
+    words: &[PlainWord<'_>],
+) -> Result<(), AllocError>
+    ensures { OnOk result (text.new.items
+        ≡ text.old.items ++ spec.no_statement_text rule (map plain_at words.now)) }
+{
+    if is_main_rule(rule) && !has_main(words) {
+        return text.extend_from_slice(b"No section is MAIN.\n");
+    }
+    Ok(())
+}
+
+/// Appends what is said of the first statement that begins on a line and breaks a rule.
+pub fn push_statement_breach(
+    alloc: Global,
+    text: &mut Vec<u8>,
+    rule: StatementRule,
+    line: usize,
+    words: &[PlainWord<'_>],
+) -> Result<(), AllocError>
+    ensures { OnOk result (text.new.items
+        ≡ text.old.items ++ spec.statement_breach rule line (map plain_at words.now)) }
+{
+    match first_statement(rule, line, words) {
+        Some(at) => push_statement(alloc, text, rule, at),
+        None => push_no_statement(text, rule, words),
+    }
+}
+
+ghost use Rattle.std.specs.Prelude.{option_map};
+ghost use Rattle.ss_names.specs.Landmarks.{landmarks_at, no_landmarks};
+ghost use Rattle.ss_names.specs.Pictures as pictures;
