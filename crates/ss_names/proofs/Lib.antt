@@ -1,2 +1,2 @@
 pub mod CountMaps
-pub mod DeclarationPlaces
+pub mod RowPlaces

@@ -15,11 +15,11 @@ use Rattle.ss_names.specs.declared.meaning.Meaning.{Meaning}
 use Rattle.ss_names.specs.declared.meaning.Meaning.TheVariants as m
 use Rattle.ss_names.specs.declared.position.Position.{Position}
 use Rattle.ss_names.specs.declared.position.Position.TheVariants as p
-use Rattle.ss_names.specs.Known.{Known, known, given}
+use Rattle.ss_names.specs.Known.{Knowledge, knowledge_of, knowledge_given}
 use Rattle.ss_names.specs.Meanings.{Declaration, declared_as, may_repeat}
 
 -- what a text declares, and what its items say of sets and events
-pub record Facts : Type 0 where
+pub record TextFacts : Type 0 where
   -- what names are declared as
   pub names : List Declaration
   -- the sets behind OWNS
@@ -89,8 +89,8 @@ where_so true x = Some x
 where_so false x = None
 
 -- what a name is
-abbrev pub known_in : Facts → List ℕ → Known
-known_in f n = known f.names n
+abbrev pub known_in : TextFacts → List ℕ → Knowledge
+known_in f n = knowledge_of f.names n
 
 -- ---- C1
 
@@ -100,7 +100,7 @@ is_undeclared_as k.Undeclared = true
 is_undeclared_as _ = false
 
 -- declared nowhere
-abbrev pub is_undeclared : Known → Bool
+abbrev pub is_undeclared : Knowledge → Bool
 is_undeclared a = is_undeclared_as a.what
 
 -- a second declaration goes with the first
@@ -109,16 +109,16 @@ repeats first (Some second) = may_repeat first second
 repeats first None = false
 
 -- the language, a set or a class gives a name, whatever else it is declared as
-abbrev pub is_given : Facts → List ℕ → Bool
-is_given f n = not (is_undeclared (given f.names n))
+abbrev pub is_given : TextFacts → List ℕ → Bool
+is_given f n = not (is_undeclared (knowledge_given f.names n))
 
 -- what is declared here conflicts with this first declaration of its name
-abbrev pub conflicts_with : Facts → Standpoint → Option Declaration → Bool
+abbrev pub conflicts_with : TextFacts → Standpoint → Option Declaration → Bool
 conflicts_with f a (Some d) = if not (d.index == a.index) then not (repeats d.meaning a.declared) else is_given f a.name
 conflicts_with f a None = false
 
 -- a name that is declared here is declared before as what does not go with that, or is given
-abbrev pub conflicts : Facts → Standpoint → Bool
+abbrev pub conflicts : TextFacts → Standpoint → Bool
 conflicts f a = conflicts_with f a (declared_as f.names a.name)
 
 -- the first of some places of a name stands before this one
@@ -141,24 +141,24 @@ abbrev pub is_in_define : Standpoint → Bool
 is_in_define a = is_set_here a.declared && is_define a.last
 
 -- a name that is declared here conflicts, or is a set whose discipline is given before
-abbrev pub wrong_declaration : Facts → Standpoint → Option Wrong
+abbrev pub wrong_declaration : TextFacts → Standpoint → Option Wrong
 wrong_declaration f a = if conflicts f a
     then Some w.DeclaredTwice
     else where_so (is_in_define a && stands_before a (declared_as f.disciplines a.name)) w.DisciplinedTwice
 
 -- a parameter is declared or given, or stands again
-abbrev pub wrong_parameter : Facts → Standpoint → Option Wrong
+abbrev pub wrong_parameter : TextFacts → Standpoint → Option Wrong
 wrong_parameter f a =
     if not (is_undeclared (known_in f a.name)) then Some w.DeclaredTwice else where_so a.repeated w.ParameterTwice
 
 -- an event of an item that this word begins: behind BREAK its ties are broken before; it is named external before
-abbrev pub wrong_item : Facts → Standpoint → Option AReserved → Option Wrong
+abbrev pub wrong_item : TextFacts → Standpoint → Option AReserved → Option Wrong
 wrong_item f a (Some r.Break) = where_so (stands_before a (declared_as f.ties a.name)) w.BrokenTwice
 wrong_item f a (Some r.External) = where_so (stands_before a (declared_as f.externals a.name)) w.ExternalTwice
 wrong_item f a _ = None
 
 -- what is wrong with a declaration, a parameter, an event of an item, or an event with a section before
-abbrev pub second_at : Facts → Standpoint → Position → Option Wrong
+abbrev pub second_at : TextFacts → Standpoint → Position → Option Wrong
 second_at f a p.Declared = wrong_declaration f a
 second_at f a p.Local = wrong_parameter f a
 second_at f a p.Head = where_so (stands_before a (declared_as f.sections a.name)) w.DeclaredTwice
@@ -166,7 +166,7 @@ second_at f a p.EventClass = wrong_item f a a.begun
 second_at f a _ = None
 
 -- C1
-abbrev pub second_declaration : Facts → Standpoint → Option Wrong
+abbrev pub second_declaration : TextFacts → Standpoint → Option Wrong
 second_declaration f a = second_at f a a.position
 
 -- ---- C2
@@ -201,7 +201,7 @@ serves p.Declared x = not (is_headless x)
 serves _ x = true
 
 -- C2
-abbrev pub is_wrong_class : Facts → Standpoint → Bool
+abbrev pub is_wrong_class : TextFacts → Standpoint → Bool
 is_wrong_class f a = not (serves a.position (known_in f a.name).what)
 
 -- ---- C3
@@ -232,12 +232,12 @@ owns_none (Some d) = is_no_name d.of
 owns_none None = false
 
 -- the system owns a set
-abbrev pub is_of_system : Facts → List ℕ → Bool
+abbrev pub is_of_system : TextFacts → List ℕ → Bool
 is_of_system f s = owns_none (declared_as f.owned s)
 
 -- what may stand before a parenthesis: an attribute, a function, what is kept of members, or of owners that are no
 -- system; and a set, since IS EMPTY may stand behind its subscript
-abbrev pub takes_as : Facts → What → List ℕ → Bool
+abbrev pub takes_as : TextFacts → What → List ℕ → Bool
 takes_as f (k.Declared m.Attribute) of = true
 takes_as f (k.Declared m.Set) of = true
 takes_as f k.OfMembers of = true
@@ -246,15 +246,15 @@ takes_as f k.OfOwners of = not (is_of_system f of)
 takes_as f _ of = false
 
 -- the same of what a name is
-abbrev pub takes_subscript : Facts → Known → Bool
+abbrev pub takes_subscript : TextFacts → Knowledge → Bool
 takes_subscript f a = takes_as f a.what a.of
 
 -- a name is no value, or stands before a parenthesis and takes none
-abbrev pub is_wrong_value : Facts → Known → Bool → Bool
+abbrev pub is_wrong_value : TextFacts → Knowledge → Bool → Bool
 is_wrong_value f a opens = if opens then not (takes_subscript f a) else is_valueless a.what
 
 -- a name that is this is used as what it is not
-abbrev pub is_misused_as : Facts → Standpoint → Known → Position → Bool
+abbrev pub is_misused_as : TextFacts → Standpoint → Knowledge → Position → Bool
 is_misused_as f a x p.Routine = not (is_routine x.what)
 is_misused_as f a x p.InSet = not (is_set x.what) || (a.opens && is_of_system f a.name)
 is_misused_as f a x p.Target = is_wrong_value f x a.opens
@@ -262,7 +262,7 @@ is_misused_as f a x p.Value = is_wrong_value f x a.opens
 is_misused_as f a x _ = false
 
 -- C3
-abbrev pub is_misused : Facts → Standpoint → Bool
+abbrev pub is_misused : TextFacts → Standpoint → Bool
 is_misused f a = is_misused_as f a (known_in f a.name) a.position
 
 -- ---- C4 and C5
@@ -283,7 +283,7 @@ wrong_owner_by a (Some d) = where_so (is_owns a.last && nat_lt d.index a.index) 
 wrong_owner_by a None = Some w.Ownerless
 
 -- C4
-abbrev pub wrong_owner : Facts → Standpoint → Option Wrong
+abbrev pub wrong_owner : TextFacts → Standpoint → Option Wrong
 wrong_owner f a = if not (is_set_here a.declared) then None else wrong_owner_by a (declared_as f.owned a.name)
 
 -- of a set with this first BELONGS TO: that of the system gives no members, and a second one is wrong
@@ -298,7 +298,7 @@ wrong_member_by a (Some d) = wrong_joining d a
 wrong_member_by a None = Some w.Memberless
 
 -- C5
-abbrev pub wrong_member : Facts → Standpoint → Option Wrong
+abbrev pub wrong_member : TextFacts → Standpoint → Option Wrong
 wrong_member f a = if not (is_set_here a.declared) then None else wrong_member_by a (declared_as f.joined a.name)
 
 -- ---- C6
@@ -314,25 +314,25 @@ is_attribute (k.Declared m.Attribute) = true
 is_attribute _ = false
 
 -- what a name is is no attribute of a class
-abbrev pub is_no_attribute_of : List ℕ → Known → Bool
+abbrev pub is_no_attribute_of : List ℕ → Knowledge → Bool
 is_no_attribute_of class x = not (is_attribute x.what) || not (bytes_eq x.of class)
 
 -- C6
-abbrev pub is_wrong_key : Facts → Standpoint → Bool
+abbrev pub is_wrong_key : TextFacts → Standpoint → Bool
 is_wrong_key f a = if not (is_key a.position) then false else is_no_attribute_of a.ranked (known_in f a.name)
 
 -- ---- C8 and C12
 
 -- an event class
-abbrev pub is_event : Facts → List ℕ → Bool
+abbrev pub is_event : TextFacts → List ℕ → Bool
 is_event f n = is_event_class (known_in f n).what
 
 -- an event class without a section
-abbrev pub lacks_section : Facts → List ℕ → Bool
+abbrev pub lacks_section : TextFacts → List ℕ → Bool
 lacks_section f n = is_event f n && not (is_some (declared_as f.sections n))
 
 -- a head is of no event; an event that is named has no section
-abbrev pub wrong_event_at : Facts → Standpoint → Position → Option Wrong
+abbrev pub wrong_event_at : TextFacts → Standpoint → Position → Option Wrong
 wrong_event_at f a p.Head = where_so (not (is_event f a.name)) w.NoEvent
 wrong_event_at f a p.Declared = where_so (lacks_section f a.name) w.NoSection
 wrong_event_at f a p.EventClass = where_so (lacks_section f a.name) w.NoSection
@@ -340,7 +340,7 @@ wrong_event_at f a p.Ordered = where_so (lacks_section f a.name) w.NoSection
 wrong_event_at f a _ = None
 
 -- C8
-abbrev pub wrong_event : Facts → Standpoint → Option Wrong
+abbrev pub wrong_event : TextFacts → Standpoint → Option Wrong
 wrong_event f a = wrong_event_at f a a.position
 
 -- behind PRIORITY ORDER IS
@@ -349,13 +349,13 @@ is_ordered p.Ordered = true
 is_ordered _ = false
 
 -- a name there is no event class, or stands there before
-abbrev pub wrong_ordered : Facts → Standpoint → Option Wrong
+abbrev pub wrong_ordered : TextFacts → Standpoint → Option Wrong
 wrong_ordered f a = if not (is_event f a.name)
     then Some w.NoEvent
     else where_so (stands_before a (declared_as f.ordered a.name)) w.OrderedTwice
 
 -- C12
-abbrev pub wrong_priority : Facts → Standpoint → Option Wrong
+abbrev pub wrong_priority : TextFacts → Standpoint → Option Wrong
 wrong_priority f a = if not (is_ordered a.position) then None else wrong_ordered f a
 
 -- ---- C9
@@ -391,13 +391,13 @@ wrong_target_at x p.LoopVariable = where_so (not (is_variable x)) w.NoVariable
 wrong_target_at x _ = None
 
 -- C9
-abbrev pub wrong_target : Facts → Standpoint → Option Wrong
+abbrev pub wrong_target : TextFacts → Standpoint → Option Wrong
 wrong_target f a = wrong_target_at (known_in f a.name).what a.position
 
 -- ---- all of them
 
 -- what a name breaks of a rule where it stands, if it does
-abbrev pub wrong : Facts → NameRule → Standpoint → Option Wrong
+abbrev pub wrong : TextFacts → NameRule → Standpoint → Option Wrong
 wrong f rule.DeclaredTwice a = second_declaration f a
 wrong f rule.WrongClass a = where_so (is_wrong_class f a) w.WrongClass
 wrong f rule.WrongUse a = where_so (is_misused f a) w.WrongUse

@@ -6,7 +6,8 @@ use Rattle.ss_words.specs.declared.reserved.Reserved.{Reserved as AReserved}
 use Rattle.ss_words.specs.declared.reserved.Reserved.TheVariants as r
 use Rattle.ss_words.specs.Plain.{PlainAt, name, number, mark, picture}
 use Rattle.ss_names.specs.declared.collected.Wanted.{Wanted}
-use Rattle.ss_names.specs.declared.collected.Wanted.TheVariants.{Declared, Owned, Joined, Sections, Keys, Ordered, Disciplines, Ties, Externals}
+use Rattle.ss_names.specs.declared.collected.Wanted.TheVariants.{Declared, Owned, Joined, Sections, Keys, Ordered}
+use Rattle.ss_names.specs.declared.collected.Wanted.TheVariants.{Disciplines, Ties, Externals}
 use Rattle.ss_names.specs.declared.here.Here.{Here}
 use Rattle.ss_names.specs.declared.meaning.Meaning.{Meaning}
 use Rattle.ss_names.specs.declared.meaning.Meaning.TheVariants as m
@@ -164,8 +165,8 @@ with_word ds wanted h class w ws = elim w.word [
 ]
 
 -- what is collected behind others of words, the first place of each name
-unfoldable pub collected : Wanted → List Declaration → Here → List ℕ → List PlainAt → List Declaration
-collected wanted ds h class [] = ds
-collected wanted ds h class (w ∷ ws) =
+unfoldable pub collection : Wanted → List Declaration → Here → List ℕ → List PlainAt → List Declaration
+collection wanted ds h class [] = ds
+collection wanted ds h class (w ∷ ws) =
     let k = here_at h w in
-    collected wanted (with_word ds wanted k class w ws) (behind k w.word w.line ws) (class_at k class w) ws
+    collection wanted (with_word ds wanted k class w ws) (behind k w.word w.line ws) (class_at k class w) ws

@@ -10,7 +10,7 @@ use Rattle.ss_names.specs.declared.meaning.Meaning.TheVariants as m
 use Rattle.ss_names.specs.declared.position.Position.{Position}
 use Rattle.ss_names.specs.declared.position.Position.TheVariants as p
 use Rattle.ss_names.specs.declared.values.List.TheVariants as l
-use Rattle.ss_names.specs.Breaches.{Facts, Standpoint, known_in}
+use Rattle.ss_names.specs.Breaches.{TextFacts, Standpoint, known_in}
 use Rattle.ss_names.specs.Meanings.{Declaration, declared_as}
 use Rattle.ss_names.specs.Values.{arguments, given_count, in_list}
 
@@ -19,7 +19,7 @@ abbrev pub differs : Declaration → List PlainAt → Bool
 differs d behind = not (given_count behind == d.given) || not (in_list l.Yielded behind == d.yielded)
 
 -- how many attributes a class has
-abbrev pub attribute_count : Facts → List ℕ → ℕ
+abbrev pub attribute_count : TextFacts → List ℕ → ℕ
 attribute_count f class = count_by (bytes_eq class) f.attributes
 
 -- a function takes so many values
@@ -36,7 +36,7 @@ has_wrong_arguments_as a ws k.OfMembers = a.opens && not (arguments ws == 1)
 has_wrong_arguments_as a ws _ = false
 
 -- a value or target has another count
-abbrev pub has_wrong_arguments : Facts → Standpoint → List PlainAt → Bool
+abbrev pub has_wrong_arguments : TextFacts → Standpoint → List PlainAt → Bool
 has_wrong_arguments f a ws = has_wrong_arguments_as a ws (known_in f a.name).what
 
 -- a routine that is declared so, if it is, has other counts
@@ -45,15 +45,15 @@ is_wrong_call_of behind (Some d) = differs d behind
 is_wrong_call_of behind None = false
 
 -- the routine that a CALL names has
-abbrev pub is_wrong_call : Facts → Standpoint → List PlainAt → Bool
+abbrev pub is_wrong_call : TextFacts → Standpoint → List PlainAt → Bool
 is_wrong_call f a behind = is_wrong_call_of behind (declared_as f.names a.name)
 
 -- more values than a class has attributes
-abbrev pub is_past_attributes : Facts → Standpoint → List PlainAt → Bool
+abbrev pub is_past_attributes : TextFacts → Standpoint → List PlainAt → Bool
 is_past_attributes f a behind = nat_lt (attribute_count f a.name) (given_count behind)
 
 -- where a name stands so
-abbrev pub has_wrong_count_at : Facts → Standpoint → List PlainAt → Position → Bool
+abbrev pub has_wrong_count_at : TextFacts → Standpoint → List PlainAt → Position → Bool
 has_wrong_count_at f a behind p.Routine = is_wrong_call f a behind
 has_wrong_count_at f a behind p.EventClass = is_past_attributes f a behind
 has_wrong_count_at f a behind p.Head = is_past_attributes f a behind
@@ -62,5 +62,5 @@ has_wrong_count_at f a behind p.Value = has_wrong_arguments f a behind
 has_wrong_count_at f a behind _ = false
 
 -- C7: a name has another count of values behind it than it takes
-abbrev pub has_wrong_count : Facts → Standpoint → List PlainAt → Bool
+abbrev pub has_wrong_count : TextFacts → Standpoint → List PlainAt → Bool
 has_wrong_count f a behind = has_wrong_count_at f a behind a.position

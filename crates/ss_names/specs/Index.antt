@@ -8,9 +8,9 @@ use Rattle.ss_words.specs.Words.{WordAt}
 use Rattle.ss_names.specs.declared.roles.Role.{Role}
 use Rattle.ss_names.specs.declared.roles.Role.TheVariants.{Declared, Set, Read, Named}
 use Rattle.ss_names.specs.declared.collected.Wanted.TheVariants as wanted
-use Rattle.ss_names.specs.Collected.{collected}
+use Rattle.ss_names.specs.Collected.{collection}
 use Rattle.ss_names.specs.Here as here
-use Rattle.ss_names.specs.Known.{known, known_text}
+use Rattle.ss_names.specs.Known.{knowledge_of, known_text}
 use Rattle.ss_names.specs.Names.{names_in}
 use Rattle.ss_names.specs.Roles.{at_start, lines_with, names_with}
 use Rattle.ss_names.specs.Unread.{is_only}
@@ -90,7 +90,7 @@ name_head n count = n ++ codes ": " ++ decimal count
 
 -- what it is, and where it is declared
 abbrev pub what_told : List PlainAt → List ℕ → List ℕ
-what_told plain n = codes ", " ++ known_text (known (collected wanted.Declared [] here.at_start [] plain) n)
+what_told plain n = codes ", " ++ known_text (knowledge_of (collection wanted.Declared [] here.at_start [] plain) n)
 
 -- a name, how often it stands, and what it is
 unfoldable pub name_front : List PlainAt → List ℕ → ℕ → List ℕ

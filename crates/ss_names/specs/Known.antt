@@ -2,7 +2,7 @@
 use Rattle.std.specs.Prelude.{ℕ, ◌==◌, Bool, true, false, nat_lt, List, [], ◌++◌, length, map, take, drop, codes}
 use Rattle.std.specs.Prelude.{decimal, Option, Some, None, if◌then◌else◌}
 use Rattle.ss_columns.specs.Reserved.{is_among}
-use Rattle.ss_names.specs.declared.known.Known.{Known as CodeKnown}
+use Rattle.ss_names.specs.declared.known.Known.{Known}
 use Rattle.ss_names.specs.declared.known.TheConstants.{CLOCK, FUNCTIONS, OF_CLASS, OF_OWNERS, OF_MEMBERS}
 use Rattle.ss_names.specs.declared.known.What.{What}
 use Rattle.ss_names.specs.declared.known.What.TheVariants as k
@@ -11,7 +11,7 @@ use Rattle.ss_names.specs.declared.meaning.Meaning.TheVariants as m
 use Rattle.ss_names.specs.Meanings.{Declaration, declared_as}
 
 -- what a name is, of which class or set, and the line of the declaration, 0 where there is none
-pub record Known : Type 0 where
+pub record Knowledge : Type 0 where
   -- what it is
   pub what : What
   -- of which class or set
@@ -20,15 +20,15 @@ pub record Known : Type 0 where
   pub line : ℕ
 
 -- what the code knows of a name
-abbrev pub known_at : CodeKnown → Known
+abbrev pub known_at : Known → Knowledge
 known_at a = record { what = a.what; of = a.of.now; line = a.line }
 
 -- declared nowhere
-abbrev pub undeclared : Known
-undeclared = record { what = k.Undeclared; of = []; line = 0 }
+abbrev pub no_knowledge : Knowledge
+no_knowledge = record { what = k.Undeclared; of = []; line = 0 }
 
 -- given by the language
-abbrev pub of_language : What → Known
+abbrev pub of_language : What → Knowledge
 of_language what = record { what = what; of = []; line = 0 }
 
 -- before the name of a set: F., L. and N. of its owners, P., S. and M. of its members
@@ -47,31 +47,31 @@ companion_what front m.Permanent = count_what front
 companion_what front _ = k.Undeclared
 
 -- before a declared name
-abbrev pub companion_of : List ℕ → Declaration → Known
+abbrev pub companion_of : List ℕ → Declaration → Knowledge
 companion_of front d = record { what = companion_what front d.meaning; of = d.name; line = d.line }
 
 -- before a name, if that is declared
-abbrev pub companion_by : List ℕ → Option Declaration → Known
+abbrev pub companion_by : List ℕ → Option Declaration → Knowledge
 companion_by front (Some d) = companion_of front d
-companion_by front None = undeclared
+companion_by front None = no_knowledge
 
 -- a name that begins as those do that are kept of a set or class
-abbrev pub companion : List Declaration → List ℕ → Known
-companion ds n = if nat_lt (length n) 3 then undeclared else companion_by (take 2 n) (declared_as ds (drop 2 n))
+abbrev pub companion : List Declaration → List ℕ → Knowledge
+companion ds n = if nat_lt (length n) 3 then no_knowledge else companion_by (take 2 n) (declared_as ds (drop 2 n))
 
 -- what the language, a set or a class gives a name, whatever else it is declared as
-abbrev pub given : List Declaration → List ℕ → Known
-given ds n = if is_among n (map (λ row. row.now) CLOCK) then of_language k.Clock else
+abbrev pub knowledge_given : List Declaration → List ℕ → Knowledge
+knowledge_given ds n = if is_among n (map (λ row. row.now) CLOCK) then of_language k.Clock else
     if is_among n (map (λ row. row.now) FUNCTIONS) then of_language k.Function else companion ds n
 
 -- by its own declaration, if it has one, and else by what is given
-abbrev pub known_by : List Declaration → List ℕ → Option Declaration → Known
+abbrev pub known_by : List Declaration → List ℕ → Option Declaration → Knowledge
 known_by ds n (Some d) = record { what = k.Declared d.meaning; of = d.of; line = d.line }
-known_by ds n None = given ds n
+known_by ds n None = knowledge_given ds n
 
 -- what a name is
-abbrev pub known : List Declaration → List ℕ → Known
-known ds n = known_by ds n (declared_as ds n)
+abbrev pub knowledge_of : List Declaration → List ℕ → Knowledge
+knowledge_of ds n = known_by ds n (declared_as ds n)
 
 -- ---- as it is told
 
@@ -114,5 +114,5 @@ abbrev pub line_text : ℕ → List ℕ
 line_text line = if line == 0 then [] else codes ", line " ++ decimal line
 
 -- what a name is, of which class or set, and where that is declared
-abbrev pub known_text : Known → List ℕ
+abbrev pub known_text : Knowledge → List ℕ
 known_text a = what_text a.what ++ of_text (tells_of a.what) a.of ++ line_text a.line

@@ -15,7 +15,7 @@ use Rattle.ss_names.specs.Collected.{here_at}
 use Rattle.ss_names.specs.Here.{behind}
 use Rattle.ss_names.specs.Meanings.{Declaration, declared_as}
 use Rattle.ss_names.specs.Positions.{opens, position}
-use Rattle.ss_names.specs.Saying.{warning}
+use Rattle.ss_names.specs.Saying.{warning_line}
 
 -- ---- what was filed last
 
@@ -117,7 +117,7 @@ is_told names keys member set h n ws =
 abbrev pub ranked_name :
     List Declaration → List Declaration → List ℕ → List ℕ → Here → List ℕ → ℕ → List PlainAt → List ℕ
 ranked_name names keys member set h n line ws =
-    elim (is_told names keys member set h n ws) [ true ↦ warning line n RANKED.now | false ↦ [] ]
+    elim (is_told names keys member set h n ws) [ true ↦ warning_line line n RANKED.now | false ↦ [] ]
 
 -- what is said of a word
 abbrev pub ranked_word :

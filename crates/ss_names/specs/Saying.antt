@@ -2,8 +2,8 @@
 use Rattle.std.specs.Prelude.{ℕ, List, ◌++◌, codes, decimal}
 
 -- a line, a name and what is said of it
-abbrev pub warning : ℕ → List ℕ → List ℕ → List ℕ
-warning line n said = codes "Line " ++ decimal line ++ codes ": " ++ n ++ said
+abbrev pub warning_line : ℕ → List ℕ → List ℕ → List ℕ
+warning_line line n said = codes "Line " ++ decimal line ++ codes ": " ++ n ++ said
 
 -- a number between what is said before it and behind it
 unfoldable pub number_text : List ℕ → ℕ → List ℕ → List ℕ

@@ -11,15 +11,16 @@ use Rattle.ss_names.specs.declared.breach.NameRule.TheVariants as rule
 use Rattle.ss_names.specs.declared.breach.Wrong.{Wrong}
 use Rattle.ss_names.specs.declared.breach.Wrong.TheVariants as w
 use Rattle.ss_names.specs.declared.breaches.Subject.{Subject as CodeSubject}
-use Rattle.ss_names.specs.declared.collected.Wanted.TheVariants.{Declared, Owned, Joined, Sections, Ordered, Disciplines, Ties, Externals}
+use Rattle.ss_names.specs.declared.collected.Wanted.TheVariants.{Declared, Owned, Joined, Sections, Ordered}
+use Rattle.ss_names.specs.declared.collected.Wanted.TheVariants.{Disciplines, Ties, Externals}
 use Rattle.ss_names.specs.declared.here.Here.{Here}
 use Rattle.ss_names.specs.declared.known.What.{What}
 use Rattle.ss_names.specs.declared.known.What.TheVariants as k
-use Rattle.ss_names.specs.Breaches.{Facts, Standpoint, wrong, rule_of, where_so}
+use Rattle.ss_names.specs.Breaches.{TextFacts, Standpoint, wrong, rule_of, where_so}
 use Rattle.ss_names.specs.Counts.{has_wrong_count}
-use Rattle.ss_names.specs.Collected.{collected, here_at}
+use Rattle.ss_names.specs.Collected.{collection, here_at}
 use Rattle.ss_names.specs.Here.{at_start, behind}
-use Rattle.ss_names.specs.Known.{Known, known, given, known_text}
+use Rattle.ss_names.specs.Known.{Knowledge, knowledge_of, knowledge_given, known_text}
 use Rattle.ss_names.specs.Meanings.{Declaration, attribute_classes, declared_as}
 use Rattle.ss_names.specs.Parameters.{is_repeated}
 use Rattle.ss_names.specs.Positions.{opens, position}
@@ -38,16 +39,16 @@ abbrev pub subject_at : CodeSubject → Subject
 subject_at a = record { name = a.name.now; wrong = a.wrong }
 
 -- what a text declares, and what it says of sets and events
-abbrev pub facts_of : List PlainAt → Facts
-facts_of ws = let names = collected Declared [] at_start [] ws in record {
+abbrev pub facts_of : List PlainAt → TextFacts
+facts_of ws = let names = collection Declared [] at_start [] ws in record {
   names = names;
-  owned = collected Owned [] at_start [] ws;
-  joined = collected Joined [] at_start [] ws;
-  sections = collected Sections [] at_start [] ws;
-  ordered = collected Ordered [] at_start [] ws;
-  disciplines = collected Disciplines [] at_start [] ws;
-  ties = collected Ties [] at_start [] ws;
-  externals = collected Externals [] at_start [] ws;
+  owned = collection Owned [] at_start [] ws;
+  joined = collection Joined [] at_start [] ws;
+  sections = collection Sections [] at_start [] ws;
+  ordered = collection Ordered [] at_start [] ws;
+  disciplines = collection Disciplines [] at_start [] ws;
+  ties = collection Ties [] at_start [] ws;
+  externals = collection Externals [] at_start [] ws;
   attributes = attribute_classes names;
 }
 
@@ -73,22 +74,22 @@ class_in (Some d) = d.of
 class_in None = []
 
 -- the class of a set's members, empty where there is none
-abbrev pub members_of : Facts → List ℕ → List ℕ
+abbrev pub members_of : TextFacts → List ℕ → List ℕ
 members_of f s = class_in (declared_as f.joined s)
 
 -- behind a name in a list behind this word: of a set that DEFINE names its members', of an event that BREAK names the
 -- event
-abbrev pub ranked_behind_word : Facts → Option AReserved → List ℕ → List ℕ → List ℕ
+abbrev pub ranked_behind_word : TextFacts → Option AReserved → List ℕ → List ℕ → List ℕ
 ranked_behind_word f (Some r.Define) ranked n = members_of f n
 ranked_behind_word f (Some r.Break) ranked n = n
 ranked_behind_word f _ ranked n = ranked
 
 -- behind a name
-abbrev pub ranked_behind : Facts → Here → List ℕ → List ℕ → List ℕ
+abbrev pub ranked_behind : TextFacts → Here → List ℕ → List ℕ → List ℕ
 ranked_behind f h ranked n = ranked_behind_word f h.last ranked n
 
 -- behind a word
-abbrev pub ranked_at : Facts → Here → List ℕ → PlainAt → List ℕ
+abbrev pub ranked_at : TextFacts → Here → List ℕ → PlainAt → List ℕ
 ranked_at f h ranked w = elim w.word [
   | name n ↦ ranked_behind f h ranked n
   | number n ↦ ranked
@@ -99,22 +100,22 @@ ranked_at f h ranked w = elim w.word [
 -- ---- the first name that breaks a rule
 
 -- a name with what is wrong with it
-abbrev pub named : List ℕ → Option Wrong → Option Subject
-named n (Some x) = Some (record { name = n; wrong = x })
-named n None = None
+abbrev pub subject_with : List ℕ → Option Wrong → Option Subject
+subject_with n (Some x) = Some (record { name = n; wrong = x })
+subject_with n None = None
 
 -- what a name breaks of a rule, before these words
-abbrev pub broken : Facts → NameRule → Standpoint → List PlainAt → Option Wrong
-broken f rule.WrongCount a ws = where_so (has_wrong_count f a ws) w.WrongCount
-broken f x a ws = wrong f x a
+abbrev pub wrong_before : TextFacts → NameRule → Standpoint → List PlainAt → Option Wrong
+wrong_before f rule.WrongCount a ws = where_so (has_wrong_count f a ws) w.WrongCount
+wrong_before f x a ws = wrong f x a
 
 -- what a name breaks, if it is one of what begins on a line
-abbrev pub name_subject : Facts → NameRule → ℕ → Here → List ℕ → List ℕ → ℕ → List PlainAt → Option Subject
+abbrev pub name_subject : TextFacts → NameRule → ℕ → Here → List ℕ → List ℕ → ℕ → List PlainAt → Option Subject
 name_subject f x line h ranked n index ws =
-    if not (h.line == line) then None else named n (broken f x (standpoint h ranked n index ws) ws)
+    if not (h.line == line) then None else subject_with n (wrong_before f x (standpoint h ranked n index ws) ws)
 
 -- what a word breaks
-abbrev pub word_subject : Facts → NameRule → ℕ → Here → List ℕ → PlainAt → List PlainAt → Option Subject
+abbrev pub word_subject : TextFacts → NameRule → ℕ → Here → List ℕ → PlainAt → List PlainAt → Option Subject
 word_subject f x line h ranked w ws = elim w.word [
   | name n ↦ name_subject f x line h ranked n w.index ws
   | number n ↦ None
@@ -123,7 +124,7 @@ word_subject f x line h ranked w ws = elim w.word [
 ]
 
 -- the first name of what begins on a line of a text that breaks a rule
-unfoldable pub subject : Facts → NameRule → ℕ → Here → List ℕ → List PlainAt → Option Subject
+unfoldable pub subject : TextFacts → NameRule → ℕ → Here → List ℕ → List PlainAt → Option Subject
 subject f x line h ranked [] = None
 subject f x line h ranked (w ∷ ws) =
     let at = here_at h w in
@@ -156,16 +157,16 @@ wrong_text w.Fixed = codes ": it cannot be set.\n"
 wrong_text w.NoVariable = codes ": it is no variable, as a loop needs.\n"
 
 -- what is given, if something is, or else what a name is
-abbrev pub given_or : What → Known → Known → Known
-given_or k.Undeclared a b = b
-given_or _ a b = a
+abbrev pub knowledge_or : What → Knowledge → Knowledge → Knowledge
+knowledge_or k.Undeclared a b = b
+knowledge_or _ a b = a
 
 -- what the language, a set or a class gives a name, or else what it is declared as
-abbrev pub first_known : Facts → List ℕ → Known
-first_known f n = let a = given f.names n in given_or a.what a (known f.names n)
+abbrev pub first_known : TextFacts → List ℕ → Knowledge
+first_known f n = let a = knowledge_given f.names n in knowledge_or a.what a (knowledge_of f.names n)
 
 -- what is known, with this line, if there is one
-abbrev pub told_place : Known → Option ℕ → Known
+abbrev pub told_place : Knowledge → Option ℕ → Knowledge
 told_place a (Some line) = record a { line = line }
 told_place a None = a
 
@@ -174,7 +175,7 @@ abbrev pub line_in : Option Declaration → Option ℕ
 line_in d = option_map (λ x. x.line) d
 
 -- the first place of a name that stands a second time: behind OWNS, BELONGS TO, PRIORITY, DEFINE, BREAK, EXTERNAL
-abbrev pub first_place : Facts → List ℕ → Wrong → Option Declaration
+abbrev pub first_place : TextFacts → List ℕ → Wrong → Option Declaration
 first_place f n w.OwnedTwice = declared_as f.owned n
 first_place f n w.JoinedTwice = declared_as f.joined n
 first_place f n w.OrderedTwice = declared_as f.ordered n
@@ -184,16 +185,16 @@ first_place f n w.ExternalTwice = declared_as f.externals n
 first_place f n _ = None
 
 -- what a name is, with the line of that place, if it has one; where its declaration is wrong, what it is first
-abbrev pub told_by : Facts → List ℕ → Wrong → Known
+abbrev pub told_by : TextFacts → List ℕ → Wrong → Knowledge
 told_by f n w.DeclaredTwice = first_known f n
-told_by f n x = told_place (known f.names n) (line_in (first_place f n x))
+told_by f n x = told_place (knowledge_of f.names n) (line_in (first_place f n x))
 
 -- what the name of a subject is
-abbrev pub told_as : Facts → Subject → Known
+abbrev pub told_as : TextFacts → Subject → Knowledge
 told_as f x = told_by f x.name x.wrong
 
 -- what is said of a subject, if there is one
-abbrev pub subject_text : Facts → Option Subject → List ℕ
+abbrev pub subject_text : TextFacts → Option Subject → List ℕ
 subject_text f (Some x) = x.name ++ codes " is " ++ known_text (told_as f x) ++ wrong_text x.wrong
 subject_text f None = []
 

@@ -9,7 +9,7 @@ use Rattle.ss_names.specs.Keys.{key, keys_with, section_behind}
 use Rattle.ss_names.specs.Meanings.{Declaration}
 use Rattle.ss_names.specs.Names.{is_of_language}
 use Rattle.ss_names.specs.Roles.{at_start}
-use Rattle.ss_names.specs.Saying.{warning}
+use Rattle.ss_names.specs.Saying.{warning_line}
 
 -- of all names, those that are declared, and those that are used in one way: a name stands more than once, is used in
 -- this way, and in no other
@@ -20,7 +20,7 @@ is_only all declared used n =
     && count_by (bytes_eq n) all - count_by (bytes_eq n) used == count_by (bytes_eq n) declared
 
 -- names as they are counted: all, those that are declared there, and those that are used in one way
-pub record Counted : Type 0 where
+pub record UseCounts : Type 0 where
   -- all
   pub all : List (List ℕ)
   -- those in a DEFINE or a HAS
@@ -29,8 +29,8 @@ pub record Counted : Type 0 where
   pub used : List (List ℕ)
 
 -- those among words, with a role
-abbrev pub counted : List Declaration → Role → List PlainAt → Counted
-counted ds role ws = record {
+abbrev pub use_counts : List Declaration → Role → List PlainAt → UseCounts
+use_counts ds role ws = record {
   all = keys_with ds None 0 at_start ws;
   declared = keys_with ds (Some Declared) 0 at_start ws;
   used = keys_with ds (Some role) 0 at_start ws;
@@ -38,24 +38,24 @@ counted ds role ws = record {
 
 -- a name that stands more than once in the text, is used in one way alone, stands here first, and is not the
 -- language's; the name by itself, and as it is counted
-abbrev pub is_told : List (List ℕ) → Counted → List (List ℕ) → List ℕ → List ℕ → Bool
+abbrev pub is_told : List (List ℕ) → UseCounts → List (List ℕ) → List ℕ → List ℕ → Bool
 is_told names c before n k =
     nat_lt 1 (count_by (bytes_eq n) names) && is_only c.all c.declared c.used k
     && count_by (bytes_eq k) before == 0 && not (is_of_language n)
 
 -- what is said of a name on a line behind others
 unfoldable pub only_name :
-    List ℕ → List (List ℕ) → Counted → List (List ℕ) → ℕ → List ℕ → List ℕ → List ℕ
+    List ℕ → List (List ℕ) → UseCounts → List (List ℕ) → ℕ → List ℕ → List ℕ → List ℕ
 only_name said names c before line n k =
-    elim (is_told names c before n k) [ true ↦ warning line n said | false ↦ [] ]
+    elim (is_told names c before n k) [ true ↦ warning_line line n said | false ↦ [] ]
 
 -- what is said of a name in a section, behind others
 unfoldable pub section_name :
-    List ℕ → List (List ℕ) → List Declaration → Counted → List (List ℕ) → ℕ → ℕ → List ℕ → List ℕ
+    List ℕ → List (List ℕ) → List Declaration → UseCounts → List (List ℕ) → ℕ → ℕ → List ℕ → List ℕ
 section_name said names ds c before section line n = only_name said names c before line n (key ds section n)
 
 -- what is said of a word behind others
-abbrev pub only_word : List ℕ → List (List ℕ) → List Declaration → Counted → List (List ℕ) → ℕ → PlainAt → List ℕ
+abbrev pub only_word : List ℕ → List (List ℕ) → List Declaration → UseCounts → List (List ℕ) → ℕ → PlainAt → List ℕ
 only_word said names ds c before section w = elim w.word [
   | name n ↦ section_name said names ds c before section w.line n
   | number n ↦ []
@@ -75,7 +75,7 @@ before_behind ds before section w = elim w.word [
 -- each name among words, behind others, that is used in this way alone, with the line on which it stands first; a local
 -- variable of each section by itself
 unfoldable pub only_text :
-    List ℕ → List (List ℕ) → List Declaration → Counted → List (List ℕ) → ℕ → List PlainAt → List ℕ
+    List ℕ → List (List ℕ) → List Declaration → UseCounts → List (List ℕ) → ℕ → List PlainAt → List ℕ
 only_text said names ds c before section [] = []
 only_text said names ds c before section (w ∷ ws) =
     only_word said names ds c before section w
@@ -83,4 +83,4 @@ only_text said names ds c before section (w ∷ ws) =
 
 -- each name that is used with this role alone
 abbrev pub uses_text : List ℕ → Role → List (List ℕ) → List Declaration → List PlainAt → List ℕ
-uses_text said role names ds ws = only_text said names ds (counted ds role ws) [] 0 ws
+uses_text said role names ds ws = only_text said names ds (use_counts ds role ws) [] 0 ws

@@ -13,7 +13,7 @@ use Rattle.ss_program.specs.declared.timing.Timing.{Timing}
 use Rattle.ss_program.specs.declared.timing.Timing.TheVariants.{Schedule}
 use Rattle.ss_program.specs.Program.{ProgramTable, ClassTable, SetTable, SectionTable, is_event, event_of_kind}
 use Rattle.ss_names.specs.declared.unused.TheConstants.{UNFILED, UNSCHEDULED}
-use Rattle.ss_names.specs.Saying.{warning}
+use Rattle.ss_names.specs.Saying.{warning_line}
 
 -- FILE into set number s
 abbrev pub files : ℕ → Filing → Bool
@@ -75,7 +75,7 @@ first_line n (w ∷ ws) = elim w.word [
 unfoldable pub unfiled_text : ProgramTable → List PlainAt → ℕ → List SetTable → List ℕ
 unfiled_text p ws s [] = []
 unfiled_text p ws s (t ∷ ts) = elim (is_unfiled p s) [
-  | true ↦ warning (first_line t.name ws) t.name UNFILED.now ++ unfiled_text p ws (s + 1) ts
+  | true ↦ warning_line (first_line t.name ws) t.name UNFILED.now ++ unfiled_text p ws (s + 1) ts
   | false ↦ unfiled_text p ws (s + 1) ts
 ]
 
@@ -83,7 +83,7 @@ unfiled_text p ws s (t ∷ ts) = elim (is_unfiled p s) [
 unfoldable pub unscheduled_text : ProgramTable → List PlainAt → ℕ → List ClassTable → List ℕ
 unscheduled_text p ws c [] = []
 unscheduled_text p ws c (t ∷ ts) = elim (is_unscheduled p c t) [
-  | true ↦ warning (first_line t.name ws) t.name UNSCHEDULED.now ++ unscheduled_text p ws (c + 1) ts
+  | true ↦ warning_line (first_line t.name ws) t.name UNSCHEDULED.now ++ unscheduled_text p ws (c + 1) ts
   | false ↦ unscheduled_text p ws (c + 1) ts
 ]
 

@@ -12,12 +12,12 @@ use Rattle.ss_names.specs.declared.once.TheConstants.{ONCE}
 use Rattle.ss_names.specs.declared.dropped.TheConstants.{ARTICLES, FILLERS, DROPPED_HERE}
 use Rattle.ss_columns.specs.Reserved.{is_among, is_kind_among, reserved, scheduling}
 use Rattle.ss_names.specs.Names.{names_in, is_of_language}
-use Rattle.ss_names.specs.Saying.{warning}
+use Rattle.ss_names.specs.Saying.{warning_line}
 use Rattle.ss_names.specs.declared.collected.Wanted.TheVariants as wanted
 use Rattle.ss_names.specs.declared.roles.Role.TheVariants.{Set, Read}
 use Rattle.ss_names.specs.declared.unread.TheConstants.{UNREAD, UNSET}
 use Rattle.ss_names.specs.declared.roles.Standing.{Standing}
-use Rattle.ss_names.specs.Collected.{collected}
+use Rattle.ss_names.specs.Collected.{collection}
 use Rattle.ss_names.specs.Here as here
 use Rattle.ss_names.specs.Roles.{at_start, behind, may_stand_once}
 use Rattle.ss_names.specs.Ranked.{ranked_text}
@@ -31,7 +31,7 @@ is_once names n = count_by (bytes_eq n) names == 1 && not (is_of_language n)
 
 -- what is said of a name
 abbrev pub once_name : List (List ℕ) → ℕ → List ℕ → List ℕ
-once_name names line n = elim (is_once names n) [ true ↦ warning line n ONCE.now | false ↦ [] ]
+once_name names line n = elim (is_once names n) [ true ↦ warning_line line n ONCE.now | false ↦ [] ]
 
 -- what is said of a word, where its name may not well stand once
 abbrev pub once_word : List (List ℕ) → Standing → PlainAt → List ℕ
@@ -91,8 +91,10 @@ first_kind (w ∷ ws) = Some w.kind
 
 -- what is said of a word between two others
 abbrev pub dropped_word : Option Kind → WordAt → Option Kind → List ℕ
-dropped_word before w behind =
-    elim (is_suspect before w.kind behind) [ true ↦ warning w.line (name_bytes w.kind) DROPPED_HERE.now | false ↦ [] ]
+dropped_word before w behind = elim (is_suspect before w.kind behind) [
+  | true ↦ warning_line w.line (name_bytes w.kind) DROPPED_HERE.now
+  | false ↦ []
+]
 
 -- each of these words that is dropped where a name could have stood, behind this word
 unfoldable pub dropped_text : Option Kind → List WordAt → List ℕ
@@ -106,11 +108,11 @@ abbrev pub warnings_of_words : List WordAt → List ℕ
 warnings_of_words ws =
     let plain = plain_words_of ws in
     let names = names_in plain in
-    let ds = collected wanted.Declared [] here.at_start [] plain in
+    let ds = collection wanted.Declared [] here.at_start [] plain in
     once_text names at_start plain
     ++ uses_text UNREAD.now Set names ds plain
     ++ uses_text UNSET.now Read names ds plain
-    ++ ranked_text ds (collected wanted.Keys [] here.at_start [] plain) [] [] here.at_start plain
+    ++ ranked_text ds (collection wanted.Keys [] here.at_start [] plain) [] [] here.at_start plain
     ++ dropped_text None ws
 
 -- the warnings of a model; none where a rule L refuses it

@@ -38,7 +38,7 @@ pub struct Facts<'a> {
 }
 
 impl<'a> Model for Facts<'a> {
-    ghost use Rattle.ss_names.specs.Breaches.{Facts as TextFacts};
+    ghost use Rattle.ss_names.specs.Breaches.{TextFacts};
 
     ghost Value = { TextFacts };
 

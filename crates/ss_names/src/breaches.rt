@@ -93,13 +93,13 @@ fn members_of<'a>(facts: &Facts<'a>, set: &[u8]) -> &'a [u8]
 }
 
 /// What a name breaks of a rule, before these words.
-fn broken(
+fn wrong_before(
     facts: &Facts<'_>,
     rule: NameRule,
     at: Standpoint<'_>,
     behind: &[PlainWord<'_>],
 ) -> Option<Wrong>
-    ensures { result ≡ spec.broken facts.now rule (standing_at at.entry)
+    ensures { result ≡ spec.wrong_before facts.now rule (standing_at at.entry)
         (map plain_at behind.now) }
 {
     match rule {
@@ -129,7 +129,7 @@ fn word_subject<'a>(
         return None;
     }
     let at = standpoint(here, ranked, name.bytes(), word.index, behind);
-    match broken(facts, rule, at, behind) {
+    match wrong_before(facts, rule, at, behind) {
         Some(wrong) => Some(Subject {
             name: name.bytes(),
             wrong,

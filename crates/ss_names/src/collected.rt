@@ -226,14 +226,14 @@ fn collect_word<'a>(
 }
 
 /// The first place of each name that is wanted among the plain words of a text.
-#[tactic(auto, unfolding(crate::specs::Collected::collected))]
+#[tactic(auto, unfolding(crate::specs::Collected::collection))]
 pub fn collect<'a>(
     alloc: Global,
     wanted: Wanted,
     words: &[PlainWord<'a>],
 ) -> Result<Declarations<'a>, AllocError>
     ensures { IfOk result
-        (λ found. found ≡ spec.collected wanted [] at_start [] (map plain_at words.now)) }
+        (λ found. found ≡ spec.collection wanted [] at_start [] (map plain_at words.now)) }
 {
     let mut found = Declarations::new(alloc);
     let mut here = Here::at_start();

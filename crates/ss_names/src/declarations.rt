@@ -56,7 +56,7 @@ impl<'a> Declarations<'a> {
     }
 
     /// The declaration of a name, if it has one.
-    #[tactic(auto, using(crate::proofs::DeclarationPlaces::place_found, crate::proofs::DeclarationPlaces::place_missed))]
+    #[tactic(auto, using(crate::proofs::RowPlaces::place_found, crate::proofs::RowPlaces::place_missed))]
     pub fn get(&self, name: &[u8]) -> Option<Row<'a>>
         ensures { option_map declaration_at result ≡ spec.declared_as self.now name.now }
     {

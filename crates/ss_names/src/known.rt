@@ -64,7 +64,7 @@ fn companion<'a>(declarations: &Declarations<'a>, name: &[u8]) -> Known<'a>
 }
 
 fn undeclared<'a>() -> Known<'a>
-    ensures { known_at result ≡ spec.undeclared }
+    ensures { known_at result ≡ spec.no_knowledge }
 {
     Known {
         what: What::Undeclared,
@@ -118,7 +118,7 @@ fn count_what(front: &[u8]) -> What
 
 /// What the language, a set or a class gives a name, whatever else it is declared as.
 pub fn given<'a>(declarations: &Declarations<'a>, name: &[u8]) -> Known<'a>
-    ensures { known_at result ≡ spec.given declarations.now name.now }
+    ensures { known_at result ≡ spec.knowledge_given declarations.now name.now }
 {
     if is_among(name, &CLOCK) {
         return of_language(What::Clock);
@@ -131,7 +131,7 @@ pub fn given<'a>(declarations: &Declarations<'a>, name: &[u8]) -> Known<'a>
 
 /// What a name is: by its own declaration, if it has one, or else what is given.
 pub fn known_as<'a>(declarations: &Declarations<'a>, name: &[u8]) -> Known<'a>
-    ensures { known_at result ≡ spec.known declarations.now name.now }
+    ensures { known_at result ≡ spec.knowledge_of declarations.now name.now }
 {
     match declarations.get(name) {
         Some(row) => Known {

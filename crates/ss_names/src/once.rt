@@ -1,7 +1,7 @@
 //! Names that stand once.
 ghost use Rattle.std.specs.Prelude.{◌≡◌, ◌++◌, OnOk, map};
 ghost use Rattle.ss_words.specs.Plain.{plain_at};
-ghost use Rattle.ss_names.specs.Saying.{number_text, warning};
+ghost use Rattle.ss_names.specs.Saying.{number_text, warning_line};
 ghost use Rattle.ss_names.specs.Roles.{at_start};
 ghost use Rattle.ss_names.specs.Warnings as spec;
 
@@ -23,7 +23,7 @@ pub fn push_warning(
     said: &[u8],
 ) -> Result<(), AllocError>
     ensures { OnOk result (text.new.items
-        ≡ text.old.items ++ warning line name.now said.now) }
+        ≡ text.old.items ++ warning_line line name.now said.now) }
 {
     let mut buffer = Buffer::new();
     text.extend_from_slice(b"Line ")?;

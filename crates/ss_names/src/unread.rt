@@ -37,9 +37,9 @@ pub struct Counted {
 }
 
 impl Model for Counted {
-    ghost use Rattle.ss_names.specs.Unread.{Counted as NamesCounted};
+    ghost use Rattle.ss_names.specs.Unread.{UseCounts};
 
-    ghost Value = { NamesCounted };
+    ghost Value = { UseCounts };
 
     ghost view = { λ a. record { all = a.all; declared = a.declared; used = a.used } };
 }
@@ -52,7 +52,7 @@ fn count_names(
     words: &[PlainWord<'_>],
 ) -> Result<Counted, AllocError>
     ensures { IfOk result (λ counted. counted
-        ≡ spec.counted declarations.now role (map plain_at words.now)) }
+        ≡ spec.use_counts declarations.now role (map plain_at words.now)) }
 {
     Ok(Counted {
         all: keys_with(alloc, declarations, None, words)?,

@@ -2,7 +2,7 @@ use Rattle.std.proofs.Common.{◌≡◌, ◌∙◌, ap, sym, false, List}
 use Rattle.std.specs.Prelude.{is_some}
 use Rattle.ss_names.specs.Meanings.{Declaration, declaration_at, declared_as}
 use Rattle.std.proofs.Common.{map}
-use Rattle.ss_names.proofs.DeclarationPlaces.{names_more}
+use Rattle.ss_names.proofs.RowPlaces.{names_more}
 use Rattle.ss_names.proofs.declarations.Declarations.add.Goals as goal
 
 pub invariant_of-self-2 : goal.invariant_of-self-2
