@@ -20,3 +20,4 @@ pub mod OneSet
 pub mod SetTold
 pub mod Telling
 pub mod Unfoldings
+pub mod Neighbours

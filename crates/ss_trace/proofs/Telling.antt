@@ -2,11 +2,12 @@
 use Rattle.std.proofs.Common.{◌≡◌, ℕ, ℤ, zero, suc, ◌+◌, ◌<◌, pos, List, [], ◌∷◌, Bool, true, false}
 use Rattle.std.proofs.Common.{refl, sym, ap, ◌∙◌, arith, length}
 use Rattle.std.proofs.Common.{nat_lt}
-use Rattle.std.specs.Prelude.{not, ◌==◌, ◌&&◌, if◌then◌else◌}
+use Rattle.std.specs.Prelude.{not, ◌==◌, ◌&&◌, if◌then◌else◌, Option, None, Some, option_map, unwrap_or, slice_index_or}
+use Rattle.std.specs.Result.{result_unwrap_or}
 use Rattle.std.proofs.lemmas.Bool.{eqb-true}
 use borrow.Author.Tests.{ltb-true}
 use Rattle.ss_program.specs.Program.{ProgramTable, class_of}
-use Rattle.ss_store.specs.Store.{Store, exists}
+use Rattle.ss_store.specs.Store.{Entity, Store, entity, exists, attribute_in, attributes_of}
 use Rattle.ss_store.specs.Store.{number_of}
 use Rattle.ss_machine.specs.Run.{Input, run}
 use Rattle.ss_machine.specs.State.{State}
@@ -23,7 +24,7 @@ use Rattle.ss_trace.specs.Sight.{sight_of}
 use Rattle.ss_trace.specs.Touches.{touched_at, part_of}
 use Rattle.ss_trace.specs.EntityNumbers.{attribute_number, attribute_numbers, set_numbers}
 use Rattle.ss_trace.specs.EntityNumbers.{entity_numbers, living_numbers, numbers_there, numbers_at}
-use Rattle.ss_trace.specs.Told.{tells_attribute, tells_attributes, set_place, tells_set}
+use Rattle.ss_trace.specs.Told.{tells, tells_attribute, tells_attributes, set_place, tells_set}
 use Rattle.ss_trace.specs.Told.{tells_sets, tells_touched, tells_entity, is_told, is_told_at}
 use Rattle.ss_trace.proofs.Leaving.{touches_there, touches_value, touches_list, Leaves, LeavesIf, turned_if, run_leaves}
 use Rattle.ss_trace.proofs.NumberPlaces.{both, clash, at_by, below_same, attribute_at, is_number}
@@ -40,18 +41,39 @@ each_told st c k xs (suc n) a e h =
     at_by (nat_lt a n) a n refl (λ l. each_told st c k xs n a b.0 l) (λ l. rw l b.1) h
 
 -- one more, and one that is not told
-pub each_more : (st : Store) (c k : ℕ) (xs : List ℤ) (n m : ℕ) → m ≡ n + 1 → tells_attributes st c k xs n ≡ true →
+each_more : (st : Store) (c k : ℕ) (xs : List ℤ) (n m : ℕ) → m ≡ n + 1 → tells_attributes st c k xs n ≡ true →
     tells_attribute st c k xs n ≡ true → tells_attributes st c k xs m ≡ true
 each_more st c k xs n m i e f = let next : m ≡ suc n = omega (arith, i) in rw (next, e, f) refl
+
+-- the same by all attributes at once
+number_at : (o : Option Entity) (a : ℕ) →
+    result_unwrap_or (attribute_in a o) (pos 0)
+    ≡ slice_index_or (unwrap_or (option_map (λ (e : Entity). e.attributes) o) []) a (pos 0)
+number_at None zero = refl
+number_at None (suc a) = refl
+number_at (Some e) a = refl
+
+pub value_more : (st : Store) (c k : ℕ) (xs vs : List ℤ) (n m : ℕ) → vs ≡ unwrap_or (attributes_of st c k) [] →
+    m ≡ n + 1 → tells_attributes st c k xs n ≡ true → tells xs n (slice_index_or vs n (pos 0)) ≡ true →
+    tells_attributes st c k xs m ≡ true
+value_more st c k xs vs n m i j e f =
+    each_more st c k xs n m j e (ap (tells xs n) (number_at (entity st c k) n
+    ∙ ap (λ (z : List ℤ). slice_index_or z n (pos 0)) (sym i)) ∙ f)
 
 not_so : (b : Bool) → (b ≡ true → ⊥) → b ≡ false
 not_so true h = absurd (h refl)
 not_so false h = refl
 
-pub each_less : (st : Store) (c k : ℕ) (xs : List ℤ) (n m : ℕ) → n < m → tells_attribute st c k xs n ≡ false →
+each_less : (st : Store) (c k : ℕ) (xs : List ℤ) (n m : ℕ) → n < m → tells_attribute st c k xs n ≡ false →
     tells_attributes st c k xs m ≡ false
 each_less st c k xs n m l f =
     not_so (tells_attributes st c k xs m) (λ e. clash (sym (each_told st c k xs m n e l) ∙ f))
+
+pub value_less : (st : Store) (c k : ℕ) (xs vs : List ℤ) (n m : ℕ) → vs ≡ unwrap_or (attributes_of st c k) [] →
+    n < m → tells xs n (slice_index_or vs n (pos 0)) ≡ false → tells_attributes st c k xs m ≡ false
+value_less st c k xs vs n m i l f =
+    each_less st c k xs n m l (ap (tells xs n) (number_at (entity st c k) n
+    ∙ ap (λ (z : List ℤ). slice_index_or z n (pos 0)) (sym i)) ∙ f)
 
 -- an attribute that may have changed is told
 attribute_told : (p : ProgramTable) (st : Store) (c k : ℕ) (xs : List ℤ) (u : Touch) (a : ℕ) →

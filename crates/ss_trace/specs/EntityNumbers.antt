@@ -1,7 +1,9 @@
 -- Private: the numbers that the lines of an entity tell. Where they are the same, so are the lines.
-use Rattle.std.specs.Prelude.{ℕ, zero, suc, ℤ, pos, Bool, true, false, List, [], ◌∷◌, ◌++◌, length, if◌then◌else◌}
+use Rattle.std.specs.Prelude.{◌≡◌, ℕ, zero, suc, ℤ, pos, Bool, true, false, List, [], ◌∷◌, ◌++◌, length, if◌then◌else◌}
+use Rattle.std.specs.Prelude.{unwrap_or}
 use Rattle.std.specs.Result.{result_unwrap_or}
 use Rattle.ss_program.specs.Program.{ProgramTable, class_of, set_of}
+use Rattle.ss_store.specs.declared.shape.Neighbours.{Neighbours}
 use Rattle.ss_store.specs.Store.{Store, number_of, exists, attribute_of}
 use Rattle.ss_machine.specs.State.{State}
 use Rattle.ss_machine.specs.Run.{Input, run}
@@ -33,6 +35,13 @@ attribute_numbers st c k a = attribute_number st c k a ∷ []
 -- a kept attribute of entity number k of class c in set s, 0 where the entities of the class do not have it
 abbrev pub kept_number : ProgramTable → Store → ℕ → ℕ → ℕ → Kept → ℤ
 kept_number p st c k s kept = if has_kept (set_of p s) c kept then pos (kept_value (shape_of p s) st k kept) else pos 0
+
+-- what was read of its neighbours in set s is P.s, S.s and M.s
+abbrev pub AreKept : ProgramTable → Store → ℕ → ℕ → ℕ → Neighbours → Type 0
+AreKept p st c k s n =
+    (kept_number p st c k s Predecessor ≡ pos (unwrap_or n.before 0))
+    × (kept_number p st c k s Successor ≡ pos (unwrap_or n.behind 0))
+    × (kept_number p st c k s Membership ≡ pos (if n.is_filed then 1 else 0))
 
 -- what set s tells of it, as an owner of its lists and as a member of one: F.s, L.s, N.s, P.s, S.s and M.s
 abbrev pub set_numbers : ProgramTable → Store → ℕ → ℕ → ℕ → List ℤ

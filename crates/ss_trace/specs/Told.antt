@@ -57,16 +57,22 @@ told_none numbers i kept = tells numbers (i + kept_place kept) (pos 0)
 abbrev pub tells_kept : ProgramTable → Store → ℕ → ℕ → List ℤ → ℕ → ℕ → Kept → Bool
 tells_kept p st c k numbers s i kept = tells numbers (i + kept_place kept) (kept_number p st c k s kept)
 
--- what it tells of a member: one that was in no list is in none; one that was in one has the same neighbours, and where
--- it has none is in one
+-- what it tells of a member, with P.s, S.s and M.s: one that was in no list is in none; one that was in one has the same
+-- neighbours, and where it has none is in one
+abbrev pub tells_beside : List ℤ → ℕ → ℤ → ℤ → ℤ → Bool
+tells_beside numbers i before behind member =
+    if told_none numbers i Membership
+    then tells numbers (i + kept_place Membership) member
+    else tells numbers (i + kept_place Predecessor) before
+    && (tells numbers (i + kept_place Successor) behind
+    && (not (told_none numbers i Predecessor && told_none numbers i Successor)
+    || tells numbers (i + kept_place Membership) member))
+
+-- the same of set s
 abbrev pub tells_member : ProgramTable → Store → ℕ → ℕ → List ℤ → ℕ → ℕ → Bool
 tells_member p st c k numbers s i =
-    if told_none numbers i Membership
-    then tells_kept p st c k numbers s i Membership
-    else tells_kept p st c k numbers s i Predecessor
-    && (tells_kept p st c k numbers s i Successor
-    && (not (told_none numbers i Predecessor && told_none numbers i Successor)
-    || tells_kept p st c k numbers s i Membership))
+    tells_beside numbers i (kept_number p st c k s Predecessor) (kept_number p st c k s Successor)
+    (kept_number p st c k s Membership)
 
 -- what set s tells: a step makes its list longer or shorter, or leaves it, so of an owner N.s is enough
 abbrev pub tells_set : ProgramTable → Store → ℕ → ℕ → List ℤ → ℕ → ℕ → Bool

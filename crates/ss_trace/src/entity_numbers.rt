@@ -3,15 +3,17 @@ ghost use Rattle.std.specs.Prelude.{◌≡◌, ◌++◌, ◌∷◌, ◌<◌, [],
 ghost use Rattle.ss_program.specs.Program.{class_of};
 ghost use Rattle.ss_store.specs.Store.{number_of};
 ghost use Rattle.ss_trace.specs.EntityNumbers.{numbers_below, attribute_numbers, kept_number, set_numbers};
-ghost use Rattle.ss_trace.specs.EntityNumbers.{entity_numbers, is_counted, living_numbers, numbers_of};
+ghost use Rattle.ss_trace.specs.EntityNumbers.{entity_numbers, is_counted, living_numbers, numbers_of, AreKept};
 ghost use Rattle.ss_trace.specs.Sight.{IsInTables};
 
 use crate::attribute::{Kept, has_kept, kept_value};
 use crate::rows::attribute_count;
 use crate::sight::Sight;
 use crate::touches::Part;
+use ss_debug::member_class;
 use ss_links::SetBoard;
 use ss_machine::Machine;
+use ss_store::Neighbours;
 use std::alloc::AllocError;
 
 /// Appends an attribute of an entity, by its number in the class.
@@ -64,6 +66,33 @@ pub fn kept_number<S: SetBoard>(
         return 0;
     }
     i64::from(kept_value(machine.store(), set, x, kept))
+}
+
+/// The members of a set beside an entity, and whether a list of the set holds it; none and `false`
+/// where the entities of its class are no members, or it does not exist.
+#[tactic(auto, using(crate::proofs::Neighbours::read_kept, crate::proofs::Neighbours::none_read, crate::proofs::Neighbours::none_kept, ss_debug::proofs::Tables::sets_kept))]
+pub fn neighbours_of<S: SetBoard>(
+    machine: &Machine<S>,
+    class: usize,
+    x: i64,
+    set: usize,
+) -> Neighbours
+    requires { set < length machine.now.input.program.sets }
+    ensures { AreKept machine.now.input.program machine.now.state.store class (number_of x) set
+        result }
+{
+    let none = Neighbours {
+        before: None,
+        behind: None,
+        is_filed: false,
+    };
+    if member_class(machine.program(), set) != class {
+        return none;
+    }
+    match machine.store().neighbours(set, x) {
+        Ok(neighbours) => neighbours,
+        Err(_) => none,
+    }
 }
 
 /// Appends a kept attribute of an entity in a set.

@@ -69,6 +69,7 @@ impl Reading {
 
     /// How much the step from where the debugger stands may change of what the question looks at,
     /// although the same is seen behind it.
+    #[inline(always)]
     pub fn touched<S: SetBoard>(&self, debugger: &Debugger<S>) -> Touch
         ensures { result
             ≡ touched_at debugger.now.machine.input self.now.part (position debugger.now.machine) }
@@ -118,6 +119,7 @@ impl Reading {
 
     /// Whether the numbers of the entity at which the question looks are the same, on the other side
     /// of a step that perhaps changed what it may; where it looks at none, they are not.
+    #[inline(never)]
     #[tactic(auto, using(crate::proofs::SameNumbers::same_numbers, crate::proofs::SameNumbers::is_entity))]
     fn has_same_numbers<S: SetBoard>(
         &mut self,
@@ -153,6 +155,7 @@ impl Reading {
 
     /// Reads the answer where the debugger stands now, where all else is read. Gives the answer
     /// before, where it was another one.
+    #[inline(never)]
     fn answer_again<S: SetBoard>(
         &mut self,
         debugger: &Debugger<S>,
@@ -182,6 +185,7 @@ impl Reading {
 
     /// The same as `follow`, of a question whose answer the numbers of an entity tell: nothing is
     /// seen of that at a glance.
+    #[inline(always)]
     #[tactic(auto, using(crate::proofs::Changes::same_as_itself))]
     fn follow_entity<S: SetBoard>(
         &mut self,
@@ -222,6 +226,7 @@ impl Reading {
     /// Reads the answer where the debugger stands now, on the other side of a step that perhaps may
     /// change it although the same is seen: else none is made, nor where an entity's numbers are the
     /// same. Gives the answer before, where it was another one.
+    #[inline(always)]
     #[tactic(auto, using(crate::proofs::Changes::same_as_itself))]
     pub fn follow<S: SetBoard>(
         &mut self,

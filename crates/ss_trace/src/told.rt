@@ -1,21 +1,23 @@
 //! Whether what a step may have changed of an entity is as its numbers on the other side tell.
-ghost use Rattle.std.specs.Prelude.{◌≡◌, ◌<◌, ◌+◌, ◌^◌, length};
+ghost use Rattle.std.specs.Prelude.{◌≡◌, ◌<◌, ◌+◌, ◌^◌, [], length, pos, slice_index_or, unwrap_or};
+ghost use Rattle.std.specs.Prelude.{if◌then◌else◌};
 ghost use Rattle.ss_program.specs.Program.{class_of};
-ghost use Rattle.ss_store.specs.Store.{number_of};
+ghost use Rattle.ss_store.specs.Store.{number_of, attributes_of};
 ghost use Rattle.ss_trace.specs.declared.told.TheConstants.{NUMBERS_OF_A_SET};
 ghost use Rattle.ss_trace.specs.Sight.{IsInTables};
 ghost use Rattle.ss_trace.specs.Told.{tells, tells_attribute, tells_attributes, set_place, kept_place};
-ghost use Rattle.ss_trace.specs.Told.{told_none, tells_kept, tells_member};
+ghost use Rattle.ss_trace.specs.Told.{told_none, tells_kept, tells_beside, tells_member};
 ghost use Rattle.ss_trace.specs.Told.{tells_set, tells_sets, tells_all, tells_touched, tells_entity, is_told};
 
 use crate::attribute::Kept;
-use crate::entity_numbers::kept_number;
+use crate::entity_numbers::{kept_number, neighbours_of};
 use crate::rows::attribute_count;
 use crate::sight::Sight;
 use crate::touches::{Part, Touch};
 use ss_links::SetBoard;
 use ss_machine::Machine;
 use ss_program::Program;
+use ss_store::Neighbours;
 
 /// How many numbers a set tells of an entity.
 pub const NUMBERS_OF_A_SET: usize = 6;
@@ -48,8 +50,26 @@ fn tells_attribute<S: SetBoard>(
     tells(numbers, attribute, value)
 }
 
+/// The values of all attributes of an entity, none where it does not exist.
+fn attributes_of<S: SetBoard>(machine: &Machine<S>, class: usize, x: i64) -> &[i64]
+    ensures { result.now
+        ≡ unwrap_or (attributes_of machine.now.state.store class (number_of x)) [] }
+{
+    match machine.store().attributes(class, x) {
+        Some(values) => values,
+        None => &[],
+    }
+}
+
+/// Whether a number of some is that of others, 0 standing for those that there are not.
+fn tells_value(numbers: &[i64], values: &[i64], at: usize) -> bool
+    ensures { result ≡ tells numbers.now at (slice_index_or values.now at (pos 0)) }
+{
+    tells(numbers, at, values.get(at).copied().unwrap_or(0))
+}
+
 /// Whether all attributes of an entity are as they were.
-#[tactic(auto, using(crate::proofs::Telling::each_more, crate::proofs::Telling::each_less))]
+#[tactic(auto, using(crate::proofs::Telling::value_more, crate::proofs::Telling::value_less))]
 fn tells_attributes<S: SetBoard>(
     numbers: &[i64],
     machine: &Machine<S>,
@@ -60,8 +80,9 @@ fn tells_attributes<S: SetBoard>(
     ensures { result ≡ tells_attributes machine.now.state.store class (number_of x) numbers.now
         (length (class_of machine.now.input.program class).attributes) }
 {
+    let values = attributes_of(machine, class, x);
     for attribute in 0..attribute_count(machine.program(), class) {
-        if !tells_attribute(numbers, machine, class, x, attribute) {
+        if !tells_value(numbers, values, attribute) {
             return false;
         }
     }
@@ -121,7 +142,33 @@ fn tells_kept<S: SetBoard>(
     tells(numbers, at + kept_place(kept), value)
 }
 
+/// Whether the numbers that a set tells have this one for a kept attribute.
+fn tells_number(numbers: &[i64], at: usize, kept: Kept, value: u32) -> bool
+    requires { at + NUMBERS_OF_A_SET < 2 ^ 64 }
+    ensures { result ≡ tells numbers.now (at + kept_place kept) (pos value) }
+{
+    tells(numbers, at + kept_place(kept), i64::from(value))
+}
+
+/// Whether what a set tells of an entity as a member is that these are beside it.
+fn tells_beside(numbers: &[i64], at: usize, now: Neighbours) -> bool
+    requires { at + NUMBERS_OF_A_SET < 2 ^ 64 }
+    ensures { result ≡ tells_beside numbers.now at (pos (unwrap_or now.before 0))
+        (pos (unwrap_or now.behind 0)) (pos (if now.is_filed then 1 else 0)) }
+{
+    let is_member = tells_number(numbers, at, Kept::Membership, u32::from(now.is_filed));
+    if told_none(numbers, at, Kept::Membership) {
+        return is_member;
+    }
+    let was_alone = told_none(numbers, at, Kept::Predecessor)
+        && told_none(numbers, at, Kept::Successor);
+    tells_number(numbers, at, Kept::Predecessor, now.before.unwrap_or(0))
+        && tells_number(numbers, at, Kept::Successor, now.behind.unwrap_or(0))
+        && (!was_alone || is_member)
+}
+
 /// Whether what a set tells of an entity as a member is as it was.
+#[tactic(auto, using(crate::proofs::Neighbours::beside_is))]
 fn tells_member<S: SetBoard>(
     numbers: &[i64],
     at: usize,
@@ -135,14 +182,7 @@ fn tells_member<S: SetBoard>(
     ensures { result ≡ tells_member machine.now.input.program machine.now.state.store class
         (number_of x) numbers.now set at }
 {
-    if told_none(numbers, at, Kept::Membership) {
-        return tells_kept(numbers, at, machine, class, x, set, Kept::Membership);
-    }
-    let was_alone = told_none(numbers, at, Kept::Predecessor)
-        && told_none(numbers, at, Kept::Successor);
-    tells_kept(numbers, at, machine, class, x, set, Kept::Predecessor)
-        && tells_kept(numbers, at, machine, class, x, set, Kept::Successor)
-        && (!was_alone || tells_kept(numbers, at, machine, class, x, set, Kept::Membership))
+    tells_beside(numbers, at, neighbours_of(machine, class, x, set))
 }
 
 /// Whether what a set tells of an entity is as it was.

@@ -189,6 +189,7 @@ fn touched_part(part: Part, place: &Place) -> Touch
 }
 
 /// What the step of the place where the debugger stands may change of a part.
+#[inline(always)]
 fn touched_by_place<S: SetBoard>(debugger: &Debugger<S>, part: Part) -> Touch
     ensures { result
         ≡ touched_in debugger.now.machine.input.program part debugger.now.machine.state }
@@ -200,6 +201,7 @@ fn touched_by_place<S: SetBoard>(debugger: &Debugger<S>, part: Part) -> Touch
 }
 
 /// How much the step from where the debugger stands may change of a part.
+#[inline(always)]
 pub fn touched_here<S: SetBoard>(debugger: &Debugger<S>, part: Part) -> Touch
     ensures { result
         ≡ touched_at debugger.now.machine.input part (position debugger.now.machine) }
