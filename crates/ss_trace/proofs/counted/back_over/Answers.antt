@@ -2,7 +2,7 @@ use Rattle.std.proofs.Common.{◌≡◌, ◌+◌, ◌-◌, ℕ, true, false, ref
 use Rattle.ss_machine.specs.Moment.{position}
 use Rattle.ss_trace.specs.Movements.{CountedEnd}
 use Rattle.ss_trace.proofs.Parts.{IsBackOver, back_over_none, back_over_unmade, back_over_on}
-use Rattle.ss_trace.proofs.counted_end.back_over.Goals as goal
+use Rattle.ss_trace.proofs.counted.back_over.Goals as goal
 
 pub returns-then-not-back_over_once-clause-place : goal.returns-then-not-back_over_once-clause-place
 returns-then-not-back_over_once-clause-place g c =

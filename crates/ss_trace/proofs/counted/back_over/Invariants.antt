@@ -2,7 +2,7 @@ use Rattle.std.proofs.Common.{◌≡◌, ◌-◌}
 use Rattle.ss_machine.specs.Moment.{position}
 use Rattle.ss_debug.specs.declared.limits.TheConstants.{GREATEST_BOUND}
 use Rattle.ss_trace.specs.Movements.{back_over}
-use Rattle.ss_trace.proofs.counted_end.back_over.Given as goal
+use Rattle.ss_trace.proofs.counted.back_over.Given as goal
 
 abbrev pub invariant-loop-k : goal.invariant-loop-k
 invariant-loop-k g l = record {

@@ -3,7 +3,7 @@ use Rattle.ss_machine.specs.Moment.{position}
 use Rattle.ss_trace.specs.Movements.{CountedEnd}
 use Rattle.ss_trace.proofs.Parts.{IsOver, over_none, over_unmade, over_at_break, over_on, over_first}
 use Rattle.ss_trace.proofs.Refusals.{on_err}
-use Rattle.ss_trace.proofs.counted_end.over.Goals as goal
+use Rattle.ss_trace.proofs.counted.over.Goals as goal
 
 pub returns-then-not-made-clause-ok : goal.returns-then-not-made-clause-ok
 returns-then-not-made-clause-ok g c =
