@@ -1,7 +1,7 @@
 //! launch: a model becomes a run.
 ghost use Rattle.std.specs.Prelude.{◌≡◌, ◌≢◌, ◌+◌, ◌-◌, ◌^◌, ◌<◌, IfOk, OnOk, MatchOption};
 ghost use Rattle.ss_session.specs.Load.{IsLoadFault};
-ghost use Rattle.ss_session.specs.declared.load.LoadFault.{LoadFault as Fault};
+ghost use Rattle.ss_session.specs.declared.load.LoadFault.{LoadFault};
 ghost use Rattle.ss_session.specs.declared.load.LoadFault.TheVariants.{Memory};
 ghost use Rattle.ss_messages.specs.Messages.{posted_all};
 ghost use Rattle.ss_adapter.specs.Before.{answer_to_launch, answer_to_refused_launch, IsLaunched, fault_line};
@@ -60,7 +60,7 @@ pub fn launch(
 ) -> Result<Option<(Debugger<LinkedSets>, Desk)>, AllocError>
     requires { post.old.sent + 1 < 2 ^ 64 - 1 }
     ensures run { IfOk result (λ opened. MatchOption opened
-        ((fault : Fault) × (fault ≢ Memory) × IsLoadFault fault model.now
+        ((fault : LoadFault) × (fault ≢ Memory) × IsLoadFault fault model.now
         × (post.new ≡ posted_all request.now post.old
         (answer_to_refused_launch (fault_line fault))))
         (λ run. IsLaunched model.now text.now path.now stops run.0 run.1
