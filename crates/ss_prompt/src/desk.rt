@@ -211,7 +211,7 @@ impl<'a> PromptDesk<'a> {
     }
 
     /// A command of docs/DEBUGGER.md.
-    #[tactic(auto, unfolding(crate::proofs::Unfoldings::refusals))]
+    #[tactic(auto, using(crate::proofs::StopRefusals::movements))]
     fn obey_plain<S: SetBoard>(
         &self,
         debugger: &mut Debugger<S>,
@@ -241,7 +241,7 @@ impl<'a> PromptDesk<'a> {
     }
 
     /// A movement beside those of docs/DEBUGGER.md.
-    #[tactic(auto, unfolding(crate::proofs::Unfoldings::refusals))]
+    #[tactic(auto, using(crate::proofs::StopRefusals::movements))]
     fn travel<S: SetBoard>(
         &self,
         debugger: &mut Debugger<S>,

@@ -90,6 +90,7 @@ impl<'a> PromptDesk<'a> {
             (HasLookedBack (state_at debugger.old self.now) (state_at debugger.new self.now)) }
     {
         debugger.machine().known();
+        let first = earliest(debugger);
         let mut head = Vec::new(self.alloc);
         let found = self.search(debugger, question, &mut head)?;
         text.extend_from_slice(words)?;
@@ -97,7 +98,7 @@ impl<'a> PromptDesk<'a> {
             text.extend_from_slice(b" ended in ")?;
             return text.extend_from_slice(&head);
         }
-        push_no_end(text, earliest(debugger))
+        push_no_end(text, first)
     }
 
     /// Appends when a list changed last.
@@ -119,6 +120,7 @@ impl<'a> PromptDesk<'a> {
             (HasLookedBack (state_at debugger.old self.now) (state_at debugger.new self.now)) }
     {
         debugger.machine().known();
+        let first = earliest(debugger);
         let mut head = Vec::new(self.alloc);
         let found = self.search(debugger, question, &mut head)?;
         text.extend_from_slice(words)?;
@@ -126,7 +128,7 @@ impl<'a> PromptDesk<'a> {
             text.extend_from_slice(b" changed last in ")?;
             return text.extend_from_slice(&head);
         }
-        push_no_list_change(text, earliest(debugger))
+        push_no_list_change(text, first)
     }
 
     /// Appends what the history tells of a question that is asked with these words.
