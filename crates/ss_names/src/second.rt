@@ -55,7 +55,7 @@ fn wrong_parameter(facts: &Facts<'_>, at: Standpoint<'_>) -> Option<Wrong>
 
 /// What is wrong with an event of an item: its ties are broken, or it is named external, before.
 fn wrong_item(facts: &Facts<'_>, at: Standpoint<'_>) -> Option<Wrong>
-    ensures { result ≡ spec.wrong_item facts.now (spec.standing_at at.entry) at.begun }
+    ensures { result ≡ spec.wrong_item facts.now (spec.standing_at at.entry) at.entry.begun }
 {
     match at.begun {
         Some(Reserved::Break) => where_so(stands_before(&facts.ties, at), Wrong::BrokenTwice),
