@@ -1,12 +1,11 @@
 -- What stands before a word of the text: the first MAIN and PRIORITY, and the head of its section.
 use Rattle.std.specs.Prelude.{ℕ, ◌==◌, ◌&&◌, Bool, true, false, not, List, [], Option, Some, if◌then◌else◌}
 use Rattle.ss_words.specs.declared.mark.Mark.{Mark}
-use Rattle.ss_words.specs.declared.mark.Mark.TheVariants.{Reserved, Sign}
-use Rattle.ss_words.specs.declared.reserved.Reserved.{Reserved as AReserved}
+use Rattle.ss_words.specs.declared.mark.Mark.TheVariants.{Reserved}
 use Rattle.ss_words.specs.declared.reserved.Reserved.TheVariants as r
 use Rattle.ss_words.specs.Plain.{PlainAt, name, number, mark, picture}
+use Rattle.ss_words.specs.PlainRules.{mark_in}
 use Rattle.ss_names.specs.declared.here.Here.{Here}
-use Rattle.ss_names.specs.declared.landmarks.Track.{Track}
 
 -- what stands before a word
 pub record Landmarks : Type 0 where
@@ -19,10 +18,6 @@ pub record Landmarks : Type 0 where
   -- the line on which its head begins
   pub head : ℕ
 
--- those of the code
-abbrev pub landmarks_at : Track → Landmarks
-landmarks_at a = record { main = a.main; priority = a.priority; section = a.section.now; head = a.head }
-
 -- before the first word
 abbrev pub no_landmarks : Landmarks
 no_landmarks = record { main = 0; priority = 0; section = []; head = 0 }
@@ -30,6 +25,24 @@ no_landmarks = record { main = 0; priority = 0; section = []; head = 0 }
 -- the line that was found first: this, where there is none
 abbrev pub first_or : ℕ → ℕ → ℕ
 first_or first line = if first == 0 then line else first
+
+-- MAIN
+abbrev pub is_main : Option Mark → Bool
+is_main (Some (Reserved r.Main)) = true
+is_main _ = false
+
+-- PRIORITY
+abbrev pub is_priority : Option Mark → Bool
+is_priority (Some (Reserved r.Priority)) = true
+is_priority _ = false
+
+-- the line of the first MAIN behind a word
+abbrev pub main_behind : ℕ → PlainAt → ℕ
+main_behind main w = if is_main (mark_in w.word) then first_or main w.line else main
+
+-- the line of the first PRIORITY behind a word
+abbrev pub priority_behind : ℕ → PlainAt → ℕ
+priority_behind priority w = if is_priority (mark_in w.word) then first_or priority w.line else priority
 
 -- ROUTINE or EVENT
 abbrev pub is_head : Option Mark → Bool
@@ -41,26 +54,32 @@ is_head _ = false
 abbrev pub names_section : Here → Bool
 names_section h = not h.in_preamble && is_head h.before
 
--- behind a name
-abbrev pub behind_name : Landmarks → Here → List ℕ → Landmarks
-behind_name a h n = if not (names_section h) then a else record a { section = n; head = h.line }
+-- a name here, where it is that of a section; or else this
+abbrev pub section_or : List ℕ → Here → List ℕ → List ℕ
+section_or section h n = if names_section h then n else section
 
--- behind a reserved word on a line
-abbrev pub behind_word : Landmarks → AReserved → ℕ → Landmarks
-behind_word a r.Main line = record a { main = first_or a.main line; section = [] }
-behind_word a r.Priority line = record a { priority = first_or a.priority line }
-behind_word a _ line = a
+-- the name of the section behind a word, empty behind MAIN
+abbrev pub section_behind : List ℕ → Here → PlainAt → List ℕ
+section_behind section h w = if is_main (mark_in w.word) then [] else elim w.word [
+  | name n ↦ section_or section h n
+  | number n ↦ section
+  | mark j ↦ section
+  | picture ls ↦ section
+]
 
--- behind a reserved word or sign on a line
-abbrev pub behind_mark : Landmarks → Mark → ℕ → Landmarks
-behind_mark a (Reserved w) line = behind_word a w line
-behind_mark a (Sign x) line = a
+-- the line of a head, where a name here is that of a section; or else this
+abbrev pub head_or : ℕ → Here → ℕ
+head_or head h = if names_section h then h.line else head
+
+-- the line of the head of the section behind a word
+abbrev pub head_behind : ℕ → Here → PlainAt → ℕ
+head_behind head h w = elim w.word [ name n ↦ head_or head h | number n ↦ head | mark j ↦ head | picture ls ↦ head ]
 
 -- behind a further word
 abbrev pub landmarks_behind : Landmarks → Here → PlainAt → Landmarks
-landmarks_behind a h w = elim w.word [
-  | name n ↦ behind_name a h n
-  | number n ↦ a
-  | mark j ↦ behind_mark a j w.line
-  | picture ls ↦ a
-]
+landmarks_behind a h w = record {
+  main = main_behind a.main w;
+  priority = priority_behind a.priority w;
+  section = section_behind a.section h w;
+  head = head_behind a.head h w;
+}

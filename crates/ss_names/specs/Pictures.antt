@@ -40,10 +40,6 @@ first_picture (w ∷ ws) = elim w.word [
 abbrev pub fields_in : List (List ℕ) → Option ℕ
 fields_in ls = if has_decimal_field ls then None else Some (field_count ls)
 
--- the same of the first picture among words
-abbrev pub fields_of : List PlainAt → Option ℕ
-fields_of ws = fields_in (first_picture ws)
-
 -- what is said of values and fields
 abbrev pub picture_text : ℕ → Option ℕ → List ℕ
 picture_text values None = codes "A field of the picture has decimals: a stop stands between two asterisks.\n"

@@ -8,3 +8,7 @@ warning_line line n said = codes "Line " ++ decimal line ++ codes ": " ++ n ++ s
 -- a number between what is said before it and behind it
 unfoldable pub number_text : List ℕ → ℕ → List ℕ → List ℕ
 number_text before number behind = before ++ decimal number ++ behind
+
+-- a name behind what is said of it
+unfoldable pub name_text : List ℕ → List ℕ → List ℕ
+name_text before n = before ++ n

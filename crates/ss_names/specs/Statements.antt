@@ -5,19 +5,20 @@ use Rattle.ss_words.specs.declared.mark.Mark.{Mark}
 use Rattle.ss_words.specs.declared.mark.Mark.TheVariants.{Reserved}
 use Rattle.ss_words.specs.declared.reserved.Reserved.{Reserved as AReserved}
 use Rattle.ss_words.specs.declared.reserved.Reserved.TheVariants as r
-use Rattle.ss_words.specs.Plain.{PlainAt, plain_at}
+use Rattle.ss_words.specs.Plain.{PlainAt}
 use Rattle.ss_words.specs.PlainRules.{mark_in}
 use Rattle.ss_names.specs.declared.here.Here.{Here}
 use Rattle.ss_names.specs.declared.statements.Beginning.{Beginning}
 use Rattle.ss_names.specs.declared.statements.StatementRule.{StatementRule}
+use Rattle.ss_names.specs.declared.statements.Track.{Track}
 use Rattle.ss_names.specs.declared.statements.StatementRule.TheVariants as rule
 use Rattle.ss_names.specs.declared.statements.TheConstants.{STATEMENT_RULES}
 use Rattle.ss_names.specs.Collected.{here_at}
 use Rattle.ss_names.specs.Here.{at_start, behind}
-use Rattle.ss_names.specs.Landmarks.{Landmarks, landmarks_behind, no_landmarks}
-use Rattle.ss_names.specs.Pictures.{fields_of, picture_text, value_count}
+use Rattle.ss_names.specs.Landmarks.{Landmarks, is_main, landmarks_behind, no_landmarks}
+use Rattle.ss_names.specs.Pictures.{fields_in, first_picture, picture_text, value_count}
 use Rattle.ss_names.specs.Positions.{first_mark}
-use Rattle.ss_names.specs.Saying.{number_text}
+use Rattle.ss_names.specs.Saying.{name_text, number_text}
 
 -- the rule beside this code in a table, if it is there
 abbrev pub rule_in : List ℕ → List (List ℕ × StatementRule) → Option StatementRule
@@ -72,36 +73,46 @@ is_broken rule.WithoutFind a h ws = is_of_find (first_mark ws) && not (is_find h
 abbrev pub is_broken_at : StatementRule → ℕ → Landmarks → Here → PlainAt → List PlainAt → Bool
 is_broken_at x line a h w ws = w.line == line && asks_at x w && is_broken x a h ws
 
--- where a statement begins: what stands before its first word, and the words behind that
+-- the landmarks of the code
+abbrev pub landmarks_at : Track → Landmarks
+landmarks_at a = record { main = a.main; priority = a.priority; section = a.section.now; head = a.head }
+
+-- a statement: the landmarks before it, the line on which what stands before it begins, the count of its values and its
+-- picture
 pub record Spot : Type 0 where
   -- the landmarks before it
   pub landmarks : Landmarks
-  -- the item, head or statement before it
-  pub here : Here
-  -- the words behind its first
-  pub behind : List PlainAt
+  -- the line on which the item, head or statement before it begins
+  pub line : ℕ
+  -- how many values it has behind WITH
+  pub values : ℕ
+  -- the lines of its picture
+  pub picture : List (List ℕ)
 
--- where a statement of the code begins
+-- a statement of the code
 abbrev pub spot_at : Beginning → Spot
 spot_at a = record {
   landmarks = record { main = a.main; priority = a.priority; section = a.section.now; head = a.head };
-  here = a.here;
-  behind = map plain_at a.behind.now;
+  line = a.line;
+  values = a.values;
+  picture = map (λ l. l.items) a.picture.now;
 }
+
+-- the statement that a word begins, before these words, if it begins on a line and breaks a rule
+abbrev pub word_statement : StatementRule → ℕ → Landmarks → Here → PlainAt → List PlainAt → Option Spot
+word_statement x line a h w ws = if is_broken_at x line a h w ws
+    then Some (record { landmarks = a; line = h.line; values = value_count ws; picture = first_picture ws })
+    else None
 
 -- the first statement that begins on a line and breaks a rule, among words behind others
 unfoldable pub statement : StatementRule → ℕ → Landmarks → Here → List PlainAt → Option Spot
 statement x line a h [] = None
 statement x line a h (w ∷ ws) =
     let at = here_at h w in
-    if is_broken_at x line a at w ws
-    then Some (record { landmarks = a; here = at; behind = ws })
-    else statement x line (landmarks_behind a at w) (behind at w.word w.line ws) ws
-
--- MAIN
-abbrev pub is_main : Option Mark → Bool
-is_main (Some (Reserved r.Main)) = true
-is_main _ = false
+    elim (word_statement x line a at w ws) [
+      | Some found ↦ Some found
+      | None ↦ statement x line (landmarks_behind a at w) (behind at w.word w.line ws) ws
+    ]
 
 -- MAIN stands among words
 unfoldable pub has_main : List PlainAt → Bool
@@ -112,18 +123,19 @@ has_main (w ∷ ws) = is_main (mark_in w.word) || has_main ws
 
 -- the section of a statement, with the line of its head
 abbrev pub section_text : List ℕ → ℕ → List ℕ
-section_text n line = codes "It stands in the section " ++ n ++ number_text (codes ", line ") line (codes ".\n")
+section_text n line =
+    name_text (codes "It stands in the section ") n ++ number_text (codes ", line ") line (codes ".\n")
 
 -- what is said of a statement that breaks a rule
 abbrev pub statement_text : StatementRule → Spot → List ℕ
-statement_text rule.WrongPicture a = picture_text (value_count a.behind) (fields_of a.behind)
+statement_text rule.WrongPicture a = picture_text a.values (fields_in a.picture)
 statement_text rule.WrongMain a =
     number_text (codes "The first MAIN stands on line ") a.landmarks.main (codes ".\n")
 statement_text rule.SecondPriority a =
     number_text (codes "The first PRIORITY stands on line ") a.landmarks.priority (codes ".\n")
 statement_text rule.WrongStart a = section_text a.landmarks.section a.landmarks.head
 statement_text rule.WithoutFind a =
-    number_text (codes "What begins on line ") a.here.line (codes " stands before it, and is no FIND.\n")
+    number_text (codes "What begins on line ") a.line (codes " stands before it, and is no FIND.\n")
 
 -- C11
 abbrev pub is_main_rule : StatementRule → Bool

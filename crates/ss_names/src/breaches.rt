@@ -216,7 +216,7 @@ fn told_as<'a>(facts: &Facts<'a>, subject: Subject<'a>) -> Known<'a>
 /// The first place of a name that stands a second time in such a list.
 fn first_place<'a>(facts: &Facts<'a>, subject: Subject<'a>) -> Option<Row<'a>>
     ensures { option_map declaration_at result
-        ≡ spec.first_place facts.now subject.name.now subject.wrong }
+        ≡ spec.first_place facts.now subject.entry.name.now subject.entry.wrong }
 {
     match subject.wrong {
         Wrong::OwnedTwice => facts.owned.get(subject.name),

@@ -2,41 +2,47 @@
 ghost use Rattle.std.specs.Prelude.{◌≡◌};
 ghost use Rattle.ss_words.specs.Plain.{plain_at};
 ghost use Rattle.ss_names.specs.Landmarks as spec;
-ghost use Rattle.ss_names.specs.Landmarks.{landmarks_at};
 
 use crate::here::Here;
 use ss_words::{Mark, Plain, PlainWord, Reserved};
-
-/// What stands before a word.
-#[derive(Clone, Copy)]
-pub struct Track<'a> {
-    /// The line of the first MAIN; 0 where there is none.
-    pub main: usize,
-    /// The line of the first PRIORITY; 0 where there is none.
-    pub priority: usize,
-    /// The name of the section; empty before the first named one, and in MAIN.
-    pub section: &'a [u8],
-    /// The line on which its head begins.
-    pub head: usize,
-}
-
-/// Before the first word.
-pub fn track_at_start<'a>() -> Track<'a>
-    ensures { landmarks_at result ≡ spec.no_landmarks }
-{
-    Track {
-        main: 0,
-        priority: 0,
-        section: b"",
-        head: 0,
-    }
-}
 
 /// The line that was found first: this, where there is none.
 fn first_or(first: usize, line: usize) -> usize
     ensures { result ≡ spec.first_or first line }
 {
     if first == 0 { line } else { first }
+}
+
+pub fn is_main(mark: Option<Mark>) -> bool
+    ensures { result ≡ spec.is_main mark }
+{
+    matches!(mark, Some(Mark::Reserved(Reserved::Main)))
+}
+
+fn is_priority(mark: Option<Mark>) -> bool
+    ensures { result ≡ spec.is_priority mark }
+{
+    matches!(mark, Some(Mark::Reserved(Reserved::Priority)))
+}
+
+/// The line of the first MAIN behind a word; 0 where there is none.
+pub fn main_behind(main: usize, word: &PlainWord<'_>) -> usize
+    ensures { result ≡ spec.main_behind main (plain_at word.now) }
+{
+    if is_main(word.kind().mark()) {
+        return first_or(main, word.line());
+    }
+    main
+}
+
+/// The line of the first PRIORITY behind a word; 0 where there is none.
+pub fn priority_behind(priority: usize, word: &PlainWord<'_>) -> usize
+    ensures { result ≡ spec.priority_behind priority (plain_at word.now) }
+{
+    if is_priority(word.kind().mark()) {
+        return first_or(priority, word.line());
+    }
+    priority
 }
 
 /// Whether a name here is that of a section, behind ROUTINE or EVENT.
@@ -50,46 +56,39 @@ fn names_section(here: Here) -> bool
         )
 }
 
-/// Behind a name.
-fn track_behind_name<'a>(track: Track<'a>, here: Here, name: &'a [u8]) -> Track<'a>
-    ensures { landmarks_at result ≡ spec.behind_name (landmarks_at track.entry) here name.now }
+/// The name of the section behind a word: its own, where that is the word; empty behind MAIN.
+pub fn section_behind<'a>(section: &'a [u8], here: Here, word: &PlainWord<'a>) -> &'a [u8]
+    ensures { result.now ≡ spec.section_behind section.now here (plain_at word.now) }
 {
-    if !names_section(here) {
-        return track;
+    if is_main(word.kind().mark()) {
+        return b"";
     }
-    Track {
-        section: name,
-        head: here.line,
-        ..track
+    match word.kind() {
+        Plain::Name(name) => section_or(section, here, name.bytes()),
+        _ => section,
     }
 }
 
-/// Behind a reserved word on this line.
-fn track_behind_word<'a>(track: Track<'a>, word: Reserved, line: usize) -> Track<'a>
-    ensures { landmarks_at result ≡ spec.behind_word (landmarks_at track.entry) word line }
+/// A name here, where it is that of a section; or else this.
+fn section_or<'a>(section: &'a [u8], here: Here, name: &'a [u8]) -> &'a [u8]
+    ensures { result.now ≡ spec.section_or section.now here name.now }
 {
-    match word {
-        Reserved::Main => Track {
-            main: first_or(track.main, line),
-            section: b"",
-            ..track
-        },
-        Reserved::Priority => Track {
-            priority: first_or(track.priority, line),
-            ..track
-        },
-        _ => track,
-    }
+    if names_section(here) { name } else { section }
 }
 
-/// Behind a further word.
-pub fn track_behind<'a>(track: Track<'a>, here: Here, word: &PlainWord<'a>) -> Track<'a>
-    ensures { landmarks_at result
-        ≡ spec.landmarks_behind (landmarks_at track.entry) here (plain_at word.now) }
+/// The line of the head of the section behind a word.
+pub fn head_behind(head: usize, here: Here, word: &PlainWord<'_>) -> usize
+    ensures { result ≡ spec.head_behind head here (plain_at word.now) }
 {
     match word.kind() {
-        Plain::Name(name) => track_behind_name(track, here, name.bytes()),
-        Plain::Mark(Mark::Reserved(reserved)) => track_behind_word(track, reserved, word.line()),
-        _ => track,
+        Plain::Name(_) => head_or(head, here),
+        _ => head,
     }
+}
+
+/// The line of a head, where a name here is that of a section; or else this.
+fn head_or(head: usize, here: Here) -> usize
+    ensures { result ≡ spec.head_or head here }
+{
+    if names_section(here) { here.line } else { head }
 }

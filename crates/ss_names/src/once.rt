@@ -1,7 +1,7 @@
 //! Names that stand once.
 ghost use Rattle.std.specs.Prelude.{◌≡◌, ◌++◌, OnOk, map};
 ghost use Rattle.ss_words.specs.Plain.{plain_at};
-ghost use Rattle.ss_names.specs.Saying.{number_text, warning_line};
+ghost use Rattle.ss_names.specs.Saying.{name_text, number_text, warning_line};
 ghost use Rattle.ss_names.specs.Roles.{at_start};
 ghost use Rattle.ss_names.specs.Warnings as spec;
 
@@ -48,6 +48,16 @@ pub fn push_number(
     text.extend_from_slice(before)?;
     text.extend_from_slice(buffer.format(number).as_bytes())?;
     text.extend_from_slice(behind)
+}
+
+/// Appends what is said before a name, and the name.
+#[tactic(auto, unfolding(crate::specs::Saying::name_text))]
+pub fn push_name_behind(text: &mut Vec<u8>, before: &[u8], name: &[u8]) -> Result<(), AllocError>
+    ensures { OnOk result (text.new.items
+        ≡ text.old.items ++ name_text before.now name.now) }
+{
+    text.extend_from_slice(before)?;
+    text.extend_from_slice(name)
 }
 
 /// Appends what is said of a name.

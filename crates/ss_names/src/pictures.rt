@@ -42,7 +42,7 @@ pub fn value_count(words: &[PlainWord<'_>]) -> usize
 
 /// The lines of the first picture among words.
 #[tactic(auto, unfolding(crate::specs::Pictures::first_picture))]
-fn first_picture<'a>(words: &[PlainWord<'a>]) -> &'a [Vec<u8>]
+pub fn first_picture<'a>(words: &[PlainWord<'a>]) -> &'a [Vec<u8>]
     ensures { map (λ l. l.items) result.now ≡ spec.first_picture (map plain_at words.now) }
 {
     let mut rest = words;
@@ -68,7 +68,7 @@ fn copied_lines(alloc: Global, lines: &[Vec<u8>]) -> Result<Vec<Vec<u8>>, AllocE
 }
 
 /// How many fields a picture has, if none has decimals.
-fn fields_in(alloc: Global, lines: &[Vec<u8>]) -> Result<Option<usize>, AllocError>
+pub fn fields_in(alloc: Global, lines: &[Vec<u8>]) -> Result<Option<usize>, AllocError>
     ensures { IfOk result (λ fields. fields ≡ spec.fields_in (map (λ l. l.items) lines.now)) }
 {
     let copies = copied_lines(alloc, lines)?;
@@ -77,13 +77,6 @@ fn fields_in(alloc: Global, lines: &[Vec<u8>]) -> Result<Option<usize>, AllocErr
         Err(PictureFault::Memory) => Err(AllocError),
         Err(PictureFault::DecimalField) => Ok(None),
     }
-}
-
-/// The same of the first picture among words.
-pub fn fields_of(alloc: Global, words: &[PlainWord<'_>]) -> Result<Option<usize>, AllocError>
-    ensures { IfOk result (λ fields. fields ≡ spec.fields_of (map plain_at words.now)) }
-{
-    fields_in(alloc, first_picture(words))
 }
 
 /// Appends what is said of values and fields.

@@ -6,9 +6,9 @@ ghost use Rattle.ss_names.specs.Statements as spec;
 
 use crate::collected::here_at;
 use crate::here::Here;
-use crate::landmarks::{Track, track_at_start, track_behind};
-use crate::once::push_number;
-use crate::pictures::{fields_of, push_picture_text, value_count};
+use crate::landmarks::{head_behind, is_main, main_behind, priority_behind, section_behind};
+use crate::once::{push_name_behind, push_number};
+use crate::pictures::{fields_in, first_picture, push_picture_text, value_count};
 use crate::position::first_mark;
 use ss_words::{Mark, PlainWord, Reserved};
 use std::alloc::{AllocError, Global};
@@ -99,10 +99,20 @@ fn is_find(word: Option<Reserved>) -> bool
     matches!(word, Some(Reserved::Find))
 }
 
+/// What stands before a word: the lines of the first MAIN and PRIORITY, 0 where there is none, the
+/// name of its section, empty in MAIN and before the first, and the line of that head.
+#[derive(Clone, Copy)]
+struct Track<'a> {
+    main: usize,
+    priority: usize,
+    section: &'a [u8],
+    head: usize,
+}
+
 /// Whether the statement before these words breaks a rule that asks about it.
 fn is_broken(rule: StatementRule, track: Track<'_>, here: Here, behind: &[PlainWord<'_>]) -> bool
     ensures { result
-        ≡ spec.is_broken rule (landmarks_at track.entry) here (map plain_at behind.now) }
+        ≡ spec.is_broken rule (spec.landmarks_at track.entry) here (map plain_at behind.now) }
 {
     match rule {
         StatementRule::WrongPicture => true,
@@ -122,61 +132,113 @@ fn is_broken_at(
     word: &PlainWord<'_>,
     behind: &[PlainWord<'_>],
 ) -> bool
-    ensures { result ≡ spec.is_broken_at rule line (landmarks_at track.entry) here
+    ensures { result ≡ spec.is_broken_at rule line (spec.landmarks_at track.entry) here
         (plain_at word.now) (map plain_at behind.now) }
 {
     word.line() == line && asks_at(rule, word) && is_broken(rule, track, here, behind)
 }
 
-/// Where a statement begins: what stands before its first word, and the words behind that.
+/// A statement that breaks a rule.
 #[derive(Clone, Copy)]
-pub struct Beginning<'a, 'b> {
-    /// The line of the first MAIN, and of the first PRIORITY; 0 where there is none.
-    pub main: usize,
-    pub priority: usize,
-    /// The name of the section, and the line of its head.
-    pub section: &'a [u8],
-    pub head: usize,
-    pub here: Here,
-    pub behind: &'b [PlainWord<'a>],
+struct Beginning<'a> {
+    /// The lines of the first MAIN and PRIORITY before it; 0 where there is none.
+    main: usize,
+    priority: usize,
+    /// The name of its section, and the line of that head.
+    section: &'a [u8],
+    head: usize,
+    /// The line on which what stands before it begins.
+    line: usize,
+    /// How many values it has behind WITH.
+    values: usize,
+    /// The lines of its picture.
+    picture: &'a [Vec<u8>],
+}
+
+/// The statement that a word begins, before these words, if it begins on a line and breaks a rule.
+fn word_statement<'a>(
+    rule: StatementRule,
+    line: usize,
+    track: Track<'a>,
+    here: Here,
+    word: &PlainWord<'a>,
+    behind: &[PlainWord<'a>],
+) -> Option<Beginning<'a>>
+    ensures { option_map spec.spot_at result
+        ≡ spec.word_statement rule line (spec.landmarks_at track.entry) here
+        (plain_at word.now) (map plain_at behind.now) }
+{
+    if !is_broken_at(rule, line, track, here, word, behind) {
+        return None;
+    }
+    Some(Beginning {
+        main: track.main,
+        priority: track.priority,
+        section: track.section,
+        head: track.head,
+        line: here.line,
+        values: value_count(behind),
+        picture: first_picture(behind),
+    })
+}
+
+/// The same behind these landmarks.
+fn statement_at<'a>(
+    rule: StatementRule,
+    line: usize,
+    main: usize,
+    priority: usize,
+    section: &'a [u8],
+    head: usize,
+    here: Here,
+    word: &PlainWord<'a>,
+    behind: &[PlainWord<'a>],
+) -> Option<Beginning<'a>>
+    ensures { option_map spec.spot_at result
+        ≡ spec.word_statement rule line
+        (record { main = main; priority = priority; section = section.now; head = head }) here
+        (plain_at word.now) (map plain_at behind.now) }
+{
+    let track = Track {
+        main,
+        priority,
+        section,
+        head,
+    };
+    word_statement(rule, line, track, here, word, behind)
 }
 
 /// The first statement that begins on a line and breaks a rule.
 #[tactic(auto, unfolding(crate::specs::Statements::statement))]
-fn first_statement<'a, 'b>(
+fn first_statement<'a>(
     rule: StatementRule,
     line: usize,
-    words: &'b [PlainWord<'a>],
-) -> Option<Beginning<'a, 'b>>
+    words: &[PlainWord<'a>],
+) -> Option<Beginning<'a>>
     ensures { option_map spec.spot_at result
         ≡ spec.statement rule line no_landmarks at_start (map plain_at words.now) }
 {
     let mut here = Here::at_start();
-    let mut track: Track<'a> = track_at_start();
+    let mut main: usize = 0;
+    let mut priority: usize = 0;
+    let mut section: &'a [u8] = b"";
+    let mut head: usize = 0;
     let mut rest = words;
     while let [word, behind @ ..] = rest {
         let at = here_at(here, word);
-        if is_broken_at(rule, line, track, at, word, behind) {
-            return Some(Beginning {
-                main: track.main,
-                priority: track.priority,
-                section: track.section,
-                head: track.head,
-                here: at,
-                behind,
-            });
+        if let Some(found) = statement_at(
+            rule, line, main, priority, section, head, at, word, behind,
+        ) {
+            return Some(found);
         }
-        track = track_behind(track, at, word);
+        main = main_behind(main, word);
+        priority = priority_behind(priority, word);
+        section = section_behind(section, at, word);
+        head = head_behind(head, at, word);
         here = at.behind(word.kind(), word.line(), behind);
         rest = behind;
     }
     None
-}
-
-fn is_main(mark: Option<Mark>) -> bool
-    ensures { result ≡ spec.is_main mark }
-{
-    matches!(mark, Some(Mark::Reserved(Reserved::Main)))
 }
 
 /// Whether MAIN stands among words.
@@ -199,19 +261,22 @@ fn push_section(text: &mut Vec<u8>, section: &[u8], line: usize) -> Result<(), A
     ensures { OnOk result (text.new.items
         ≡ text.old.items ++ spec.section_text section.now line) }
 {
-    text.extend_from_slice(b"It stands in the section ")?;
-    text.extend_from_slice(section)?;
+    push_name_behind(text, b"It stands in the section ", section)?;
     push_number(text, b", line ", line, b".\n")
 }
 
-/// Appends what is said of a PRINT before these words.
-fn push_print(alloc: Global, text: &mut Vec<u8>, behind: &[PlainWord<'_>]) -> Result<(), AllocError>
+/// Appends what is said of a PRINT with so many values.
+fn push_print(
+    alloc: Global,
+    text: &mut Vec<u8>,
+    values: usize,
+    picture: &[Vec<u8>],
+) -> Result<(), AllocError>
     ensures { OnOk result (text.new.items ≡ text.old.items
-        ++ pictures.picture_text (pictures.value_count (map plain_at behind.now))
-        (pictures.fields_of (map plain_at behind.now))) }
+        ++ pictures.picture_text values (pictures.fields_in (map (λ l. l.items) picture.now))) }
 {
-    let fields = fields_of(alloc, behind)?;
-    push_picture_text(text, value_count(behind), fields)
+    let fields = fields_in(alloc, picture)?;
+    push_picture_text(text, values, fields)
 }
 
 /// Appends what is said of a statement that breaks a rule.
@@ -219,13 +284,13 @@ fn push_statement(
     alloc: Global,
     text: &mut Vec<u8>,
     rule: StatementRule,
-    at: Beginning<'_, '_>,
+    at: Beginning<'_>,
 ) -> Result<(), AllocError>
     ensures { OnOk result (text.new.items
         ≡ text.old.items ++ spec.statement_text rule (spec.spot_at at.entry)) }
 {
     match rule {
-        StatementRule::WrongPicture => push_print(alloc, text, at.behind),
+        StatementRule::WrongPicture => push_print(alloc, text, at.values, at.picture),
         StatementRule::WrongMain => {
             push_number(text, b"The first MAIN stands on line ", at.main, b".\n")
         }
@@ -239,7 +304,7 @@ fn push_statement(
         StatementRule::WithoutFind => push_number(
             text,
             b"What begins on line ",
-            at.here.line,
+            at.line,
             b" stands before it, and is no FIND.\n",
         ),
     }
@@ -284,5 +349,5 @@ pub fn push_statement_breach(
 }
 
 ghost use Rattle.std.specs.Prelude.{option_map};
-ghost use Rattle.ss_names.specs.Landmarks.{landmarks_at, no_landmarks};
+ghost use Rattle.ss_names.specs.Landmarks.{no_landmarks};
 ghost use Rattle.ss_names.specs.Pictures as pictures;
