@@ -14,7 +14,7 @@ use Rattle.ss_prompt.specs.Histories.{HasLookedBack}
 use Rattle.ss_prompt.specs.PromptState.{PromptState}
 
 -- that an entity ended in no step that is kept: where all are kept, it never was
-abbrev pub no_end_text : ℕ → List ℕ
+unfoldable pub no_end_text : ℕ → List ℕ
 no_end_text earliest =
     if earliest == 0 then codes " was never made.\n"
     else codes " ended before STATE " ++ decimal earliest ++ codes ", the earliest that is kept, or was never made.\n"
@@ -25,7 +25,7 @@ end_text t words earliest None = words ++ no_end_text earliest
 end_text t words earliest (Some q) = words ++ codes " ended in " ++ state_line t q
 
 -- that a list changed in no step that is kept
-abbrev pub no_list_change_text : ℕ → List ℕ
+unfoldable pub no_list_change_text : ℕ → List ℕ
 no_list_change_text earliest = codes " has not changed since STATE " ++ decimal earliest ++ codes ".\n"
 
 -- when a list changed last

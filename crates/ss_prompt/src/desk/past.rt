@@ -25,6 +25,7 @@ fn earliest<S: SetBoard>(debugger: &Debugger<S>) -> u64
 }
 
 /// Appends that an entity ended in no step that is kept.
+#[tactic(auto, unfolding(crate::specs::Past::no_end_text))]
 fn push_no_end(text: &mut Vec<u8>, earliest: u64) -> Result<(), AllocError>
     ensures { OnOk result (text.new.items ≡ text.old.items ++ spec.no_end_text earliest) }
 {
@@ -37,6 +38,7 @@ fn push_no_end(text: &mut Vec<u8>, earliest: u64) -> Result<(), AllocError>
 }
 
 /// Appends that a list did not change in a step that is kept.
+#[tactic(auto, unfolding(crate::specs::Past::no_list_change_text))]
 fn push_no_list_change(text: &mut Vec<u8>, earliest: u64) -> Result<(), AllocError>
     ensures { OnOk result (text.new.items ≡ text.old.items ++ spec.no_list_change_text earliest) }
 {
