@@ -48,8 +48,8 @@ impl<'a, S: SetBoard> Prompt<'a, S> {
 
     /// Gives the debugger away, and lets go of what is kept beside it.
     pub fn into_debugger(self) -> Debugger<S>
-        ensures input { result.machine.input ≡ self.input }
-        ensures state { debugger_state_of result ≡ self.debugger }
+        ensures input { result.machine.input ≡ self.entry.input }
+        ensures state { debugger_state_of result ≡ self.entry.debugger }
     {
         let Prompt { debugger, desk } = self;
         drop(desk);
