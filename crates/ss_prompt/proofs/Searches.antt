@@ -1,5 +1,5 @@
 -- What the history tells, of a change that is found and of one that is not.
-use Rattle.std.proofs.Common.{◌≡◌, ◌++◌, ℕ, zero, suc, List, Option, Some, None, refl, sym, true, false, append_assoc}
+use Rattle.std.proofs.Common.{◌≡◌, ◌++◌, ℕ, List, Option, Some, None, refl, true, false}
 use Rattle.std.specs.Prelude.{codes, is_some}
 use Rattle.ss_machine.specs.Run.{Input}
 use Rattle.ss_trace.specs.History.{why_head, why_line}

@@ -1,6 +1,6 @@
 -- What the history tells of a fault where a movement stops: where the entity that is missing ended, or when the list that
 -- a loop names changed.
-use Rattle.std.specs.Prelude.{ℕ, ◌≡◌, ◌==◌, ◌⊎◌, List, [], ◌++◌, codes, decimal, if◌then◌else◌, Option, Some, None}
+use Rattle.std.specs.Prelude.{ℕ, ◌≡◌, nat_lt, ◌⊎◌, List, [], ◌++◌, codes, decimal, if◌then◌else◌, Option, Some, None}
 use Rattle.ss_machine.specs.Run.{Input, run}
 use Rattle.ss_debug.specs.declared.commands.Question.TheVariants.{Entity, Set}
 use Rattle.ss_debug.specs.Answer.{state_line}
@@ -13,11 +13,17 @@ use Rattle.ss_prompt.specs.Asked.{asked_of}
 use Rattle.ss_prompt.specs.Histories.{HasLookedBack}
 use Rattle.ss_prompt.specs.PromptState.{PromptState}
 
--- that an entity ended in no step that is kept: where all are kept, it never was
+-- a number between two texts
+unfoldable pub number_phrase : List ℕ → ℕ → List ℕ → List ℕ
+number_phrase head n tail = head ++ decimal n ++ tail
+
+-- that an entity was in no state that is kept
+abbrev pub no_life_text : ℕ → List ℕ
+no_life_text earliest = number_phrase (codes " has not lived since STATE ") earliest (codes ".\n")
+
+-- the same; where all steps are kept, it never was
 unfoldable pub no_end_text : ℕ → List ℕ
-no_end_text earliest =
-    if earliest == 0 then codes " was never made.\n"
-    else codes " ended before STATE " ++ decimal earliest ++ codes ", the earliest that is kept, or was never made.\n"
+no_end_text earliest = if nat_lt 0 earliest then no_life_text earliest else codes " was never made.\n"
 
 -- where an entity that is missing ended: in the state whose step was the last at which it changed, if there is one
 abbrev pub end_text : Input → List ℕ → ℕ → Option ℕ → List ℕ

@@ -24,17 +24,32 @@ fn earliest<S: SetBoard>(debugger: &Debugger<S>) -> u64
     machine.position() - machine.kept()
 }
 
-/// Appends that an entity ended in no step that is kept.
+/// Appends a number between two texts.
+#[tactic(auto, unfolding(crate::specs::Past::number_phrase))]
+fn push_phrase(text: &mut Vec<u8>, head: &[u8], n: u64, tail: &[u8]) -> Result<(), AllocError>
+    ensures { OnOk result (text.new.items ≡ text.old.items ++ spec.number_phrase head.now n tail.now) }
+{
+    text.extend_from_slice(head)?;
+    push_number(text, n)?;
+    text.extend_from_slice(tail)
+}
+
+/// Appends that an entity was in no state that is kept.
+fn push_no_life(text: &mut Vec<u8>, earliest: u64) -> Result<(), AllocError>
+    ensures { OnOk result (text.new.items ≡ text.old.items ++ spec.no_life_text earliest) }
+{
+    push_phrase(text, b" has not lived since STATE ", earliest, b".\n")
+}
+
+/// Appends the same; where all steps are kept, that it never was.
 #[tactic(auto, unfolding(crate::specs::Past::no_end_text))]
 fn push_no_end(text: &mut Vec<u8>, earliest: u64) -> Result<(), AllocError>
     ensures { OnOk result (text.new.items ≡ text.old.items ++ spec.no_end_text earliest) }
 {
-    if earliest == 0 {
-        return text.extend_from_slice(b" was never made.\n");
+    if earliest > 0 {
+        return push_no_life(text, earliest);
     }
-    text.extend_from_slice(b" ended before STATE ")?;
-    push_number(text, earliest)?;
-    text.extend_from_slice(b", the earliest that is kept, or was never made.\n")
+    text.extend_from_slice(b" was never made.\n")
 }
 
 /// Appends that a list did not change in a step that is kept.
