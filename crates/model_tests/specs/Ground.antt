@@ -23,12 +23,13 @@ ground_classes = ground_class 2 1 1 true ∷ ground_class 2 2 4 false ∷ ground
 
 -- a set by its discipline, its owner, its number there, the class of its members and its number there
 abbrev pub ground_set : Discipline → Owner → ℕ → ℕ → ℕ → SetShape
-ground_set d w n m k = record { discipline = d; owner = w; list = n; member = m; slot = k }
+ground_set discipline owner n m k = record { discipline = discipline; owner = owner; list = n; member = m; slot = k }
 
 -- the six sets, whatever their disciplines
 abbrev pub ground_sets : Discipline → Discipline → Discipline → Discipline → Discipline → Discipline → List SetShape
-ground_sets a b c d e f = ground_set a System 0 1 0 ∷ ground_set b (OwnedBy 0) 0 1 1 ∷ ground_set c (OwnedBy 1) 0 2 0
-    ∷ ground_set d (OwnedBy 2) 0 1 2 ∷ ground_set e System 1 0 0 ∷ ground_set f (OwnedBy 1) 1 1 3 ∷ []
+ground_sets a b c discipline e f =
+    ground_set a System 0 1 0 ∷ ground_set b (OwnedBy 0) 0 1 1 ∷ ground_set c (OwnedBy 1) 0 2 0
+    ∷ ground_set discipline (OwnedBy 2) 0 1 2 ∷ ground_set e System 1 0 0 ∷ ground_set f (OwnedBy 1) 1 1 3 ∷ []
 
 -- these are the six sets
 pub record AreGroundSets (sets : List SetShape) : Type 0 where
@@ -48,15 +49,15 @@ pub record AreGroundSets (sets : List SetShape) : Type 0 where
   pub is : sets ≡ ground_sets a b c d e f
 
 -- three classes, of which the first is permanent, and six sets
-pub record IsGround (t : Tables) : Type 0 where
+pub record IsGround (tables : Tables) : Type 0 where
   -- how many classes there are
-  pub classes : length t.classes ≡ 3
+  pub classes : length tables.classes ≡ 3
   -- how many sets
-  pub sets : length t.sets ≡ 6
+  pub sets : length tables.sets ≡ 6
   -- the first class is permanent
-  pub made : (class_of t 0).permanent ≡ true
+  pub made : (class_of tables 0).permanent ≡ true
   -- the others are not
-  pub given : (c : ℕ) → 0 < c → (class_of t c).permanent ≡ false
+  pub given : (c : ℕ) → 0 < c → (class_of tables c).permanent ≡ false
 
 -- the answer of a call that gives no number
 abbrev pub with_number : Result StoreChange RunFault → Result (ℤ × StoreChange) StepFault

@@ -37,13 +37,13 @@ answer_to_refused_launch line =
     failure (without_last line) ∷ event (codes "output") (output_body (codes "stderr") line) ∷ []
 
 -- a debugger at the start of the run of a model over its data, and a desk on which nothing is set or told
-pub record IsLaunched (model text path : List ℕ) (stops : Stops) (d : DebuggerView) (k : DeskView) : Type 0 where
+pub record IsLaunched (model text path : List ℕ) (stops : Stops) (debugger : DebuggerView) (k : DeskView) : Type 0 where
   -- the program is that of the model
-  pub program : IsOutcome model (accepted d.machine.input.program)
+  pub program : IsOutcome model (accepted debugger.machine.input.program)
   -- its run is the one over the data
-  pub input : d.machine.input ≡ input_with d.machine.input.program text
+  pub input : debugger.machine.input ≡ input_with debugger.machine.input.program text
   -- the debugger stands at its start
-  pub start : debugger_state_of d ≡ initial_debugger_state
+  pub start : debugger_state_of debugger ≡ initial_debugger_state
   -- nothing is set or told
   pub desk : k ≡ record {
     path = path;

@@ -30,15 +30,16 @@ set_targets typed column (s ∷ ss) = target typed column s.name ++ set_targets 
 
 -- those of the names of a program: variables, of which the classes are some, attributes, sets, locals of a section
 abbrev pub name_targets : ProgramTable → ℕ → List ℕ → ℕ → List ℕ
-name_targets p section typed column =
-    targets typed column p.globals ++ attribute_targets typed column p.classes ++ set_targets typed column p.sets
-    ++ targets typed column (locals_in p section)
+name_targets program section typed column =
+    targets typed column program.globals ++ attribute_targets typed column program.classes
+        ++ set_targets typed column program.sets
+    ++ targets typed column (locals_in program section)
 
 -- those that may stand first in a line, or behind another word
 abbrev pub targets_by : ProgramTable → ℕ → Bool → List ℕ → ℕ → List ℕ
-targets_by p section true typed column = targets typed column (map (λ word. word.now) FIRST_WORDS)
-targets_by p section false typed column =
-    targets typed column (map (λ word. word.now) FURTHER_WORDS) ++ name_targets p section typed column
+targets_by program section true typed column = targets typed column (map (λ word. word.now) FIRST_WORDS)
+targets_by program section false typed column =
+    targets typed column (map (λ word. word.now) FURTHER_WORDS) ++ name_targets program section typed column
 
 -- whether no word stands before the last one of a text
 abbrev pub is_first : List ℕ → Bool
@@ -46,5 +47,5 @@ is_first text = list_all (λ b. nat_eq b 32) (before_word text)
 
 -- those that begin with the last word of a text, in either case, which ends before a column
 abbrev pub completions : ProgramTable → ℕ → List ℕ → ℕ → List ℕ
-completions p section text column =
-    targets_by p section (is_first text) (map to_ascii_uppercase (last_word text)) column
+completions program section text column =
+    targets_by program section (is_first text) (map to_ascii_uppercase (last_word text)) column

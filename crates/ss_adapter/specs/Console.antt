@@ -19,14 +19,14 @@ is_nearest line (Some nearest) = nat_eq nearest line
 
 -- whether a place stands on a line
 abbrev pub has_place : ProgramTable → ℕ → Bool
-has_place p line = is_nearest line (next_line p line)
+has_place program line = is_nearest line (next_line program line)
 
 -- what is told of a line, which is a break line now or not, and was one or not: its break point is new, or is removed
 abbrev pub point_told : ProgramTable → List ℕ → ℕ → Bool → Bool → List Sent
-point_told p path line true false =
-    event (codes "breakpoint") (new_point_body (line + WATCH_LIMIT) (has_place p line) line path) ∷ []
-point_told p path line false true = event (codes "breakpoint") (removed_point_body (line + WATCH_LIMIT)) ∷ []
-point_told p path line _ _ = []
+point_told program path line true false =
+    event (codes "breakpoint") (new_point_body (line + WATCH_LIMIT) (has_place program line) line path) ∷ []
+point_told program path line false true = event (codes "breakpoint") (removed_point_body (line + WATCH_LIMIT)) ∷ []
+point_told program path line _ _ = []
 
 -- the break lines of requests, where a line became one, as if a request for lines had set it
 abbrev pub lines_behind : List ℕ → ℕ → Bool → Bool → List ℕ
@@ -41,28 +41,28 @@ sections_behind sections line _ _ = sections
 
 -- the desk behind that
 abbrev pub desk_with : DeskView → ℕ → Bool → Bool → DeskView
-desk_with k line new old = record {
-  path = k.path;
-  model = k.model;
-  displays = k.displays;
-  set = lines_behind k.set line new old;
-  sections = sections_behind k.sections line new old;
-  watched = k.watched;
-  told = k.told;
-  stops = k.stops;
+desk_with desk line new old = record {
+  path = desk.path;
+  model = desk.model;
+  displays = desk.displays;
+  set = lines_behind desk.set line new old;
+  sections = sections_behind desk.sections line new old;
+  watched = desk.watched;
+  told = desk.told;
+  stops = desk.stops;
 }
 
 -- the desk with other questions that are answered at each stop
 abbrev pub desk_showing : DeskView → List Question → DeskView
-desk_showing k displays = record {
-  path = k.path;
-  model = k.model;
+desk_showing desk displays = record {
+  path = desk.path;
+  model = desk.model;
   displays = displays;
-  set = k.set;
-  sections = k.sections;
-  watched = k.watched;
-  told = k.told;
-  stops = k.stops;
+  set = desk.set;
+  sections = desk.sections;
+  watched = desk.watched;
+  told = desk.told;
+  stops = desk.stops;
 }
 
 -- the first line of an answer

@@ -21,15 +21,15 @@ use Rattle.ss_adapter.specs.Reach.{change_movement, nearest_place, says_change}
 
 -- the state of the debugger behind a movement
 abbrev pub state_behind : Input → DebuggerState → Going → DebuggerState
-state_behind t d (Standing m) = debugger.debugger_state_after t d (Move m)
-state_behind t d (Traced m) = trace.state_after t d m
-state_behind t d (Watched place m) = trace.state_after t d m
+state_behind input d (Standing m) = debugger.debugger_state_after input d (Move m)
+state_behind input debugger (Traced m) = trace.state_after input debugger m
+state_behind input debugger (Watched place m) = trace.state_after input debugger m
 
 -- what the debugger answers
 abbrev pub going_answer : Input → DebuggerState → Going → List ℕ
-going_answer t d (Standing m) = debugger.answer t d (Move m)
-going_answer t d (Traced m) = trace.answer t d m
-going_answer t d (Watched place m) = trace.answer t d m
+going_answer input d (Standing m) = debugger.answer input d (Move m)
+going_answer input debugger (Traced m) = trace.answer input debugger m
+going_answer input debugger (Watched place m) = trace.answer input debugger m
 
 -- the place of the data break point to whose change a movement goes
 abbrev pub place_of : Going → Option ℕ
@@ -43,7 +43,7 @@ place_met (Some place) answer = if says_change answer then Some place else None
 
 -- the place of the data break point at whose change a movement ended
 abbrev pub watched_by : Going → List ℕ → Option ℕ
-watched_by g answer = place_met (place_of g) answer
+watched_by going answer = place_met (place_of going) answer
 
 -- the movement to where the run stops, or back to there: RUN, BACK BREAK
 abbrev pub plain_going : Way → Going
@@ -52,25 +52,25 @@ plain_going way.Back = Standing BackBreak
 
 -- to where a question changes that is the data break point in this place
 abbrev pub change_going : Way → ℕ → Option Question → Going
-change_going w place None = plain_going w
-change_going w place (Some x) = Watched place (change_movement w x)
+change_going way place None = plain_going way
+change_going way place (Some x) = Watched place (change_movement way x)
 
 -- to the change of the data break point in this place
 abbrev pub watched_going : Way → List (List ℕ) → Option ℕ → Going
-watched_going w watched None = plain_going w
-watched_going w watched (Some place) = change_going w place (question_of (unwrap_or (slice_get watched place) []))
+watched_going way watched None = plain_going way
+watched_going way watched (Some place) = change_going way place (question_of (unwrap_or (slice_get watched place) []))
 
 -- to where the run stops: with data break points it is RUN CHANGE or BACK CHANGE for the one whose change is nearest
 abbrev pub run_going : Input → DebuggerState → List (List ℕ) → Way → Going
-run_going t d watched w = watched_going w watched (nearest_place t d w watched)
+run_going input debugger watched way = watched_going way watched (nearest_place input debugger way watched)
 
 -- the movement that a request asks for: OVER, STEP, OUT; BACK OVER, or BACK for a single step; GO 0
 abbrev pub going_of : Input → DebuggerState → List (List ℕ) → Command → Option Going
-going_of t d watched Continue = Some (run_going t d watched way.Forward)
-going_of t d watched Next = Some (Traced (Over 1))
-going_of t d watched StepIn = Some (Standing (Step 1))
-going_of t d watched StepOut = Some (Traced Out)
-going_of t d watched (StepBack single) = Some (if single then Standing (Back 1) else Traced (BackOver 1))
-going_of t d watched ReverseContinue = Some (run_going t d watched way.Back)
-going_of t d watched Restart = Some (Traced (Go 0))
-going_of t d watched _ = None
+going_of input debugger watched Continue = Some (run_going input debugger watched way.Forward)
+going_of input debugger watched Next = Some (Traced (Over 1))
+going_of input debugger watched StepIn = Some (Standing (Step 1))
+going_of input debugger watched StepOut = Some (Traced Out)
+going_of input debugger watched (StepBack single) = Some (if single then Standing (Back 1) else Traced (BackOver 1))
+going_of input debugger watched ReverseContinue = Some (run_going input debugger watched way.Back)
+going_of input debugger watched Restart = Some (Traced (Go 0))
+going_of input debugger watched _ = None

@@ -23,9 +23,9 @@ use Rattle.ss_adapter.specs.Words.{before_word, last_word}
 
 -- why it stops in state p that is ready
 abbrev pub ready_reason : Input → List ℕ → ℕ → List ℕ
-ready_reason t breaks p =
+ready_reason input breaks p =
     if nat_eq p 0 then codes "entry" else
-    if is_on_break t breaks p then codes "breakpoint" else codes "step"
+    if is_on_break input breaks p then codes "breakpoint" else codes "step"
 
 -- why it stops with this status
 abbrev pub reason_by : Status → List ℕ → List ℕ
@@ -36,11 +36,12 @@ reason_by (Faulted f) ready = codes "exception"
 
 -- why it stops in state p
 abbrev pub reason_at : Input → List ℕ → ℕ → List ℕ
-reason_at t breaks p = reason_by (run t p).status (ready_reason t breaks p)
+reason_at input breaks p = reason_by (run input p).status (ready_reason input breaks p)
 
 -- the break line at which it stops, where that is why
 abbrev pub hit_at : Input → List ℕ → ℕ → Option ℕ
-hit_at t breaks p = if bytes_eq (reason_at t breaks p) (codes "breakpoint") then line_id (line_at t p) else None
+hit_at input breaks p =
+    if bytes_eq (reason_at input breaks p) (codes "breakpoint") then line_id (line_at input p) else None
 
 -- whether a run has ended with this status, by no fault
 abbrev pub is_end : Status → Bool

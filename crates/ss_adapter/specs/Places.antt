@@ -13,11 +13,11 @@ use Rattle.ss_adapter.specs.declared.desk.TheConstants.{WATCH_LIMIT}
 
 -- the lines of the places of a section
 abbrev pub section_lines : SectionTable → List ℕ
-section_lines s = map (λ spot. spot.line) s.places
+section_lines section = map (λ spot. spot.line) section.places
 
 -- the lines of all places
 abbrev pub place_lines : ProgramTable → List ℕ
-place_lines p = flat_map section_lines p.sections
+place_lines program = flat_map section_lines program.sections
 
 -- whether a line comes before the nearest so far
 abbrev pub is_nearer_line : ℕ → Option ℕ → Bool
@@ -30,7 +30,7 @@ nearer_line from nearest line = if nat_le from line && is_nearer_line line neare
 
 -- the nearest line with a place, from a line on
 unfoldable pub next_line : ProgramTable → ℕ → Option ℕ
-next_line p from = fold (nearer_line from) None (place_lines p)
+next_line program from = fold (nearer_line from) None (place_lines program)
 
 -- the number of the break point of a line, behind those of data break points
 abbrev pub line_id : ℕ → Option ℕ
@@ -47,27 +47,28 @@ pub record Setting : Type 0 where
 
 -- a break line, or why it is none
 abbrev pub with_break : Setting → ℕ → Setting
-with_break s line =
-    if bytes_eq (break_text s.breaks line) (codes "TOO MANY BREAKS\n")
+with_break setting line =
+    if bytes_eq (break_text setting.breaks line) (codes "TOO MANY BREAKS\n")
     then record {
-      breaks = breaks_after_set s.breaks line;
-      set = s.set;
-      text = s.text ++ unset_item (codes "too many break points");
+      breaks = breaks_after_set setting.breaks line;
+      set = setting.set;
+      text = setting.text ++ unset_item (codes "too many break points");
     }
     else record {
-      breaks = breaks_after_set s.breaks line;
-      set = s.set ++ line ∷ [];
-      text = s.text ++ set_item (line + WATCH_LIMIT) line;
+      breaks = breaks_after_set setting.breaks line;
+      set = setting.set ++ line ∷ [];
+      text = setting.text ++ set_item (line + WATCH_LIMIT) line;
     }
 
 -- a break line, if there is one, or this reason why there is none
 abbrev pub with_next : List ℕ → Setting → Option ℕ → Setting
-with_next reason s (Some line) = with_break s line
-with_next reason s None = record { breaks = s.breaks; set = s.set; text = s.text ++ unset_item reason }
+with_next reason setting (Some line) = with_break setting line
+with_next reason setting None =
+    record { breaks = setting.breaks; set = setting.set; text = setting.text ++ unset_item reason }
 
 -- the break line for a line that the request names, if a place stands on it or behind it
 abbrev pub with_asked : ProgramTable → Setting → ℕ → Setting
-with_asked p s line = with_next (codes "no statement stands here") s (next_line p line)
+with_asked program setting line = with_next (codes "no statement stands here") setting (next_line program line)
 
 -- the line of a place
 abbrev pub spot_line : Option Spot → Option ℕ
@@ -81,12 +82,13 @@ first_place_line (Some s) = spot_line (slice_get s.places 0)
 
 -- the line of the first place of the section of this name
 abbrev pub named_line : ProgramTable → List ℕ → Option ℕ
-named_line p name =
-    first_place_line (option_and_then (slice_get p.sections) (position (λ s. bytes_eq name s.name) p.sections))
+named_line program name =
+    first_place_line (option_and_then (slice_get program.sections)
+        (position (λ s. bytes_eq name s.name) program.sections))
 
 -- the break line for a section that the request names
 abbrev pub with_named : ProgramTable → Setting → List ℕ → Setting
-with_named p s name = with_next (codes "no section has this name") s (named_line p name)
+with_named program setting name = with_next (codes "no section has this name") setting (named_line program name)
 
 -- break lines without those that an earlier request set
 abbrev pub without_lines : List ℕ → List ℕ → List ℕ
@@ -102,12 +104,13 @@ initial_setting breaks set kept = record { breaks = breaks_left breaks set kept;
 
 -- the break lines behind a request that names lines
 abbrev pub setting_of : ProgramTable → List ℕ → List ℕ → List ℕ → List ℕ → Setting
-setting_of p breaks set kept asked = fold (with_asked p) (initial_setting breaks set kept) asked
+setting_of program breaks set kept asked = fold (with_asked program) (initial_setting breaks set kept) asked
 
 -- the break lines behind a request that names sections
 abbrev pub section_setting_of : ProgramTable → List ℕ → List ℕ → List ℕ → List (List ℕ) → Setting
-section_setting_of p breaks set kept names = fold (with_named p) (initial_setting breaks set kept) names
+section_setting_of program breaks set kept names = fold (with_named program) (initial_setting breaks set kept) names
 
 -- what was set, and what is said of it
 abbrev pub IsSetting : DebuggerState → DebuggerState → List ℕ → List ℕ → Setting → Type 0
-IsSetting old new set text s = (new ≡ debugger_state_with old s.breaks) × (set ≡ s.set) × (text ≡ s.text)
+IsSetting old new set text setting =
+    (new ≡ debugger_state_with old setting.breaks) × (set ≡ setting.set) × (text ≡ setting.text)

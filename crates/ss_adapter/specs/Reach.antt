@@ -17,8 +17,8 @@ use Rattle.ss_adapter.specs.Looking.{question_of}
 
 -- the movement to where a question changes: RUN CHANGE, BACK CHANGE
 abbrev pub change_movement : Way → Question → Movement
-change_movement Forward x = RunChange x
-change_movement Back x = BackChange x
+change_movement Forward question = RunChange question
+change_movement Back question = BackChange question
 
 -- whether a movement ended at a change, by its answer
 abbrev pub says_change : List ℕ → Bool
@@ -30,19 +30,19 @@ steps_between p q = if nat_lt q p then p - q else q - p
 
 -- how far a movement leads, and whether it ends at a change
 abbrev pub movement_reach : Input → DebuggerState → Movement → Reach
-movement_reach t d m = record {
-  steps = steps_between d.position (trace.state_after t d m).position;
-  met = says_change (trace.answer t d m);
+movement_reach input debugger movement = record {
+  steps = steps_between debugger.position (trace.state_after input debugger movement).position;
+  met = says_change (trace.answer input debugger movement);
 }
 
 -- that of the movement to where a question changes; without one, further than any movement leads
 abbrev pub reach_of : Input → DebuggerState → Way → Option Question → Reach
-reach_of t d way None = record { steps = GREATEST_BOUND + 1; met = false }
-reach_of t d way (Some x) = movement_reach t d (change_movement way x)
+reach_of input debugger way None = record { steps = GREATEST_BOUND + 1; met = false }
+reach_of input debugger way (Some x) = movement_reach input debugger (change_movement way x)
 
 -- those of the questions of some texts
 abbrev pub reaches : Input → DebuggerState → Way → List (List ℕ) → List Reach
-reaches t d way texts = map (λ text. reach_of t d way (question_of text)) texts
+reaches input debugger way texts = map (λ text. reach_of input debugger way (question_of text)) texts
 
 -- ---- the nearest
 
@@ -52,8 +52,8 @@ is_nearer a b = if nat_eq a.steps b.steps then a.met && not b.met else nat_lt a.
 
 -- the nearest so far, where one more is in this place
 abbrev pub nearer : Option Found → ℕ → Reach → Found
-nearer None place r = record { place = place; reach = r }
-nearer (Some f) place r = if is_nearer r f.reach then record { place = place; reach = r } else f
+nearer None place reach = record { place = place; reach = reach }
+nearer (Some f) place reach = if is_nearer reach f.reach then record { place = place; reach = reach } else f
 
 -- the nearest, where these are left, the first of them in this place
 abbrev pub nearest_from : Option Found → ℕ → List Reach → Option Found
@@ -66,7 +66,7 @@ nearest rs = nearest_from None 0 rs
 
 -- the place of the text whose question changes nearest
 unfoldable pub nearest_place : Input → DebuggerState → Way → List (List ℕ) → Option ℕ
-nearest_place t d way texts = option_map (λ f. f.place) (nearest (reaches t d way texts))
+nearest_place input debugger way texts = option_map (λ f. f.place) (nearest (reaches input debugger way texts))
 
 -- ---- laws
 

@@ -57,24 +57,25 @@ pub record AdapterState : Type 0 where
 
 -- the report of the state where the debugger stands
 abbrev pub report_at : Input → DebuggerState → List ℕ
-report_at t d = (run t d.position).report
+report_at input debugger = (run input debugger.position).report
 
 -- how much of a report is told once it was reached: it is told once
 abbrev pub told_with : DeskView → List ℕ → DeskView
-told_with k report = record {
-  path = k.path;
-  model = k.model;
-  displays = k.displays;
-  set = k.set;
-  sections = k.sections;
-  watched = k.watched;
-  told = max k.told (length report);
-  stops = k.stops;
+told_with desk report = record {
+  path = desk.path;
+  model = desk.model;
+  displays = desk.displays;
+  set = desk.set;
+  sections = desk.sections;
+  watched = desk.watched;
+  told = max desk.told (length report);
+  stops = desk.stops;
 }
 
 -- where a movement leads
 abbrev pub adapter_state_at : AdapterState → DebuggerState → AdapterState
-adapter_state_at s d = record { input = s.input; debugger = d; desk = told_with s.desk (report_at s.input d) }
+adapter_state_at state debugger =
+    record { input = state.input; debugger = debugger; desk = told_with state.desk (report_at state.input debugger) }
 
 -- ---- what is sent
 
@@ -104,84 +105,92 @@ exit_events = event (codes "terminated") (codes "{}") ∷ event (codes "exited")
 
 -- it ended where the debugger is: the run stops there, or is over, where it doesn't stop at its end
 abbrev pub stop_events : Input → DebuggerState → Bool → List ℕ → List Sent
-stop_events t d at_end answer =
-    if is_over at_end (run t d.position).status then exit_events
-    else stopped_event (reason_at t d.breaks d.position) (without_last answer) (hit_at t d.breaks d.position) ∷ []
+stop_events input debugger at_end answer =
+    if is_over at_end (run input debugger.position).status then exit_events
+    else stopped_event (reason_at input debugger.breaks debugger.position) (without_last answer)
+        (hit_at input debugger.breaks debugger.position) ∷ []
 
 -- the one or the other, by the data break point in that place, if there is one
 abbrev pub end_by : Input → DebuggerState → Bool → List ℕ → ℕ → Option (List ℕ) → List Sent
-end_by t d at_end answer place None = stop_events t d at_end answer
-end_by t d at_end answer place (Some question) = change_event answer place question ∷ []
+end_by input debugger at_end answer place None = stop_events input debugger at_end answer
+end_by input debugger at_end answer place (Some question) = change_event answer place question ∷ []
 
 -- by the place, if it ended at a change
 abbrev pub end_of : Input → DebuggerState → Bool → List (List ℕ) → List ℕ → Option ℕ → List Sent
-end_of t d at_end watched answer None = stop_events t d at_end answer
-end_of t d at_end watched answer (Some place) = end_by t d at_end answer place (slice_get watched place)
+end_of input debugger at_end watched answer None = stop_events input debugger at_end answer
+end_of input debugger at_end watched answer (Some place) =
+    end_by input debugger at_end answer place (slice_get watched place)
 
--- what follows a movement to d with this answer: first what was printed, then where it stopped
+-- what follows a movement to debugger with this answer: first what was printed, then where it stopped
 abbrev pub behind_movement : Input → DeskView → DebuggerState → List ℕ → Option ℕ → List Sent
-behind_movement t k d answer place =
-    untold_output k.told (report_at t d) ++ end_of t d k.stops.at_end k.watched answer place
+behind_movement input desk debugger answer place =
+    untold_output desk.told (report_at input debugger)
+        ++ end_of input debugger desk.stops.at_end desk.watched answer place
 
 -- what follows a movement by its answer
 abbrev pub behind_going : AdapterState → Going → List ℕ → List Sent
-behind_going s g answer =
-    behind_movement s.input s.desk (state_behind s.input s.debugger g) answer (watched_by g answer)
+behind_going state going answer =
+    behind_movement state.input state.desk (state_behind state.input state.debugger going) answer
+        (watched_by going answer)
 
 -- a reply with a body, and a movement behind it
 abbrev pub reply_with_going : AdapterState → List ℕ → Going → List Sent
-reply_with_going s body g = reply body ∷ behind_going s g (going_answer s.input s.debugger g)
+reply_with_going state body going =
+    reply body ∷ behind_going state going (going_answer state.input state.debugger going)
 
 -- to where the run stops
 abbrev pub going_to_stop : AdapterState → Going
-going_to_stop s = run_going s.input s.debugger s.desk.watched Forward
+going_to_stop state = run_going state.input state.debugger state.desk.watched Forward
 
 -- a reply, and where the run stands
 abbrev pub reply_with_stop : Input → ℕ → List ℕ → List Sent
-reply_with_stop t p reason = reply (codes "{}") ∷ stopped_event reason (without_last (state_line t p)) None ∷ []
+reply_with_stop input p reason = reply (codes "{}") ∷ stopped_event reason (without_last (state_line input p)) None ∷ []
 
 -- the console is a prompt over the debugger
 abbrev pub at_console : AdapterState → PromptState
-at_console s = record {
-  model = s.desk.model;
-  lines = source_lines s.desk.model;
-  input = s.input;
-  debugger = s.debugger;
-  displays = s.desk.displays;
+at_console state = record {
+  model = state.desk.model;
+  lines = source_lines state.desk.model;
+  input = state.input;
+  debugger = state.debugger;
+  displays = state.desk.displays;
 }
 
 -- what the prompt answers to a command
 abbrev pub console_answer : AdapterState → PromptCommand → List ℕ
-console_answer s c = prompt_answer (at_console s) c
+console_answer state command = prompt_answer (at_console state) command
 
 -- where it leads the prompt
 abbrev pub console_after : AdapterState → PromptCommand → PromptState
-console_after s c = prompt_state_after (at_console s) c
+console_after state command = prompt_state_after (at_console state) command
 
 -- whether line l of the model is a break line there
 abbrev pub is_break_behind : AdapterState → PromptCommand → ℕ → Bool
-is_break_behind s c l = is_break_line (console_after s c).debugger.breaks l
+is_break_behind state command l = is_break_line (console_after state command).debugger.breaks l
 
 -- whether line l has become a break line by a command, or is none any more
 abbrev pub point_behind : AdapterState → PromptCommand → Option ℕ → List Sent
-point_behind s c None = []
-point_behind s c (Some l) =
-    point_told s.input.program s.desk.path l (is_break_behind s c l) (is_break_line s.debugger.breaks l)
+point_behind state command None = []
+point_behind state command (Some l) =
+    point_told state.input.program state.desk.path l (is_break_behind state command l)
+        (is_break_line state.debugger.breaks l)
 
 -- what follows a command: behind a movement where it stopped, else whether a line has become a break line
 abbrev pub behind_command : AdapterState → PromptCommand → Bool → List Sent
-behind_command s c true =
-    behind_movement s.input s.desk (console_after s c).debugger (first_line (console_answer s c)) None
-behind_command s c false = point_behind s c (point_of s.input.program c)
+behind_command state command true =
+    behind_movement state.input state.desk (console_after state command).debugger
+        (first_line (console_answer state command)) None
+behind_command state command false = point_behind state command (point_of state.input.program command)
 
 -- a command of the console: what the prompt answers, and what follows it
 abbrev pub answer_to_line : AdapterState → PromptCommand → List Sent
-answer_to_line s c = reply (result_body (console_answer s c)) ∷ behind_command s c (is_movement c)
+answer_to_line state command =
+    reply (result_body (console_answer state command)) ∷ behind_command state command (is_movement command)
 
 -- a question that is answered
 abbrev pub answer_to_question : Input → ℕ → Option Question → List Sent
-answer_to_question t p (Some q) = reply (result_body (without_last (answer_at t q p))) ∷ []
-answer_to_question t p None = failure (codes "no question") ∷ []
+answer_to_question input p (Some q) = reply (result_body (without_last (answer_at input q p))) ∷ []
+answer_to_question input p None = failure (codes "no question") ∷ []
 
 -- what is told of a fault
 abbrev pub answer_on_fault : Option (List ℕ) → List Sent
@@ -194,12 +203,14 @@ first_lines n lines = take n lines
 
 -- the break lines behind a request
 abbrev pub setting_in : AdapterState → List ℕ → Setting
-setting_in s lines =
-    setting_of s.input.program s.debugger.breaks s.desk.set s.desk.sections (first_lines POINT_LIMIT lines)
+setting_in state lines =
+    setting_of state.input.program state.debugger.breaks state.desk.set state.desk.sections
+        (first_lines POINT_LIMIT lines)
 
 -- the break lines behind a request that names sections
 abbrev pub sections_in : AdapterState → List (List ℕ) → Setting
-sections_in s names = section_setting_of s.input.program s.debugger.breaks s.desk.sections s.desk.set names
+sections_in state names =
+    section_setting_of state.input.program state.debugger.breaks state.desk.sections state.desk.set names
 
 -- the content of a source: the report is number 1
 abbrev pub source_messages : List ℕ → ℕ → List Sent
@@ -212,174 +223,177 @@ answer_to_terminate = reply (codes "{}") ∷ exit_events
 
 -- configurationDone
 abbrev pub answer_to_configuration : AdapterState → List Sent
-answer_to_configuration s =
-    if s.desk.stops.at_start then reply_with_stop s.input s.debugger.position (codes "entry")
-    else reply_with_going s (codes "{}") (going_to_stop s)
+answer_to_configuration state =
+    if state.desk.stops.at_start then reply_with_stop state.input state.debugger.position (codes "entry")
+    else reply_with_going state (codes "{}") (going_to_stop state)
 
 -- a page of the frames of a state, and how many there are
 abbrev pub answer_with_frames : Input → State → List ℕ → ℕ → ℕ → List Sent
-answer_with_frames t s path start levels =
-    reply (frames_body (frames_page t.program s path start levels) (frame_count s)) ∷ []
+answer_with_frames input state path start levels =
+    reply (frames_body (frames_page input.program state path start levels) (frame_count state)) ∷ []
 
 -- the words that may stand where a word is typed, by the section that runs
 abbrev pub answer_with_completions : ProgramTable → State → List ℕ → ℕ → List Sent
-answer_with_completions p s text column =
-    reply (list_body (codes "targets") (completions p s.frame.section text column)) ∷ []
+answer_with_completions program state text column =
+    reply (list_body (codes "targets") (completions program state.frame.section text column)) ∷ []
 
 -- what a request is answered with that asks about the run
 unfoldable pub answer_about_run : AdapterState → Command → List Sent
-answer_about_run s Initialize = reply CAPABILITIES.now ∷ []
-answer_about_run s (Launch model input stops) = failure (codes "a run is launched already") ∷ []
-answer_about_run s Threads = reply THREADS.now ∷ []
-answer_about_run s (StackTrace start levels) =
-    answer_with_frames s.input (run s.input s.debugger.position) s.desk.path start levels
-answer_about_run s (Scopes frame) =
-    reply (list_body (codes "scopes") (scopes_text s.input s.debugger.position frame)) ∷ []
-answer_about_run s (Variables wanted) =
-    reply (list_body (codes "variables") (variables_text s.input s.debugger.position wanted)) ∷ []
-answer_about_run s (DataBreakpointInfo reference name) = reply (info_of s.input.program reference name) ∷ []
-answer_about_run s (Completions text column) =
-    answer_with_completions s.input.program (run s.input s.debugger.position) text column
-answer_about_run s (Ask text) = answer_to_question s.input s.debugger.position (question_of text)
-answer_about_run s (Source reference) = source_messages (report_at s.input s.debugger) reference
-answer_about_run s LoadedSources = reply (sources_body s.desk.path) ∷ []
-answer_about_run s ExceptionInfo = answer_on_fault (exception_by (run s.input s.debugger.position).status)
-answer_about_run s Pause = reply_with_stop s.input s.debugger.position (codes "pause")
-answer_about_run s Terminate = answer_to_terminate
-answer_about_run s Bad = failure (codes "an argument is missing") ∷ []
-answer_about_run s Unknown = failure (codes "unknown request") ∷ []
-answer_about_run s other = reply (codes "{}") ∷ []
+answer_about_run state Initialize = reply CAPABILITIES.now ∷ []
+answer_about_run state (Launch model input stops) = failure (codes "a run is launched already") ∷ []
+answer_about_run state Threads = reply THREADS.now ∷ []
+answer_about_run state (StackTrace start levels) =
+    answer_with_frames state.input (run state.input state.debugger.position) state.desk.path start levels
+answer_about_run state (Scopes frame) =
+    reply (list_body (codes "scopes") (scopes_text state.input state.debugger.position frame)) ∷ []
+answer_about_run state (Variables wanted) =
+    reply (list_body (codes "variables") (variables_text state.input state.debugger.position wanted)) ∷ []
+answer_about_run state (DataBreakpointInfo reference name) = reply (info_of state.input.program reference name) ∷ []
+answer_about_run state (Completions text column) =
+    answer_with_completions state.input.program (run state.input state.debugger.position) text column
+answer_about_run state (Ask text) = answer_to_question state.input state.debugger.position (question_of text)
+answer_about_run state (Source reference) = source_messages (report_at state.input state.debugger) reference
+answer_about_run state LoadedSources = reply (sources_body state.desk.path) ∷ []
+answer_about_run state ExceptionInfo = answer_on_fault (exception_by (run state.input state.debugger.position).status)
+answer_about_run state Pause = reply_with_stop state.input state.debugger.position (codes "pause")
+answer_about_run state Terminate = answer_to_terminate
+answer_about_run state Bad = failure (codes "an argument is missing") ∷ []
+answer_about_run state Unknown = failure (codes "unknown request") ∷ []
+answer_about_run state other = reply (codes "{}") ∷ []
 
 -- what a request is answered with that asks for no movement
 unfoldable pub told_of : AdapterState → Command → List Sent
-told_of s (SetBreakpoints lines) = reply (list_body (codes "breakpoints") (setting_in s lines).text) ∷ []
-told_of s (SetFunctionBreakpoints names) = reply (list_body (codes "breakpoints") (sections_in s names).text) ∷ []
-told_of s (SetDataBreakpoints ids) = reply (list_body (codes "breakpoints") (watching_of ids).text) ∷ []
-told_of s ConfigurationDone = answer_to_configuration s
-told_of s (Obey text) = answer_to_line s (prompt_command_of text)
-told_of s other = answer_about_run s other
+told_of state (SetBreakpoints lines) = reply (list_body (codes "breakpoints") (setting_in state lines).text) ∷ []
+told_of state (SetFunctionBreakpoints names) =
+    reply (list_body (codes "breakpoints") (sections_in state names).text) ∷ []
+told_of state (SetDataBreakpoints ids) = reply (list_body (codes "breakpoints") (watching_of ids).text) ∷ []
+told_of state ConfigurationDone = answer_to_configuration state
+told_of state (Obey text) = answer_to_line state (prompt_command_of text)
+told_of state other = answer_about_run state other
 
 -- what a request is answered with: where it asks for a movement, what follows that
 abbrev pub answers_by : AdapterState → Command → Option Going → List Sent
-answers_by s command (Some g) = reply_with_going s (codes "{}") g
-answers_by s command None = told_of s command
+answers_by state command (Some g) = reply_with_going state (codes "{}") g
+answers_by state command None = told_of state command
 
 -- what a request is answered with
 abbrev pub answers : AdapterState → Command → List Sent
-answers s command = answers_by s command (going_of s.input s.debugger s.desk.watched command)
+answers state command = answers_by state command (going_of state.input state.debugger state.desk.watched command)
 
 -- ---- where a request leads
 
 -- where the prompt is behind a command, with this desk but for the questions that are answered at each stop
 abbrev pub left_at : AdapterState → PromptState → DeskView → AdapterState
-left_at s after k =
-    record { input = s.input; debugger = after.debugger; desk = desk_showing k after.displays }
+left_at state after desk =
+    record { input = state.input; debugger = after.debugger; desk = desk_showing desk after.displays }
 
 -- the desk behind a command that is no movement
 abbrev pub desk_behind : AdapterState → PromptCommand → Option ℕ → DeskView
-desk_behind s c None = s.desk
-desk_behind s c (Some l) = desk_with s.desk l (is_break_behind s c l) (is_break_line s.debugger.breaks l)
+desk_behind state command None = state.desk
+desk_behind state command (Some l) =
+    desk_with state.desk l (is_break_behind state command l) (is_break_line state.debugger.breaks l)
 
 -- the desk behind a command
 abbrev pub desk_after : AdapterState → PromptCommand → Bool → DeskView
-desk_after s c true = told_with s.desk (report_at s.input (console_after s c).debugger)
-desk_after s c false = desk_behind s c (point_of s.input.program c)
+desk_after state command true = told_with state.desk (report_at state.input (console_after state command).debugger)
+desk_after state command false = desk_behind state command (point_of state.input.program command)
 
 -- behind a command of the console
 abbrev pub behind_line : AdapterState → PromptCommand → AdapterState
-behind_line s c = left_at s (console_after s c) (desk_after s c (is_movement c))
+behind_line state command = left_at state (console_after state command) (desk_after state command (is_movement command))
 
 -- behind break lines
 abbrev pub behind_setting : AdapterState → Setting → AdapterState
-behind_setting s setting = record {
-  input = s.input;
-  debugger = debugger_state_with s.debugger setting.breaks;
+behind_setting state setting = record {
+  input = state.input;
+  debugger = debugger_state_with state.debugger setting.breaks;
   desk = record {
-    path = s.desk.path;
-    model = s.desk.model;
-    displays = s.desk.displays;
+    path = state.desk.path;
+    model = state.desk.model;
+    displays = state.desk.displays;
     set = setting.set;
-    sections = s.desk.sections;
-    watched = s.desk.watched;
-    told = s.desk.told;
-    stops = s.desk.stops;
+    sections = state.desk.sections;
+    watched = state.desk.watched;
+    told = state.desk.told;
+    stops = state.desk.stops;
   };
 }
 
 -- behind break lines of sections
 abbrev pub behind_sections : AdapterState → Setting → AdapterState
-behind_sections s setting = record {
-  input = s.input;
-  debugger = debugger_state_with s.debugger setting.breaks;
+behind_sections state setting = record {
+  input = state.input;
+  debugger = debugger_state_with state.debugger setting.breaks;
   desk = record {
-    path = s.desk.path;
-    model = s.desk.model;
-    displays = s.desk.displays;
-    set = s.desk.set;
+    path = state.desk.path;
+    model = state.desk.model;
+    displays = state.desk.displays;
+    set = state.desk.set;
     sections = setting.set;
-    watched = s.desk.watched;
-    told = s.desk.told;
-    stops = s.desk.stops;
+    watched = state.desk.watched;
+    told = state.desk.told;
+    stops = state.desk.stops;
   };
 }
 
 -- behind data break points
 abbrev pub behind_watching : AdapterState → List (List ℕ) → AdapterState
-behind_watching s watched = record {
-  input = s.input;
-  debugger = s.debugger;
+behind_watching state watched = record {
+  input = state.input;
+  debugger = state.debugger;
   desk = record {
-    path = s.desk.path;
-    model = s.desk.model;
-    displays = s.desk.displays;
-    set = s.desk.set;
-    sections = s.desk.sections;
+    path = state.desk.path;
+    model = state.desk.model;
+    displays = state.desk.displays;
+    set = state.desk.set;
+    sections = state.desk.sections;
     watched = watched;
-    told = s.desk.told;
-    stops = s.desk.stops;
+    told = state.desk.told;
+    stops = state.desk.stops;
   };
 }
 
 -- once configured, the run stops where it stands when it is configured again
 abbrev pub once_configured : AdapterState → AdapterState
-once_configured s = record {
-  input = s.input;
-  debugger = s.debugger;
+once_configured state = record {
+  input = state.input;
+  debugger = state.debugger;
   desk = record {
-    path = s.desk.path;
-    model = s.desk.model;
-    displays = s.desk.displays;
-    set = s.desk.set;
-    sections = s.desk.sections;
-    watched = s.desk.watched;
-    told = s.desk.told;
-    stops = record { at_start = true; at_end = s.desk.stops.at_end };
+    path = state.desk.path;
+    model = state.desk.model;
+    displays = state.desk.displays;
+    set = state.desk.set;
+    sections = state.desk.sections;
+    watched = state.desk.watched;
+    told = state.desk.told;
+    stops = record { at_start = true; at_end = state.desk.stops.at_end };
   };
 }
 
 -- behind configurationDone
 abbrev pub behind_configuring : AdapterState → AdapterState
-behind_configuring s =
+behind_configuring state =
     once_configured
-    (if s.desk.stops.at_start then s else adapter_state_at s (state_behind s.input s.debugger (going_to_stop s)))
+    (if state.desk.stops.at_start then state
+        else adapter_state_at state (state_behind state.input state.debugger (going_to_stop state)))
 
 -- behind a request that asks for no movement
 unfoldable pub left_by : AdapterState → Command → AdapterState
-left_by s (SetBreakpoints lines) = behind_setting s (setting_in s lines)
-left_by s (SetFunctionBreakpoints names) = behind_sections s (sections_in s names)
-left_by s (SetDataBreakpoints ids) = behind_watching s (watching_of ids).watched
-left_by s ConfigurationDone = behind_configuring s
-left_by s (Obey text) = behind_line s (prompt_command_of text)
-left_by s other = s
+left_by state (SetBreakpoints lines) = behind_setting state (setting_in state lines)
+left_by state (SetFunctionBreakpoints names) = behind_sections state (sections_in state names)
+left_by state (SetDataBreakpoints ids) = behind_watching state (watching_of ids).watched
+left_by state ConfigurationDone = behind_configuring state
+left_by state (Obey text) = behind_line state (prompt_command_of text)
+left_by state other = state
 
 -- behind a request that asks for a movement, or none
 abbrev pub state_by : AdapterState → Command → Option Going → AdapterState
-state_by s command (Some g) = adapter_state_at s (state_behind s.input s.debugger g)
-state_by s command None = left_by s command
+state_by state command (Some g) = adapter_state_at state (state_behind state.input state.debugger g)
+state_by state command None = left_by state command
 
 -- behind a request
 abbrev pub state_after : AdapterState → Command → AdapterState
-state_after s command = state_by s command (going_of s.input s.debugger s.desk.watched command)
+state_after state command = state_by state command (going_of state.input state.debugger state.desk.watched command)
 
 -- whether the session goes on
 abbrev pub further_of : Command → Further
@@ -388,4 +402,5 @@ further_of _ = further.On
 
 -- a debugger and a desk
 abbrev pub adapter_state_of : DebuggerView → DeskView → AdapterState
-adapter_state_of d k = record { input = d.machine.input; debugger = debugger_state_of d; desk = k }
+adapter_state_of debugger desk =
+    record { input = debugger.machine.input; debugger = debugger_state_of debugger; desk = desk }

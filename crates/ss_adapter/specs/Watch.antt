@@ -27,19 +27,20 @@ pub record Watching : Type 0 where
 
 -- one that is not set, for this reason
 abbrev pub with_refusal : Watching → List ℕ → Watching
-with_refusal w reason = record { watched = w.watched; text = w.text ++ unset_item reason }
+with_refusal watching reason = record { watched = watching.watched; text = watching.text ++ unset_item reason }
 
 -- one more, which is a question or is none: its number is its place, counted from 1 on
 abbrev pub with_question : Watching → List ℕ → Bool → Watching
-with_question w id false = with_refusal w (codes "no question")
-with_question w id true =
-    if nat_lt (length w.watched) WATCH_LIMIT
-    then record { watched = w.watched ++ id ∷ []; text = w.text ++ watched_item (length w.watched + 1) }
-    else with_refusal w (codes "too many data break points")
+with_question watching id false = with_refusal watching (codes "no question")
+with_question watching id true =
+    if nat_lt (length watching.watched) WATCH_LIMIT
+    then record { watched = watching.watched ++ id ∷ []; text = watching.text
+        ++ watched_item (length watching.watched + 1) }
+    else with_refusal watching (codes "too many data break points")
 
 -- one more
 unfoldable pub with_watched : Watching → List ℕ → Watching
-with_watched w id = with_question w id (is_some (question_of id))
+with_watched watching id = with_question watching id (is_some (question_of id))
 
 -- those of a request
 abbrev pub watching_of : List (List ℕ) → Watching
@@ -47,7 +48,7 @@ watching_of ids = fold with_watched (record { watched = []; text = [] }) ids
 
 -- what was set, and what is said of it
 abbrev pub IsWatching : List (List ℕ) → List ℕ → Watching → Type 0
-IsWatching watched text w = (watched ≡ w.watched) × (text ≡ w.text)
+IsWatching watched text watching = (watched ≡ watching.watched) × (text ≡ watching.text)
 
 -- ---- what is shown
 
@@ -61,13 +62,13 @@ attribute_asked class k name = class ++ codes " " ++ decimal k ++ codes " " ++ n
 
 -- the question on what entity number k of class c has under a name: a list, or an attribute
 abbrev pub entity_asked_by : ProgramTable → ℕ → ℕ → List ℕ → Option ℕ → List ℕ
-entity_asked_by p c k name None = attribute_asked (class_of p c).name k name
-entity_asked_by p c k name (Some set) = list_asked name k
+entity_asked_by program c k name None = attribute_asked (class_of program c).name k name
+entity_asked_by program c k name (Some set) = list_asked name k
 
 -- the same, if there is such a class
 abbrev pub entity_asked : ProgramTable → ℕ → ℕ → List ℕ → List ℕ
-entity_asked p c k name =
-    if nat_lt c (length p.classes) then entity_asked_by p c k name (set_named p name) else []
+entity_asked program c k name =
+    if nat_lt c (length program.classes) then entity_asked_by program c k name (set_named program name) else []
 
 -- the question on a set of this name, where the system owns it
 abbrev pub set_asked_by : List ℕ → Owner → List ℕ
@@ -76,8 +77,8 @@ set_asked_by name (OwnedBy c) = []
 
 -- the same, if there is such a set
 abbrev pub set_asked : ProgramTable → List ℕ → Option ℕ → List ℕ
-set_asked p name None = []
-set_asked p name (Some s) = set_asked_by name (set_of p s).owner
+set_asked program name None = []
+set_asked program name (Some s) = set_asked_by name (set_of program s).owner
 
 -- the question on the list of a set of this name for the owner whose number stands last in a name, if a class owns it
 abbrev pub owned_asked_by : List ℕ → List ℕ → Owner → List ℕ
@@ -86,8 +87,8 @@ owned_asked_by set name (OwnedBy c) = codes "SET " ++ set ++ codes " " ++ last_w
 
 -- the same of set number s, if there is one
 abbrev pub owned_asked : ProgramTable → ℕ → List ℕ → List ℕ
-owned_asked p s name =
-    if nat_lt s (length p.sets) then owned_asked_by (set_of p s).name name (set_of p s).owner else []
+owned_asked program s name =
+    if nat_lt s (length program.sets) then owned_asked_by (set_of program s).name name (set_of program s).owner else []
 
 -- the question on the variable of this name
 abbrev pub variable_asked : List ℕ → List ℕ
@@ -103,15 +104,15 @@ run_asked name = if bytes_eq name (codes "STATE") then codes "WHERE" else name
 
 -- the question on what a group shows under a name, as it is asked; empty where the debugger has none
 abbrev pub asked_text : ProgramTable → List ℕ → Group → List ℕ
-asked_text p name Globals = variable_asked name
-asked_text p name (Locals depth) = local_asked name depth
-asked_text p name Sets = set_asked p name (set_named p name)
-asked_text p name Events = codes "EVENTS"
-asked_text p name Data = name
-asked_text p name Run = run_asked name
-asked_text p name (Entity c k) = entity_asked p c k name
-asked_text p name (Set s) = owned_asked p s name
-asked_text p name _ = []
+asked_text program name Globals = variable_asked name
+asked_text program name (Locals depth) = local_asked name depth
+asked_text program name Sets = set_asked program name (set_named program name)
+asked_text program name Events = codes "EVENTS"
+asked_text program name Data = name
+asked_text program name Run = run_asked name
+asked_text program name (Entity c k) = entity_asked program c k name
+asked_text program name (Set s) = owned_asked program s name
+asked_text program name _ = []
 
 -- whether a text may be a data break point: where it is a question
 abbrev pub info_by : List ℕ → List ℕ
@@ -119,5 +120,5 @@ info_by text = if is_some (question_of text) then info_body text else no_info_bo
 
 -- whether a name in a reference may be a data break point; without a reference it is an expression
 abbrev pub info_of : ProgramTable → ℕ → List ℕ → List ℕ
-info_of p reference name =
-    if nat_eq reference 0 then info_by name else info_by (asked_text p name (group_of reference))
+info_of program reference name =
+    if nat_eq reference 0 then info_by name else info_by (asked_text program name (group_of reference))

@@ -11,20 +11,21 @@ use Rattle.ss_changes.specs.Parts.{parts_of}
 
 -- whether a part is told between two states
 abbrev pub is_changed : ProgramTable → State → State → Part → Bool
-is_changed p s u x = is_told x (value_in p s x) (value_in p u x)
+is_changed program state u part = is_told part (value_in program state part) (value_in program u part)
 
 -- a part with its values in two states
 abbrev pub told_of : ProgramTable → State → State → Part → Change
-told_of p s u x = record { part = x; before = value_in p s x; after = value_in p u x }
+told_of program state u part =
+    record { part = part; before = value_in program state part; after = value_in program u part }
 
 -- those of some parts that are told, with both values
 abbrev pub changes_among : ProgramTable → State → State → List Part → List Change
-changes_among p s u xs = map (told_of p s u) (filter (is_changed p s u) xs)
+changes_among program state u xs = map (told_of program state u) (filter (is_changed program state u) xs)
 
 -- what differs between two states, in order
 abbrev pub changes_between : ProgramTable → State → State → List Change
-changes_between p s u = changes_among p s u (parts_of p s u)
+changes_between program state u = changes_among program state u (parts_of program state u)
 
 -- what step p changed
 unfoldable pub changed_at : Input → ℕ → List Change
-changed_at t p = changes_between t.program (run t p) (run t (p + 1))
+changed_at input p = changes_between input.program (run input p) (run input (p + 1))

@@ -39,21 +39,21 @@ local_part n i = Local n i ∷ []
 
 -- the names of the locals of the section of a frame
 abbrev pub names_in : ProgramTable → Option (ℕ × ℕ) → List (List ℕ)
-names_in p None = []
-names_in p (Some (section, place)) = (section_of p section).locals
+names_in program None = []
+names_in program (Some (section, place)) = (section_of program section).locals
 
 -- the names of the locals of the frame that stands on n others
 abbrev pub local_names : ProgramTable → State → ℕ → List (List ℕ)
-local_names p s n = names_in p (frame_place s (length s.below - n))
+local_names program state n = names_in program (frame_place state (length state.below - n))
 
 -- how many frames are below the last one that both states have
 abbrev pub frames_below : State → State → ℕ
-frames_below s u = min (length s.below) (length u.below)
+frames_below state u = min (length state.below) (length u.below)
 
 -- the locals of the last frame that both states have
 abbrev pub local_parts : ProgramTable → State → State → List Part
-local_parts p s u =
-    below_of (local_part (frames_below s u)) (length (local_names p u (frames_below s u)))
+local_parts program state u =
+    below_of (local_part (frames_below state u)) (length (local_names program u (frames_below state u)))
 
 -- ---- entities
 
@@ -63,11 +63,11 @@ attribute_part c k a = Attribute c k a ∷ []
 
 -- its attributes
 abbrev pub attributes_of : ProgramTable → ℕ → ℕ → List Part
-attributes_of p c k = below_of (attribute_part c k) (length (class_of p c).attributes)
+attributes_of program c k = below_of (attribute_part c k) (length (class_of program c).attributes)
 
 -- the attributes of the entities of class c that live in a state
 abbrev pub attribute_parts : ProgramTable → State → ℕ → List Part
-attribute_parts p u c = each_of (attributes_of p c) (living_numbers u.store c)
+attribute_parts program u c = each_of (attributes_of program c) (living_numbers u.store c)
 
 -- an entity of class c
 abbrev pub entity_part : ℕ → ℕ → List Part
@@ -75,15 +75,15 @@ entity_part c k = Entity c k ∷ []
 
 -- the entities of class c that live in a state
 abbrev pub entities_in : State → ℕ → List Part
-entities_in s c = each_of (entity_part c) (living_numbers s.store c)
+entities_in state c = each_of (entity_part c) (living_numbers state.store c)
 
 -- those of some parts that are not there in a state
 abbrev pub absent_in : ProgramTable → State → List Part → List Part
-absent_in p s xs = filter (λ x. not (is_there (value_in p s x))) xs
+absent_in program state xs = filter (λ x. not (is_there (value_in program state x))) xs
 
 -- the entities of class c that ended, then those that were made
 abbrev pub entity_parts : ProgramTable → State → State → ℕ → List Part
-entity_parts p s u c = absent_in p u (entities_in s c) ++ absent_in p s (entities_in u c)
+entity_parts program state u c = absent_in program u (entities_in state c) ++ absent_in program state (entities_in u c)
 
 -- ---- lists
 
@@ -98,7 +98,7 @@ owners_in u (OwnedBy c) = living_numbers u.store c
 
 -- the lists of set n in a state
 abbrev pub list_parts : ProgramTable → State → ℕ → List Part
-list_parts p u n = each_of (list_part n) (owners_in u (set_of p n).owner)
+list_parts program u n = each_of (list_part n) (owners_in u (set_of program n).owner)
 
 -- ---- notices
 
@@ -109,19 +109,20 @@ notices_of (n ∷ ns) = Notice n.class n.notice ∷ notices_of ns
 
 -- the notices that are pending in a state, in their order
 abbrev pub notices_in : ProgramTable → State → List Part
-notices_in p s = notices_of (in_order (rules_of p) s.agenda)
+notices_in program state = notices_of (in_order (rules_of program) state.agenda)
 
 -- the notices that were pending, then those that are new
 abbrev pub notice_parts : ProgramTable → State → State → List Part
-notice_parts p s u = notices_in p s ++ absent_in p s (notices_in p u)
+notice_parts program state u = notices_in program state ++ absent_in program state (notices_in program u)
 
 -- ---- all
 
 -- the parts of two states: variables, locals of the last frame that both have, attributes, entities, lists, notices,
 -- and what there is once
 abbrev pub parts_of : ProgramTable → State → State → List Part
-parts_of p s u =
-    below_of global_part (length p.globals) ++ local_parts p s u
-    ++ below_of (attribute_parts p u) (length p.classes) ++ below_of (entity_parts p s u) (length p.classes)
-    ++ below_of (list_parts p u) (length p.sets) ++ notice_parts p s u
+parts_of program state u =
+    below_of global_part (length program.globals) ++ local_parts program state u
+    ++ below_of (attribute_parts program u) (length program.classes)
+    ++ below_of (entity_parts program state u) (length program.classes)
+    ++ below_of (list_parts program u) (length program.sets) ++ notice_parts program state u
     ++ Taken ∷ Entry ∷ Clock ∷ Report ∷ []

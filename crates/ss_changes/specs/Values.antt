@@ -67,20 +67,21 @@ members_if None = Absent
 
 -- the list of a set, as the store has that, for owner k
 abbrev pub listed_in : SetShape → Store → ℕ → PartValue
-listed_in shape st k = members_if (list_by shape.owner shape.list st k)
+listed_in shape store k = members_if (list_by shape.owner shape.list store k)
 
 -- the value of a part in a state; the report only grows, so its length tells whether it changed
 abbrev pub value_in : ProgramTable → State → Part → PartValue
-value_in p s (parts.Global i) = number_if (slice_get s.variables i)
-value_in p s (parts.Local n i) = number_if (frame_local s (length s.below - n) i)
-value_in p s (parts.Attribute c k a) = number_read (attribute_of s.store c a k)
-value_in p s (parts.Entity c k) = life_of (exists s.store c k)
-value_in p s (parts.List n k) = if nat_lt n (length p.sets) then listed_in (shape_of p n) s.store k else Absent
-value_in p s (parts.Notice c k) = time_of (pending_at s.agenda.pending k)
-value_in p s parts.Taken = Count s.feed.taken
-value_in p s parts.Entry = Entered s.entry
-value_in p s parts.Clock = Number s.clock
-value_in p s parts.Report = Bytes (length s.report)
+value_in program state (parts.Global i) = number_if (slice_get state.variables i)
+value_in program state (parts.Local n i) = number_if (frame_local state (length state.below - n) i)
+value_in program state (parts.Attribute c k a) = number_read (attribute_of state.store c a k)
+value_in program state (parts.Entity c k) = life_of (exists state.store c k)
+value_in program state (parts.List n k) =
+    if nat_lt n (length program.sets) then listed_in (shape_of program n) state.store k else Absent
+value_in program state (parts.Notice c k) = time_of (pending_at state.agenda.pending k)
+value_in program state parts.Taken = Count state.feed.taken
+value_in program state parts.Entry = Entered state.entry
+value_in program state parts.Clock = Number state.clock
+value_in program state parts.Report = Bytes (length state.report)
 
 -- ---- what is told
 
@@ -97,5 +98,5 @@ needs_both _ = true
 
 -- whether a part with these values before and after is told
 abbrev pub is_told : Part → PartValue → PartValue → Bool
-is_told x before after =
-    not (is_same before after) && (not (needs_both x) || (is_there before && is_there after))
+is_told part before after =
+    not (is_same before after) && (not (needs_both part) || (is_there before && is_there after))

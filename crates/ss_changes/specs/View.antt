@@ -51,29 +51,29 @@ IsAhead old new = IsBetween old (position old.machine) (position old.machine + 1
 
 -- its program
 abbrev pub program_of : DebuggerView → ProgramTable
-program_of d = d.machine.input.program
+program_of debugger = debugger.machine.input.program
 
 -- the state where it stands
 abbrev pub state_of : DebuggerView → State
-state_of d = run d.machine.input (position d.machine)
+state_of debugger = run debugger.machine.input (position debugger.machine)
 
 -- the state before
 abbrev pub state_before : DebuggerView → State
-state_before d = run d.machine.input (position d.machine - 1)
+state_before debugger = run debugger.machine.input (position debugger.machine - 1)
 
 -- those of some parts that the last step changed
 abbrev pub changed_among : DebuggerView → List Part → List Change
-changed_among d xs = changes_among (program_of d) (state_before d) (state_of d) xs
+changed_among debugger xs = changes_among (program_of debugger) (state_before debugger) (state_of debugger) xs
 
 -- ---- how the code comes to it
 
 -- a part with its values before and after, where it is told
 abbrev pub told_if : Part → PartValue → PartValue → List Change
-told_if x before after =
-    if is_told x before after then record { part = x; before = before; after = after } ∷ [] else []
+told_if part before after =
+    if is_told part before after then record { part = part; before = before; after = after } ∷ [] else []
 
 -- those of some parts that are told, with these values before and their values in a state
 abbrev pub told_against : ProgramTable → State → List Part → List PartValue → List Change
-told_against p u [] values = []
-told_against p u (x ∷ xs) [] = []
-told_against p u (x ∷ xs) (v ∷ vs) = told_if x v (value_in p u x) ++ told_against p u xs vs
+told_against program u [] values = []
+told_against program u (x ∷ xs) [] = []
+told_against program u (x ∷ xs) (v ∷ vs) = told_if x v (value_in program u x) ++ told_against program u xs vs

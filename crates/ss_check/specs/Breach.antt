@@ -16,20 +16,21 @@ use Rattle.ss_check.specs.PlaceRules.{place_statements}
 
 -- items behind others
 abbrev pub item_statements : Declared → List HeadedItem → List HeadedItem → List Statement
-item_statements d before [] = []
-item_statements d before (x ∷ xs) =
-    item_statement d (declared_by before []) x ∷ item_statements d (before ++ x ∷ []) xs
+item_statements declared before [] = []
+item_statements declared before (x ∷ xs) =
+    item_statement declared (declared_by before []) x ∷ item_statements declared (before ++ x ∷ []) xs
 
 -- a section; b: what the items and the heads before it say
 abbrev pub section_statements : Declared → Declared → Section → List Statement
-section_statements d b s =
-    head_statement d b s ∷ (map (local_statement d) s.locals ++ place_statements d (is_main s.head) false s.places)
+section_statements d b section =
+    head_statement d b section
+        ∷ (map (local_statement d) section.locals ++ place_statements d (is_main section.head) false section.places)
 
 -- sections behind items and other heads
 abbrev pub sections_statements : Declared → List HeadedItem → List Head → List Section → List Statement
-sections_statements d xs before [] = []
-sections_statements d xs before (s ∷ ss) =
-    section_statements d (declared_by xs before) s ++ sections_statements d xs (before ++ s.head ∷ []) ss
+sections_statements declared xs before [] = []
+sections_statements declared xs before (s ∷ ss) =
+    section_statements declared (declared_by xs before) s ++ sections_statements declared xs (before ++ s.head ∷ []) ss
 
 -- the line of the last place, or l where there is none
 abbrev pub last_line : ℕ → List Spot → ℕ
@@ -43,20 +44,21 @@ last_end l (s ∷ ss) = last_end (last_line l s.places) ss
 
 -- C11 at the last END, that of the preamble or line 1 where there are no sections: no MAIN
 abbrev pub end_statement : Option ℕ → List Section → Statement
-end_statement end ss = record {
-  line = last_end (unwrap_or end 1) ss;
-  breaks = rule_where WrongMain (not (list_any (λ s. is_main s.head) ss));
+end_statement end sections = record {
+  line = last_end (unwrap_or end 1) sections;
+  breaks = rule_where WrongMain (not (list_any (λ s. is_main s.head) sections));
 }
 
 -- items under their headings, and sections
 abbrev pub statements_with : Declared → List HeadedItem → Option ℕ → List Section → List Statement
-statements_with d xs end ss =
-    item_statements d [] xs ++ sections_statements d xs [] ss ++ end_statement end ss ∷ []
+statements_with declared xs end sections =
+    item_statements declared [] xs ++ sections_statements declared xs [] sections ++ end_statement end sections ∷ []
 
 -- all of a program, in the order of the text
 abbrev pub statements : Decls → List Section → List Statement
-statements decls ss = statements_with (declared_by_program decls.items ss) (headed_items decls.items) decls.end ss
+statements decls sections =
+    statements_with (declared_by_program decls.items sections) (headed_items decls.items) decls.end sections
 
 -- the first breach of a program, if there is one
 abbrev pub breach : Decls → List Section → Option (CheckRule × ℕ)
-breach decls ss = first_breach (statements decls ss)
+breach decls sections = first_breach (statements decls sections)

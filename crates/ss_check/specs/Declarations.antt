@@ -61,16 +61,17 @@ pub record HeadedItem : Type 0 where
   -- the item
   pub item : Item
 
--- the heading over an item that stands behind others under h: a heading's own, else h
+-- the heading over an item that stands behind others under heading: a heading's own, else heading
 abbrev pub heading_at : Option Heading → Item → Option Heading
-heading_at h (Headed g names) = Some g
-heading_at h _ = h
+heading_at heading (Headed g names) = Some g
+heading_at heading _ = heading
 
 -- items behind others under a heading, each under its own
 abbrev pub headed_items_under : Option Heading → List ItemAt → List HeadedItem
-headed_items_under h [] = []
-headed_items_under h (i ∷ is) =
-    record { line = i.line; heading = heading_at h i.item; item = i.item } ∷ headed_items_under (heading_at h i.item) is
+headed_items_under heading [] = []
+headed_items_under heading (i ∷ is) =
+    record { line = i.line; heading = heading_at heading i.item; item = i.item }
+        ∷ headed_items_under (heading_at heading i.item) is
 
 -- the items of a preamble
 abbrev pub headed_items : List ItemAt → List HeadedItem
@@ -108,14 +109,15 @@ definition_facts (Sets names kind) = flat_map set_facts (all_of names)
 
 -- what an item under a heading declares besides its clauses
 abbrev pub item_facts : Option Heading → Item → List (Fact NameKind)
-item_facts h (Headed g names) = flat_map (class_facts (Some g)) (included_names names)
-item_facts h (OfEvery c clauses) = class_facts h c
-item_facts h (Defines d) = definition_facts d
-item_facts h _ = []
+item_facts heading (Headed g names) = flat_map (class_facts (Some g)) (included_names names)
+item_facts heading (OfEvery c clauses) = class_facts heading c
+item_facts heading (Defines d) = definition_facts d
+item_facts heading _ = []
 
 -- all that an item declares
 abbrev pub declarations : HeadedItem → List (Fact NameKind)
-declarations x = item_facts x.heading x.item ++ flat_map (clause_facts (class_of_item x.item)) (clauses_of x.item)
+declarations item =
+    item_facts item.heading item.item ++ flat_map (clause_facts (class_of_item item.item)) (clauses_of item.item)
 
 -- a class, once for each attribute that a clause declares
 abbrev pub attribute_classes : Name → Clause → List Name
@@ -144,11 +146,11 @@ joined_in _ = []
 
 -- the owner of each set that an item says is owned: a class, or none for the system
 abbrev pub owners_in : Item → List (Fact (Option Name))
-owners_in i = map (λ s. fact s (class_of_item i)) (flat_map owned_in (clauses_of i))
+owners_in item = map (λ s. fact s (class_of_item item)) (flat_map owned_in (clauses_of item))
 
 -- the sets of which an item says who belongs to them
 abbrev pub sets_joined : Item → List Name
-sets_joined i = flat_map joined_in (clauses_of i)
+sets_joined item = flat_map joined_in (clauses_of item)
 
 -- the class of their members; the system is none
 abbrev pub members_for : Option Name → List Name → List (Fact Name)
@@ -157,7 +159,7 @@ members_for None sets = []
 
 -- the class of the members of each set of which an item says who belongs to it
 abbrev pub members_in : Item → List (Fact Name)
-members_in i = members_for (class_of_item i) (sets_joined i)
+members_in item = members_for (class_of_item item) (sets_joined item)
 
 -- the disciplines that an item gives
 abbrev pub disciplines_in : Item → List (Fact SetDiscipline)
@@ -187,7 +189,7 @@ sets_of (BelongsTo names) = all_of names
 
 -- the sets that an item names
 abbrev pub sets_in : Item → List Name
-sets_in i = disciplined_sets i ++ flat_map sets_of (clauses_of i)
+sets_in item = disciplined_sets item ++ flat_map sets_of (clauses_of item)
 
 -- the external classes that an item names
 abbrev pub external_in : Item → List Name
@@ -227,7 +229,7 @@ yielded_of _ = []
 
 -- the names of all parameters
 abbrev pub parameters : Head → List Name
-parameters h = given_of h ++ yielded_of h
+parameters head = given_of head ++ yielded_of head
 
 -- MAIN
 abbrev pub is_main : Head → Bool
@@ -241,7 +243,7 @@ routine_facts _ = []
 
 -- the counts of its parameters
 abbrev pub counts_of : Head → Counts
-counts_of h = record { given = length (given_of h); yielded = length (yielded_of h) }
+counts_of head = record { given = length (given_of head); yielded = length (yielded_of head) }
 
 -- the same as a fact on its name
 abbrev pub routine_counts : Head → List (Fact Counts)
@@ -277,19 +279,19 @@ declared_by xs hs = record {
 
 -- the heads of sections
 abbrev pub heads : List Section → List Head
-heads ss = map (λ s. s.head) ss
+heads sections = map (λ s. s.head) sections
 
 -- what a whole program says
 abbrev pub declared_by_program : List ItemAt → List Section → Declared
-declared_by_program is ss = declared_by (headed_items is) (heads ss)
+declared_by_program is sections = declared_by (headed_items is) (heads sections)
 
 -- what a name is declared as; a local variable is not declared
 abbrev pub kind_of : Declared → Name → Option NameKind
-kind_of d n = fact_of d.kinds n
+kind_of declared name = fact_of declared.kinds name
 
 -- whether a name is declared
 abbrev pub is_declared : Declared → Name → Bool
-is_declared d n = is_among n (names_of d.kinds)
+is_declared declared name = is_among name (names_of declared.kinds)
 
 -- whether the owner of a set, if one is said, is the system
 abbrev pub is_system : Option (Option Name) → Bool
@@ -298,12 +300,12 @@ is_system _ = false
 
 -- whether the system owns a set
 abbrev pub is_of_system : Declared → Name → Bool
-is_of_system d s = is_system (fact_of d.owners s)
+is_of_system declared s = is_system (fact_of declared.owners s)
 
 -- how many attributes a class has
 abbrev pub attribute_count : Declared → Name → ℕ
-attribute_count d c = count_by (bytes_eq c) d.attributes
+attribute_count declared c = count_by (bytes_eq c) declared.attributes
 
 -- whether a name is an event class
 abbrev pub is_event_class : Declared → Name → Bool
-is_event_class d c = names_event (kind_of d c)
+is_event_class declared c = names_event (kind_of declared c)

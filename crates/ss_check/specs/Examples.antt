@@ -160,7 +160,7 @@ system clause = OfSystem (one clause)
 
 -- DEFINE name AS AN INTEGER VARIABLE
 abbrev pub define : Name → Item
-define n = Defines (Variables (one n))
+define name = Defines (Variables (one name))
 
 -- SYSTEM OWNS S, and EVERY T BELONGS TO S
 abbrev pub system_set : List Item
@@ -168,11 +168,11 @@ system_set = system (Owns (one set_s)) ∷ temporary ∷ every class_t (BelongsT
 
 -- BY HIGH name
 abbrev pub high : Name → Several Key
-high n = one (record { rank = High; name = n })
+high name = one (record { rank = High; name = name })
 
 -- an expression of one factor
 abbrev pub alone : Factor → Expr
-alone f = expr None (term f no_products) no_sums
+alone factor = expr None (term factor no_products) no_sums
 
 -- the expression 1
 abbrev pub number : Expr
@@ -180,19 +180,19 @@ number = alone (digits 1)
 
 -- name(1)
 abbrev pub applied_to_one : Name → Expr
-applied_to_one n = alone (applied n number no_exprs)
+applied_to_one name = alone (applied name number no_exprs)
 
 -- a reference without subscript
 abbrev pub plain : Name → Reference
-plain n = record { name = n; subscript = None }
+plain name = record { name = name; subscript = None }
 
 -- LET target = value
 abbrev pub let_be : Reference → Expr → Place
-let_be v e = Simply (Assigns (Let true v e))
+let_be reference expression = Simply (Assigns (Let true reference expression))
 
 -- LET X = value
 abbrev pub let_x : Expr → Place
-let_x e = let_be (plain name_x) e
+let_x expression = let_be (plain name_x) expression
 
 -- PRINT 1 LINE WITH values THUS, and the line
 abbrev pub print : List Expr → List ℕ → Place
@@ -204,7 +204,7 @@ for_phrase r = Loops (For (record { range = r; qualifiers = [] }) false)
 
 -- FOR name = 1 TO 1
 abbrev pub for_number : Name → Place
-for_number n = for_phrase (Counting Onward n number number None)
+for_number name = for_phrase (Counting Onward name number number None)
 
 -- START SIMULATION
 abbrev pub start : Place

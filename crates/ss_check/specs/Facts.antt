@@ -34,11 +34,11 @@ pub record Fact (A : Type 0) : Type 0 where
 
 -- this holds of a name
 abbrev pub fact : {A : Type 0} → Name → A → Fact A
-fact n x = record { name = n; what = x }
+fact name x = record { name = name; what = x }
 
 -- the first fact of a name, if there is one
 abbrev pub fact_of : {A : Type 0} → List (Fact A) → Name → Option A
-fact_of table n = option_map (λ f. f.what) (find (λ f. bytes_eq n f.name) table)
+fact_of table name = option_map (λ f. f.what) (find (λ f. bytes_eq name f.name) table)
 
 -- the names that have facts
 abbrev pub names_of : {A : Type 0} → List (Fact A) → List Name

@@ -34,14 +34,14 @@ events_w = events_e ∷ every event_e (Has (one name_w)) ∷ []
 
 -- BREAK E TIES BY HIGH name
 abbrev pub ties : Name → Item
-ties n = Orders (BreakTies event_e (high n))
+ties name = Orders (BreakTies event_e (high name))
 
 -- ROUTINE R on line 30 with DEFINE name AS AN INTEGER VARIABLE on line 31
 abbrev pub routine_with : Name → Section
-routine_with n = record {
+routine_with name = record {
   line = 30;
   head = routine Unwritten;
-  locals = record { line = 31; names = one n } ∷ [];
+  locals = record { line = 31; names = one name } ∷ [];
   places = places_from 32 (EndOfSection ∷ []);
 }
 

@@ -19,59 +19,59 @@ use Rattle.ss_check.specs.Statements.{breach_of, first_breach}
 
 -- an item under a heading
 abbrev pub headed_item : Option Heading → ItemAt → HeadedItem
-headed_item h i = record { line = i.line; heading = h; item = i.item }
+headed_item heading i = record { line = i.line; heading = heading; item = i.item }
 
 -- ---- tables
 
 -- with one more item
 unfoldable pub with_item : Declared → HeadedItem → Declared
-with_item t x = record t {
-  kinds = t.kinds ++ declarations x;
-  attributes = t.attributes ++ attributes_in x.item;
-  owners = t.owners ++ owners_in x.item;
-  members = t.members ++ members_in x.item;
-  disciplines = t.disciplines ++ disciplined_sets x.item;
-  ties = t.ties ++ tied_events x.item;
-  external = t.external ++ external_in x.item;
-  priority = t.priority ++ priority_in x.item;
-  classes = t.classes ++ classes_in x.item;
+with_item declared item = record declared {
+  kinds = declared.kinds ++ declarations item;
+  attributes = declared.attributes ++ attributes_in item.item;
+  owners = declared.owners ++ owners_in item.item;
+  members = declared.members ++ members_in item.item;
+  disciplines = declared.disciplines ++ disciplined_sets item.item;
+  ties = declared.ties ++ tied_events item.item;
+  external = declared.external ++ external_in item.item;
+  priority = declared.priority ++ priority_in item.item;
+  classes = declared.classes ++ classes_in item.item;
 }
 
 -- with one more head
 unfoldable pub with_head : Declared → Head → Declared
-with_head t MainHead = record t { has_main = true }
-with_head t (RoutineHead n given yielded) = record t {
-  kinds = t.kinds ++ fact n Routine ∷ [];
-  routines = t.routines ++ fact n (counts_of (RoutineHead n given yielded)) ∷ [];
+with_head declared MainHead = record declared { has_main = true }
+with_head declared (RoutineHead n given yielded) = record declared {
+  kinds = declared.kinds ++ fact n Routine ∷ [];
+  routines = declared.routines ++ fact n (counts_of (RoutineHead n given yielded)) ∷ [];
 }
-with_head t (EventHead n given saving) = record t { events = t.events ++ n ∷ [] }
+with_head declared (EventHead n given saving) = record declared { events = declared.events ++ n ∷ [] }
 
 -- with items behind one another
 unfoldable pub with_items : Declared → List HeadedItem → Declared
-with_items t [] = t
-with_items t (x ∷ xs) = with_items (with_item t x) xs
+with_items declared [] = declared
+with_items declared (x ∷ xs) = with_items (with_item declared x) xs
 
 -- with the heads of sections behind one another
 unfoldable pub with_sections : Declared → List Section → Declared
-with_sections t [] = t
-with_sections t (s ∷ ss) = with_sections (with_head t s.head) ss
+with_sections declared [] = declared
+with_sections declared (s ∷ ss) = with_sections (with_head declared s.head) ss
 
 -- tables that say nothing twice which may be said once
-pub record IsOnce (t : Declared) : Type 0 where
+pub record IsOnce (declared : Declared) : Type 0 where
   -- no declaration conflicts with an earlier one of its name
-  pub kinds : one_conflicts [] t.kinds ≡ false
+  pub kinds : one_conflicts [] declared.kinds ≡ false
   -- no set has two owners
-  pub owners : repeats [] (names_of t.owners) ≡ false
+  pub owners : repeats [] (names_of declared.owners) ≡ false
   -- nor two classes of members
-  pub members : repeats [] (names_of t.members) ≡ false
+  pub members : repeats [] (names_of declared.members) ≡ false
   -- nor two disciplines
-  pub disciplines : repeats [] t.disciplines ≡ false
+  pub disciplines : repeats [] declared.disciplines ≡ false
   -- no event class has its ties broken twice
-  pub ties : repeats [] t.ties ≡ false
+  pub ties : repeats [] declared.ties ≡ false
   -- none is named twice as external
-  pub external : repeats [] t.external ≡ false
+  pub external : repeats [] declared.external ≡ false
   -- none has two sections
-  pub events : repeats [] t.events ≡ false
+  pub events : repeats [] declared.events ≡ false
 
 -- ---- breaches; d: what the whole program says; b: what stands before says
 
@@ -82,17 +82,17 @@ items_breach d b (x ∷ xs) = option_or (breach_of (item_statement d b x)) (item
 
 -- the first breach of local DEFINEs
 unfoldable pub locals_breach : Declared → List LocalNames → Option (CheckRule × ℕ)
-locals_breach d ls = first_breach (map (local_statement d) ls)
+locals_breach declared ls = first_breach (map (local_statement declared) ls)
 
 -- the first breach of places, in MAIN or not, directly behind a FIND or not
 unfoldable pub places_breach : Declared → Bool → Bool → List Spot → Option (CheckRule × ℕ)
-places_breach d in_main behind_find ps = first_breach (place_statements d in_main behind_find ps)
+places_breach declared in_main behind_find ps = first_breach (place_statements declared in_main behind_find ps)
 
 -- the first breach of a section
 unfoldable pub section_breach : Declared → Declared → Section → Option (CheckRule × ℕ)
-section_breach d b s =
-    option_or (breach_of (head_statement d b s))
-    (option_or (locals_breach d s.locals) (places_breach d (is_main s.head) false s.places))
+section_breach d b section =
+    option_or (breach_of (head_statement d b section))
+    (option_or (locals_breach d section.locals) (places_breach d (is_main section.head) false section.places))
 
 -- the first breach of sections
 unfoldable pub sections_breach : Declared → Declared → List Section → Option (CheckRule × ℕ)

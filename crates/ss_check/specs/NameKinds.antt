@@ -28,11 +28,11 @@ language_facts =
 -- N.c, where class c stands under the heading of permanent ones
 abbrev pub count_facts : Option Heading → Name → List (Fact NameKind)
 count_facts (Some PermanentEntities) c = fact (codes "N." ++ c) kinds.ClassCount ∷ []
-count_facts h c = []
+count_facts heading c = []
 
 -- a class, and its N.c
 abbrev pub class_facts : Option Heading → Name → List (Fact NameKind)
-class_facts h c = fact c (kinds.Class h) ∷ count_facts h c
+class_facts heading c = fact c (kinds.Class heading) ∷ count_facts heading c
 
 -- a set and its kept attributes
 abbrev pub set_facts : Name → List (Fact NameKind)
@@ -68,8 +68,8 @@ may_repeat _ _ = false
 
 -- whether what a name is, if it is declared, keeps it from being declared as this
 abbrev pub conflicts : Option NameKind → NameKind → Bool
-conflicts None k = false
-conflicts (Some j) k = not (may_repeat j k)
+conflicts None kind = false
+conflicts (Some j) kind = not (may_repeat j kind)
 
 -- whether one of these declarations conflicts with what its name is by those before it
 abbrev pub one_conflicts : List (Fact NameKind) → List (Fact NameKind) → Bool
@@ -87,7 +87,7 @@ is_class _ = false
 abbrev pub is_global : NameKind → Bool
 is_global kinds.Variable = true
 is_global kinds.ClassCount = true
-is_global j = is_class j
+is_global kind = is_class kind
 
 -- an attribute of a class
 abbrev pub is_attribute_of : Name → NameKind → Bool
@@ -119,7 +119,7 @@ abbrev pub names_fixed : Option NameKind → Bool
 names_fixed (Some (kinds.OwnerKept a s)) = true
 names_fixed (Some (kinds.MemberKept a s)) = true
 names_fixed (Some kinds.Clock) = true
-names_fixed j = names_function j
+names_fixed kind = names_function kind
 
 -- the name of a permanent class
 abbrev pub names_permanent : Option NameKind → Bool
@@ -134,10 +134,10 @@ names_event _ = false
 -- the name of a temporary class or an event class
 abbrev pub names_ending : Option NameKind → Bool
 names_ending (Some (kinds.Class (Some TemporaryEntities))) = true
-names_ending j = names_event j
+names_ending kind = names_event kind
 
 -- whether a name is a class of the kind needed
 abbrev pub serves : ClassNeed → Option NameKind → Bool
-serves Permanent j = names_permanent j
-serves Ending j = names_ending j
-serves Event j = names_event j
+serves Permanent kind = names_permanent kind
+serves Ending kind = names_ending kind
+serves Event kind = names_event kind

@@ -35,7 +35,7 @@ named_heading (Event e) = EventNotices
 
 -- a key, by the names of the attributes of its class
 abbrev pub named_key : List Name → Key → WrittenKey
-named_key attributes k = record { rank = k.rank; name = name_at attributes k.attribute }
+named_key attributes key = record { rank = key.rank; name = name_at attributes key.attribute }
 
 -- a discipline, by the names of the attributes of the members
 abbrev pub named_discipline : List Name → Discipline → SetDiscipline
@@ -46,20 +46,20 @@ named_discipline attributes (discipline.Ranked keys) =
 
 -- the class that owns a set, none for the system
 abbrev pub named_owner : ProgramTable → Owner → Option Name
-named_owner p System = None
-named_owner p (OwnedBy c) = Some (class_of p c).name
+named_owner program System = None
+named_owner program (OwnedBy c) = Some (class_of program c).name
 
 -- ---- what items write
 
 -- all that facts say of a name, in order
 abbrev pub said_of : {A : Type 0} → List (Fact A) → Name → List A
-said_of facts n = map (λ f. f.what) (filter (λ f. bytes_eq n f.name) facts)
+said_of facts name = map (λ f. f.what) (filter (λ f. bytes_eq name f.name) facts)
 
 -- each class that an item names, with the heading over it
 abbrev pub headings_in : Option Heading → Item → List (Fact (Option Heading))
-headings_in h (Headed g names) = map (λ c. fact c (Some g)) (included_names names)
-headings_in h (OfEvery c clauses) = fact c h ∷ []
-headings_in h _ = []
+headings_in heading (Headed g names) = map (λ c. fact c (Some g)) (included_names names)
+headings_in heading (OfEvery c clauses) = fact c heading ∷ []
+headings_in heading _ = []
 
 -- each attribute that an item gives its class
 abbrev pub has_in : Item → List (Fact Name)
@@ -69,15 +69,15 @@ has_in _ = []
 -- the variable of a class, and N.c of a permanent class c
 abbrev pub class_variables : Option Heading → Name → List Name
 class_variables (Some PermanentEntities) c = c ∷ (codes "N." ++ c) ∷ []
-class_variables h c = c ∷ []
+class_variables heading c = c ∷ []
 
 -- the global variables of an item: of its classes, of the system, and of a DEFINE
 abbrev pub globals_in : Option Heading → Item → List Name
-globals_in h (Headed g names) = flat_map (class_variables (Some g)) (included_names names)
-globals_in h (OfEvery c clauses) = class_variables h c
-globals_in h (OfSystem clauses) = flat_map clause_has (all_of clauses)
-globals_in h (Defines (Variables names)) = all_of names
-globals_in h _ = []
+globals_in heading (Headed g names) = flat_map (class_variables (Some g)) (included_names names)
+globals_in heading (OfEvery c clauses) = class_variables heading c
+globals_in heading (OfSystem clauses) = flat_map clause_has (all_of clauses)
+globals_in heading (Defines (Variables names)) = all_of names
+globals_in heading _ = []
 
 -- what items write
 pub record Written : Type 0 where
@@ -128,51 +128,53 @@ IsSaid without [] a = a ≡ without
 IsSaid without (b ∷ []) a = a ≡ b
 IsSaid without (b ∷ c ∷ rest) a = ⊥
 
--- a kind of the class n: N.n counts a permanent class, and the section of an event class is that of the event n
+-- a kind of the class name: N.n counts a permanent class, and the section of an event class is that of the event name
 abbrev pub IsKindOf : ProgramTable → Name → ClassKind → Type 0
-IsKindOf p n (Permanent count) = name_at p.globals count ≡ codes "N." ++ n
-IsKindOf p n Temporary = Unit {0}
-IsKindOf p n (Event e) = ((section_of p e.section).name ≡ n) × (is_event_section (section_of p e.section) ≡ true)
+IsKindOf program name (Permanent count) = name_at program.globals count ≡ codes "N." ++ name
+IsKindOf program name Temporary = Unit {0}
+IsKindOf program name (Event e) =
+    ((section_of program e.section).name ≡ name) × (is_event_section (section_of program e.section) ≡ true)
 
 -- a class
-pub record IsClassOf (p : ProgramTable) (w : Written) (c : ClassTable) : Type 0 where
+pub record IsClassOf (program : ProgramTable) (written : Written) (class : ClassTable) : Type 0 where
   -- its variable has its name
-  pub variable : name_at p.globals c.variable ≡ c.name
+  pub variable : name_at program.globals class.variable ≡ class.name
   -- it has the counter or the section of its kind
-  pub kind : IsKindOf p c.name c.kind
+  pub kind : IsKindOf program class.name class.kind
   -- each item that names it stands under the heading of its kind
-  pub heading : All (λ h. h ≡ Some (named_heading c.kind)) (said_of w.headings c.name)
+  pub heading : All (λ h. h ≡ Some (named_heading class.kind)) (said_of written.headings class.name)
   -- its attributes are those that HAS gives it, in order
-  pub attributes : c.attributes ≡ said_of w.attributes c.name
+  pub attributes : class.attributes ≡ said_of written.attributes class.name
   -- the keys that break its ties are those of its one BREAK, or none
-  pub ties : IsSaid [] (said_of w.ties c.name) (map (named_key c.attributes) (event_of_kind c.kind).ties)
+  pub ties : IsSaid [] (said_of written.ties class.name)
+      (map (named_key class.attributes) (event_of_kind class.kind).ties)
   -- it is external where EXTERNAL names it
-  pub external : (event_of_kind c.kind).external ≡ is_among c.name w.external
+  pub external : (event_of_kind class.kind).external ≡ is_among class.name written.external
 
 -- a set
-pub record IsSetOf (p : ProgramTable) (w : Written) (t : SetTable) : Type 0 where
+pub record IsSetOf (program : ProgramTable) (written : Written) (set : SetTable) : Type 0 where
   -- one OWNS names it, with its owner
-  pub owner : said_of w.owners t.name ≡ named_owner p t.owner ∷ []
+  pub owner : said_of written.owners set.name ≡ named_owner program set.owner ∷ []
   -- one BELONGS names it, with the class of its members
-  pub member : said_of w.members t.name ≡ (class_of p t.member).name ∷ []
+  pub member : said_of written.members set.name ≡ (class_of program set.member).name ∷ []
   -- its discipline is that of its one DEFINE, or FIFO
-  pub discipline : IsSaid Fifo (said_of w.disciplines t.name)
-      (named_discipline (class_of p t.member).attributes t.discipline)
+  pub discipline : IsSaid Fifo (said_of written.disciplines set.name)
+      (named_discipline (class_of program set.member).attributes set.discipline)
 
 -- all tables of a preamble
-pub record IsOfItems (p : ProgramTable) (w : Written) : Type 0 where
+pub record IsOfItems (program : ProgramTable) (written : Written) : Type 0 where
   -- the global variables that items write, in order
-  pub variables : p.globals ≡ w.variables
+  pub variables : program.globals ≡ written.variables
   -- the classes, in order
-  pub class_order : map (λ c. c.name) p.classes ≡ w.classes
+  pub class_order : map (λ c. c.name) program.classes ≡ written.classes
   -- each as it is written
-  pub classes : All (IsClassOf p w) p.classes
+  pub classes : All (IsClassOf program written) program.classes
   -- the sets, in order
-  pub set_order : map (λ t. t.name) p.sets ≡ w.sets
+  pub set_order : map (λ t. t.name) program.sets ≡ written.sets
   -- each as it is written
-  pub sets : All (IsSetOf p w) p.sets
+  pub sets : All (IsSetOf program written) program.sets
   -- the classes of PRIORITY, in order
-  pub priority : map (λ c. (class_of p c).name) p.priority ≡ w.priority
+  pub priority : map (λ c. (class_of program c).name) program.priority ≡ written.priority
 
 -- the tables of a program without a breach, each number looked up in its table, say what the items of its preamble say
 abbrev pub TablesGiveTheItems : Type 0

@@ -84,15 +84,15 @@ listing_of listing.InParentheses (a ∷ rest) = simple.InParentheses (record { f
 
 -- what a set keeps of its owner
 abbrev pub owner_kept_name : OwnerKept → Name → Name
-owner_kept_name owner.First n = codes "F." ++ n
-owner_kept_name owner.Last n = codes "L." ++ n
-owner_kept_name owner.Count n = codes "N." ++ n
+owner_kept_name owner.First name = codes "F." ++ name
+owner_kept_name owner.Last name = codes "L." ++ name
+owner_kept_name owner.Count name = codes "N." ++ name
 
 -- what a set keeps of its members
 abbrev pub member_kept_name : MemberKept → Name → Name
-member_kept_name member.Predecessor n = codes "P." ++ n
-member_kept_name member.Successor n = codes "S." ++ n
-member_kept_name member.Membership n = codes "M." ++ n
+member_kept_name member.Predecessor name = codes "P." ++ name
+member_kept_name member.Successor name = codes "S." ++ name
+member_kept_name member.Membership name = codes "M." ++ name
 
 -- the name with this number in a table
 abbrev pub name_at : List Name → ℕ → Name
@@ -383,9 +383,9 @@ module _ (p : ProgramTable) (locals : List Name) where
 
 -- a head, by the kind of the section: its name, the given parameters, the names of the yielded ones, and SAVING
 abbrev pub named_head : SectionKind → Name → simple.Listing Name → List Name → Bool → Head
-named_head sections.Main n ps ys saving = MainHead
-named_head sections.Routine n ps ys saving = RoutineHead n ps ys
-named_head sections.Event n ps ys saving = EventHead n ps saving
+named_head sections.Main name ps ys saving = MainHead
+named_head sections.Routine name ps ys saving = RoutineHead name ps ys
+named_head sections.Event name ps ys saving = EventHead name ps saving
 
 -- a local DEFINE
 abbrev pub named_define : DefineTable → spots.LocalNames
@@ -393,17 +393,17 @@ named_define x = record { line = x.line; names = several [] x.names }
 
 -- a section of a program; its parameters are the first of its locals
 abbrev pub named_section : ProgramTable → SectionTable → spots.Section
-named_section p q = record {
-  line = q.line;
-  head = named_head q.kind q.name (listing_of q.listing (take q.given q.locals))
-      (take q.yielded (drop q.given q.locals)) q.saving;
-  locals = map named_define q.defines;
-  places = map (named_spot p q.locals) q.places;
+named_section program section = record {
+  line = section.line;
+  head = named_head section.kind section.name (listing_of section.listing (take section.given section.locals))
+      (take section.yielded (drop section.given section.locals)) section.saving;
+  locals = map named_define section.defines;
+  places = map (named_spot program section.locals) section.places;
 }
 
 -- the sections of a program
 abbrev pub named_sections : ProgramTable → List spots.Section
-named_sections p = map (named_section p) p.sections
+named_sections program = map (named_section program) program.sections
 
 -- ---- the law
 

@@ -24,7 +24,7 @@ use Rattle.ss_check.specs.Statements.{Statement, rule_where, lowest}
 
 -- no value: a set or a routine
 abbrev pub is_valueless : Option NameKind → Bool
-is_valueless j = names_set j || names_routine j
+is_valueless kind = names_set kind || names_routine kind
 
 -- whether a function takes so many arguments
 abbrev pub takes : LanguageFunction → ℕ → Bool
@@ -124,39 +124,41 @@ is_find _ = false
 -- what the statement at a place uses; COMPUTE is one statement of two places
 abbrev pub uses_from : Place → List Spot → List Use
 uses_from (Loops (Gather e)) (q ∷ qs) = uses (Loops (Gather e)) ++ uses q.place
-uses_from p qs = uses p
+uses_from place qs = uses place
 
 -- the rules on names that uses break
 abbrev pub use_breaks : Declared → List Use → List CheckRule
-use_breaks d us =
-    rule_where WrongClass (list_any (is_wrong_class d) us) ++
-    rule_where WrongUse (list_any (is_misused d) us) ++
-    rule_where WrongCount (list_any (is_wrong_count d) us) ++
-    rule_where FixedTarget (list_any (is_fixed d) us)
+use_breaks declared us =
+    rule_where WrongClass (list_any (is_wrong_class declared) us) ++
+    rule_where WrongUse (list_any (is_misused declared) us) ++
+    rule_where WrongCount (list_any (is_wrong_count declared) us) ++
+    rule_where FixedTarget (list_any (is_fixed declared) us)
 
 -- the rules on what stands around a place. C13: START SIMULATION outside MAIN; C14: IF FOUND or IF NONE not directly
 -- behind a FIND
 abbrev pub standing_breaks : Bool → Bool → Place → List CheckRule
-standing_breaks in_main behind_find p =
-    rule_where StartOutsideMain (is_start p && not in_main) ++ rule_where WithoutFind (asks_find p && not behind_find)
+standing_breaks in_main behind_find place =
+    rule_where StartOutsideMain (is_start place && not in_main)
+        ++ rule_where WithoutFind (asks_find place && not behind_find)
 
 -- a place, with what it uses, and the rules that it breaks
 abbrev pub place_statement : Declared → Bool → Bool → List Use → Spot → Statement
-place_statement d in_main behind_find us p = record {
-  line = p.line;
+place_statement declared in_main behind_find us spot = record {
+  line = spot.line;
   breaks =
-      use_breaks d us ++
-      rule_where WrongPicture (has_wrong_picture p.place) ++
-      standing_breaks in_main behind_find p.place;
+      use_breaks declared us ++
+      rule_where WrongPicture (has_wrong_picture spot.place) ++
+      standing_breaks in_main behind_find spot.place;
 }
 
 -- the lowest rule that a place breaks, with others behind it
 unfoldable pub place_rule : Declared → Bool → Bool → Spot → List Spot → Option CheckRule
-place_rule d in_main behind_find p ps =
-    lowest (place_statement d in_main behind_find (uses_from p.place ps) p).breaks
+place_rule declared in_main behind_find spot ps =
+    lowest (place_statement declared in_main behind_find (uses_from spot.place ps) spot).breaks
 
 -- the places of a section, with whether it is MAIN, and whether a FIND stands directly before
 abbrev pub place_statements : Declared → Bool → Bool → List Spot → List Statement
-place_statements d in_main behind_find [] = []
-place_statements d in_main behind_find (p ∷ ps) =
-    place_statement d in_main behind_find (uses_from p.place ps) p ∷ place_statements d in_main (is_find p.place) ps
+place_statements declared in_main behind_find [] = []
+place_statements declared in_main behind_find (p ∷ ps) =
+    place_statement declared in_main behind_find (uses_from p.place ps) p
+        ∷ place_statements declared in_main (is_find p.place) ps

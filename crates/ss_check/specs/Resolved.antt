@@ -443,33 +443,33 @@ define_table x = record { line = x.line; names = all_of x.names }
 
 -- a section with these locals
 abbrev pub section_with : Declared → Names → List Name → spots.Section → SectionTable
-section_with d v locals q = record {
-  name = section_name q.head;
-  kind = section_kind q.head;
-  line = q.line;
-  given = length (given_of q.head);
-  yielded = length (yielded_of q.head);
-  saving = says_saving q.head;
+section_with declared v locals section = record {
+  name = section_name section.head;
+  kind = section_kind section.head;
+  line = section.line;
+  given = length (given_of section.head);
+  yielded = length (yielded_of section.head);
+  saving = says_saving section.head;
   locals = locals;
-  places = map (resolved_spot d v locals) q.places;
-  listing = head_listing q.head;
-  defines = map define_table q.locals;
+  places = map (resolved_spot declared v locals) section.places;
+  listing = head_listing section.head;
+  defines = map define_table section.locals;
 }
 
 -- a section of a program
 abbrev pub resolved_section : Declared → Names → spots.Section → SectionTable
-resolved_section d v q = section_with d v (locals_of d q) q
+resolved_section declared v section = section_with declared v (locals_of declared section) section
 
 -- ---- the program
 
 -- with what the whole program says, its tables and its rankings
 abbrev pub resolved_with : Declared → Names → Rankings → List spots.Section → ProgramTable
-resolved_with d v r qs = record {
+resolved_with declared v rankings qs = record {
   globals = v.globals;
-  classes = map (class_table d v r) v.classes;
-  sets = map (set_table d v r) v.sets;
-  priority = map (class_number d v []) d.priority;
-  sections = map (resolved_section d v) qs;
+  classes = map (class_table declared v rankings) v.classes;
+  sets = map (set_table declared v rankings) v.sets;
+  priority = map (class_number declared v []) declared.priority;
+  sections = map (resolved_section declared v) qs;
 }
 
 -- a program of these items and sections

@@ -26,7 +26,7 @@ use Rattle.ss_check.specs.Uses.{Use, Value, Target as AsTarget, LoopVariable, us
 
 -- the number of a name in a table
 abbrev pub number : Name → List Name → ℕ
-number n table = position_or_len (bytes_eq n) table
+number name table = position_or_len (bytes_eq name) table
 
 -- the tables in which names have their numbers
 pub record Names : Type 0 where
@@ -53,15 +53,15 @@ each_of test table = each_once (names_where test table)
 
 -- the names of some kind, in order of declaration
 abbrev pub of_kind : (NameKind → Bool) → Declared → List Name
-of_kind test d = each_of test d.kinds
+of_kind test declared = each_of test declared.kinds
 
 -- a set
 abbrev pub is_set : NameKind → Bool
-is_set j = names_set (Some j)
+is_set kind = names_set (Some kind)
 
 -- the attributes of a class, in order of declaration
 abbrev pub attributes_of : Declared → Name → List Name
-attributes_of d c = names_where (is_attribute_of c) d.kinds
+attributes_of declared c = names_where (is_attribute_of c) declared.kinds
 
 -- the names of the attributes of a class, by the tables
 abbrev pub attribute_names : Names → Name → List Name
@@ -74,11 +74,11 @@ section_numbers i (fs ∷ rest) name = map (λ f. fact (name f) i) fs ++ section
 
 -- the tables of a whole program
 abbrev pub names : Declared → List Head → Names
-names d heads = record {
-  globals = of_kind is_global d;
-  classes = of_kind is_class d;
-  attributes = map (attributes_of d) (of_kind is_class d);
-  sets = of_kind is_set d;
+names declared heads = record {
+  globals = of_kind is_global declared;
+  classes = of_kind is_class declared;
+  attributes = map (attributes_of declared) (of_kind is_class declared);
+  sets = of_kind is_set declared;
   routines = section_numbers 0 (map routine_facts heads) (λ f. f.name);
   events = section_numbers 0 (map events_in heads) (λ n. n);
 }
@@ -94,15 +94,16 @@ variable_used _ = []
 
 -- a name that is not declared
 abbrev pub undeclared_name : Declared → Name → List Name
-undeclared_name d n = if is_declared d n then [] else n ∷ []
+undeclared_name declared name = if is_declared declared name then [] else name ∷ []
 
 -- the names that the places of a section take for variables
 abbrev pub variables_used : Section → List Name
-variables_used s = flat_map (λ x. flat_map variable_used (uses x.place)) s.places
+variables_used section = flat_map (λ x. flat_map variable_used (uses x.place)) section.places
 
 -- its parameters, then the other names that are not declared, in the order of the places
 abbrev pub locals_of : Declared → Section → List Name
-locals_of d s = each_once (parameters s.head ++ flat_map (undeclared_name d) (variables_used s))
+locals_of declared section =
+    each_once (parameters section.head ++ flat_map (undeclared_name declared) (variables_used section))
 
 -- ---- what a name stands for
 

@@ -7,4 +7,4 @@ use Rattle.ss_check.specs.ResolvedNames.{Names}
 
 -- what a definition gives in a scope
 abbrev pub in_scope : {A : Type 0} → Scope → (Declared → Names → List Name → A) → A
-in_scope s f = f s.whole.now s.names.now s.locals.now
+in_scope scope f = f scope.whole.now scope.names.now scope.locals.now

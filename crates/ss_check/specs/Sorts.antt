@@ -8,6 +8,6 @@ use Rattle.ss_check.specs.ResolvedNames.{is_set}
 
 -- whether names declared as this are of a sort
 abbrev pub belongs : Sort → NameKind → Bool
-belongs sort.GlobalVariable j = is_global j
-belongs sort.Class j = is_class j
-belongs sort.Set j = is_set j
+belongs sort.GlobalVariable kind = is_global kind
+belongs sort.Class kind = is_class kind
+belongs sort.Set kind = is_set kind

@@ -14,7 +14,7 @@ pub record Statement : Type 0 where
 
 -- a rule, where it is broken
 abbrev pub rule_where : CheckRule → Bool → List CheckRule
-rule_where r b = if b then r ∷ [] else []
+rule_where rule b = if b then rule ∷ [] else []
 
 -- the lowest of the rules that a statement breaks
 abbrev pub lowest : List CheckRule → Option CheckRule
@@ -23,7 +23,7 @@ lowest (r ∷ rs) = Some r
 
 -- the lowest rule that a statement breaks, and its line
 abbrev pub breach_of : Statement → Option (CheckRule × ℕ)
-breach_of s = option_map (λ r. (r, s.line)) (lowest s.breaks)
+breach_of statement = option_map (λ r. (r, statement.line)) (lowest statement.breaks)
 
 -- the breach of the first statement that has one
 abbrev pub first_breach : List Statement → Option (CheckRule × ℕ)

@@ -79,16 +79,16 @@ uses_option (Some e) = uses_expr e
 
 -- as a target
 abbrev pub uses_target : Reference → List Use
-uses_target v = Target v.name (is_some v.subscript) ∷ uses_option v.subscript
+uses_target reference = Target reference.name (is_some reference.subscript) ∷ uses_option reference.subscript
 
 -- as a set
 abbrev pub uses_set : Reference → List Use
-uses_set v = InSet v.name (is_some v.subscript) ∷ uses_option v.subscript
+uses_set reference = InSet reference.name (is_some reference.subscript) ∷ uses_option reference.subscript
 
 -- as a value
 abbrev pub uses_value : Name → Option Expr → List Use
-uses_value n None = Value n None ∷ []
-uses_value n (Some e) = Value n (Some 1) ∷ uses_expr e
+uses_value name None = Value name None ∷ []
+uses_value name (Some e) = Value name (Some 1) ∷ uses_expr e
 
 -- behind CALLED, as a target
 abbrev pub uses_called_target : Option Reference → List Use
@@ -175,8 +175,8 @@ values_of (CalledFirst v values) = values
 
 -- the values of a notice and what it is CALLED, as written
 abbrev pub uses_details : Article → Details → List Use
-uses_details b (ValuesFirst values v) = flat_map uses_expr (all_of values) ++ uses_called b v
-uses_details b (CalledFirst v values) = uses_called b v ++ flat_map uses_expr values
+uses_details article (ValuesFirst values v) = flat_map uses_expr (all_of values) ++ uses_called article v
+uses_details article (CalledFirst v values) = uses_called article v ++ flat_map uses_expr values
 
 -- the time of a notice
 abbrev pub uses_when : When → List Use
@@ -227,7 +227,7 @@ uses_range (loops.Walking way v s start) = LoopVariable v ∷ (uses_set s ++ use
 
 -- a phrase with its qualifiers
 abbrev pub uses_phrase : loops.Phrase → List Use
-uses_phrase f = uses_range f.range ++ flat_map (λ q. uses_condition q.condition) f.qualifiers
+uses_phrase phrase = uses_range phrase.range ++ flat_map (λ q. uses_condition q.condition) phrase.qualifiers
 
 -- ---- places
 

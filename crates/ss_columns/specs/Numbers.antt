@@ -5,7 +5,7 @@ use Rattle.ss_words.specs.Words.{WordAt}
 
 -- a word on this line
 abbrev pub on_line : ℕ → WordAt → WordAt
-on_line line w = record { line = line; kind = w.kind }
+on_line line word = record { line = line; kind = word.kind }
 
 -- the words where each has its number, from 0, for its line: each stands on a line of its own
 abbrev pub numbered : List WordAt → List WordAt

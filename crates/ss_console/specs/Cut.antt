@@ -6,7 +6,7 @@ use Rattle.ss_console.specs.declared.cut.Cut.TheVariants.{Read, Write, Count}
 
 -- exactly that call is counted as failed
 abbrev pub faults_after : Result (Unit {0}) Cut → Faults → Faults
-faults_after (Ok done) f = f
-faults_after (Err Read) f = one_more_read f
-faults_after (Err Write) f = one_more_put f
-faults_after (Err Count) f = f
+faults_after (Ok done) faults = faults
+faults_after (Err Read) faults = one_more_read faults
+faults_after (Err Write) faults = one_more_put faults
+faults_after (Err Count) faults = faults

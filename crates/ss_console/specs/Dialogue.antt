@@ -19,13 +19,13 @@ line_of (refused line after) = line
 
 -- what is written behind the line
 abbrev pub answer_of : (m : Meaning) → m.State → Turn m.State → List ℕ
-answer_of m s (answered line) = m.said s line
-answer_of m s (refused line after) = m.refusal after
+answer_of m state (answered line) = m.said state line
+answer_of m state (refused line after) = m.refusal after
 
 -- the state behind a turn
 abbrev pub state_after : (m : Meaning) → m.State → Turn m.State → m.State
-state_after m s (answered line) = m.next s line
-state_after m s (refused line after) = after
+state_after m state (answered line) = m.next state line
+state_after m state (refused line after) = after
 
 -- whether the dialogue ends with it
 abbrev pub is_last : (m : Meaning) → Turn m.State → Bool
@@ -34,8 +34,8 @@ is_last m (refused line after) = false
 
 -- the answerer may be left so; a line that ends the dialogue is never refused
 abbrev pub IsAllowed : (m : Meaning) → m.State → Turn m.State → Type 0
-IsAllowed m s (answered line) = Unit {0}
-IsAllowed m s (refused line after) = m.MayBeLeft s line after × (m.ends line ≡ false)
+IsAllowed m state (answered line) = Unit {0}
+IsAllowed m state (refused line after) = m.MayBeLeft state line after × (m.ends line ≡ false)
 
 -- what is written before a line is read: at a terminal the position in parentheses
 abbrev pub prompt : Bool → ℕ → List ℕ
@@ -43,23 +43,24 @@ prompt terminal position = if terminal then codes "(" ++ decimal position ++ cod
 
 -- the events of a turn: the prompt, the line, the answer
 abbrev pub turn_events : (m : Meaning) → Bool → m.State → Turn m.State → List Event
-turn_events m terminal s turn =
-    write_events (prompt terminal (m.position s)) ++ read (line_of turn) ∷ write_events (answer_of m s turn)
+turn_events m terminal state turn =
+    write_events (prompt terminal (m.position state)) ++ read (line_of turn) ∷ write_events (answer_of m state turn)
 
 -- some turns, one after the other
 unfoldable pub events : (m : Meaning) → Bool → m.State → List (Turn m.State) → List Event
-events m terminal s [] = []
-events m terminal s (turn ∷ turns) = turn_events m terminal s turn ++ events m terminal (state_after m s turn) turns
+events m terminal state [] = []
+events m terminal state (turn ∷ turns) =
+    turn_events m terminal state turn ++ events m terminal (state_after m state turn) turns
 
 -- the state behind some turns
 unfoldable pub state_after_all : (m : Meaning) → m.State → List (Turn m.State) → m.State
-state_after_all m s [] = s
-state_after_all m s (turn ∷ turns) = state_after_all m (state_after m s turn) turns
+state_after_all m state [] = state
+state_after_all m state (turn ∷ turns) = state_after_all m (state_after m state turn) turns
 
 -- each of some turns is allowed where it is made
 unfoldable pub AreAllowed : (m : Meaning) → m.State → List (Turn m.State) → Type 0
-AreAllowed m s [] = Unit {0}
-AreAllowed m s (turn ∷ turns) = IsAllowed m s turn × AreAllowed m (state_after m s turn) turns
+AreAllowed m state [] = Unit {0}
+AreAllowed m state (turn ∷ turns) = IsAllowed m state turn × AreAllowed m (state_after m state turn) turns
 
 -- whether one of them ends the dialogue
 abbrev pub has_last : (m : Meaning) → List (Turn m.State) → Bool

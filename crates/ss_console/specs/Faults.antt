@@ -15,11 +15,11 @@ faults_of reads puts = record { reads = reads; puts = puts }
 
 -- with one more reading
 abbrev pub one_more_read : Faults → Faults
-one_more_read f = record { reads = f.reads + 1; puts = f.puts }
+one_more_read faults = record { reads = faults.reads + 1; puts = faults.puts }
 
 -- with one more put
 abbrev pub one_more_put : Faults → Faults
-one_more_put f = record { reads = f.reads; puts = f.puts + 1 }
+one_more_put faults = record { reads = faults.reads; puts = faults.puts + 1 }
 
 -- the line that was read, if one was
 abbrev pub lines_read : Bool → List ℕ → List (List ℕ)
@@ -34,8 +34,8 @@ read_events (Err e) line = []
 
 -- the failures behind a reading
 abbrev pub faults_after_read : {E : Type 0} → Result Bool E → Faults → Faults
-faults_after_read (Ok some) f = f
-faults_after_read (Err e) f = one_more_read f
+faults_after_read (Ok some) faults = faults
+faults_after_read (Err e) faults = one_more_read faults
 
 -- how many bytes a put took
 abbrev pub count_taken : {E : Type 0} → Result ℕ E → ℕ
@@ -44,5 +44,5 @@ count_taken (Err e) = 0
 
 -- the failures behind a put, which fails too where it takes nothing
 abbrev pub faults_after_put : {E : Type 0} → Result ℕ E → Faults → Faults
-faults_after_put (Ok n) f = if n == 0 then one_more_put f else f
-faults_after_put (Err e) f = one_more_put f
+faults_after_put (Ok n) faults = if n == 0 then one_more_put faults else faults
+faults_after_put (Err e) faults = one_more_put faults

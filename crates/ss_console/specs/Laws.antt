@@ -15,8 +15,8 @@ use Rattle.ss_console.specs.declared.lines.TheConstants.{LINE_LIMIT}
 -- the answers to the lines of a batch, each in the state behind the lines before; behind a line that ends it none
 -- counts
 unfoldable pub answers : (m : Meaning) → m.State → List (List ℕ) → List ℕ
-answers m s [] = []
-answers m s (line ∷ lines) = m.said s line ++ (if m.ends line then [] else answers m (m.next s line) lines)
+answers m state [] = []
+answers m state (line ∷ lines) = m.said state line ++ (if m.ends line then [] else answers m (m.next state line) lines)
 
 -- the bytes that were written
 unfoldable pub bytes_of : List Event → List ℕ
@@ -32,9 +32,9 @@ is_answered (refused line after) = false
 -- what a log gained is the answers to all lines that were there
 abbrev pub GainsAnswers : (m : Meaning) → m.State → Option (List (List ℕ)) → Option (List Event) → Option (List Event) →
     Type 0
-GainsAnswers m s before old new =
+GainsAnswers m state before old new =
     (lines : List (List ℕ)) (first last : List Event) → before ≡ Some lines → old ≡ Some first →
-    new ≡ Some last → bytes_of last ≡ bytes_of first ++ answers m s lines
+    new ≡ Some last → bytes_of last ≡ bytes_of first ++ answers m state lines
 
 -- away from a terminal and with memory for each answer, a dialogue up to the end of input writes what the batch writes
 abbrev pub BatchByInput : Meaning → Type 0

@@ -16,7 +16,7 @@ is_mark piece = bytes_eq piece (codes "*")
 
 -- what an item is
 abbrev pub kind_of_item : Item → PieceKind
-kind_of_item i = if is_some i.value then Number else (if is_mark i.bytes then Mark else Other)
+kind_of_item item = if is_some item.value then Number else (if is_mark item.bytes then Mark else Other)
 
 -- what an item is, or the end
 abbrev pub kind_or_end : Option Item → PieceKind
@@ -25,7 +25,7 @@ kind_or_end (Some i) = kind_of_item i
 
 -- what the first item is that is not taken
 abbrev pub next_kind : DataRead → PieceKind
-next_kind d = kind_or_end (slice_get d.items d.taken)
+next_kind read = kind_or_end (slice_get read.items read.taken)
 
 -- letters, digits and stops, with a letter, and not too long
 abbrev pub is_name : List ℕ → Bool
@@ -42,7 +42,7 @@ item_writes name (Some i) = writes_name name i.bytes
 
 -- the first item that is not taken writes this name
 abbrev pub next_writes : List ℕ → DataRead → Bool
-next_writes name d = item_writes name (slice_get d.items d.taken)
+next_writes name read = item_writes name (slice_get read.items read.taken)
 
 -- the place behind the next mark, from a place on
 abbrev pub behind_mark : List Item → ℕ → Option ℕ
@@ -50,4 +50,4 @@ behind_mark items from = option_map (λ n. from + n + 1) (position (λ i. is_mar
 
 -- the place behind the next mark among the items that are not taken
 abbrev pub place_behind_mark : DataRead → Option ℕ
-place_behind_mark d = behind_mark d.items d.taken
+place_behind_mark read = behind_mark read.items read.taken

@@ -33,7 +33,7 @@ data_at_start text = record { items = items text; taken = 0 }
 
 -- the same data with so many taken
 abbrev pub with_taken : DataRead → ℕ → DataRead
-with_taken d n = record d { taken = n }
+with_taken read n = record read { taken = n }
 
 -- the number, or that there is none
 abbrev pub number_or_fault : Option ℤ → Result ℤ RunFault
@@ -47,4 +47,4 @@ value_or_fault (Some i) = number_or_fault i.value
 
 -- the number of the first item that is not taken, or why there is none
 abbrev pub next_value : DataRead → Result ℤ RunFault
-next_value d = value_or_fault (slice_get d.items d.taken)
+next_value read = value_or_fault (slice_get read.items read.taken)

@@ -13,13 +13,13 @@ IsPartOfMovement old q new =
 
 -- a movement forward was made in part, one back as a whole
 abbrev pub IsStateAfterRefusedMovement : Input → DebuggerState → MovementShape → DebuggerState → Type 0
-IsStateAfterRefusedMovement t old (forward condition n) new =
-    IsPartOfMovement old (end_of t old (forward condition n)) new
-IsStateAfterRefusedMovement t old (back n) new = new ≡ debugger_state_at old (end_of t old (back n))
-IsStateAfterRefusedMovement t old (search_back test word) new =
-    new ≡ debugger_state_at old (end_of t old (search_back test word))
+IsStateAfterRefusedMovement input old (forward condition n) new =
+    IsPartOfMovement old (end_of input old (forward condition n)) new
+IsStateAfterRefusedMovement input old (back n) new = new ≡ debugger_state_at old (end_of input old (back n))
+IsStateAfterRefusedMovement input old (search_back test word) new =
+    new ≡ debugger_state_at old (end_of input old (search_back test word))
 
 -- any other command than a movement left the state as it was
 unfoldable pub IsStateAfterRefusal : Input → DebuggerState → Command → DebuggerState → Type 0
-IsStateAfterRefusal t old (Move m) new = IsStateAfterRefusedMovement t old (shape_of t old.breaks m) new
-IsStateAfterRefusal t old _ new = new ≡ old
+IsStateAfterRefusal input old (Move m) new = IsStateAfterRefusedMovement input old (shape_of input old.breaks m) new
+IsStateAfterRefusal input old _ new = new ≡ old

@@ -35,38 +35,38 @@ section_name None = []
 
 -- the name of the section in which state p stands
 abbrev pub section_at : Input → ℕ → List ℕ
-section_at t p = section_name (slice_get t.program.sections (run t p).frame.section)
+section_at input p = section_name (slice_get input.program.sections (run input p).frame.section)
 
 -- the number of state p, its clock and its status
 unfoldable pub moment_text : Input → ℕ → List ℕ
-moment_text t p =
-    codes "STATE " ++ decimal p ++ codes " CLOCK " ++ signed_decimal (run t p).clock
-    ++ codes " " ++ status_text (run t p).status
+moment_text input p =
+    codes "STATE " ++ decimal p ++ codes " CLOCK " ++ signed_decimal (run input p).clock
+    ++ codes " " ++ status_text (run input p).status
 
 -- the section and the line of its place
 unfoldable pub place_text : Input → ℕ → List ℕ
-place_text t p = codes " IN " ++ section_at t p ++ codes " LINE " ++ decimal (line_at t p)
+place_text input p = codes " IN " ++ section_at input p ++ codes " LINE " ++ decimal (line_at input p)
 
 -- the state line of state p
 unfoldable pub state_line : Input → ℕ → List ℕ
-state_line t p = moment_text t p ++ place_text t p ++ 10 ∷ []
+state_line input p = moment_text input p ++ place_text input p ++ 10 ∷ []
 
 -- the answer of a movement to state p: its word and the state line
 unfoldable pub movement_text : List ℕ → Input → ℕ → List ℕ
-movement_text word t p = word ++ codes ": " ++ state_line t p
+movement_text word input p = word ++ codes ": " ++ state_line input p
 
 -- the word of a movement from p by at most n steps to a state q that is ready: TIME where the time has come, that of
 -- the condition where it is met later than p, that of its bound where all steps were made, else BOUND
 abbrev pub ready_word : Input → StopCondition → ℕ → ℕ → ℕ → List ℕ
-ready_word t condition p n q =
-    if has_come t condition.time q then codes "TIME" else
+ready_word input condition p n q =
+    if has_come input condition.time q then codes "TIME" else
     if nat_lt p q && condition.test q then condition.word else
     if nat_eq q (p + n) then condition.bound_word else codes "BOUND"
 
 -- the word of a movement from p by at most n steps to q: HALTED where the status isn't ready
 abbrev pub forward_word : Input → StopCondition → ℕ → ℕ → ℕ → List ℕ
-forward_word t condition p n q =
-    if is_ready_at t q then ready_word t condition p n q else codes "HALTED"
+forward_word input condition p n q =
+    if is_ready_at input q then ready_word input condition p n q else codes "HALTED"
 
 -- the word at the earliest kept position
 abbrev pub earliest_word : ℕ → List ℕ
@@ -99,29 +99,30 @@ clear_text breaks line =
 
 -- the answer to SHOW CLOCK in state p
 unfoldable pub clock_text : Input → ℕ → List ℕ
-clock_text t p = codes "CLOCK " ++ signed_decimal (run t p).clock ++ 10 ∷ []
+clock_text input p = codes "CLOCK " ++ signed_decimal (run input p).clock ++ 10 ∷ []
 
 -- the variable that a name stands for in state p: TIME.V, else a global variable, else a local of the section of the
 -- last frame
 abbrev pub variable_named : Input → ℕ → List ℕ → Option Variable
-variable_named t p name =
+variable_named input p name =
     if bytes_eq name (codes "TIME.V") then Some Clock
-    else option_or (option_map Global (position (bytes_eq name) t.program.globals))
-    (option_map Local (position (bytes_eq name) (locals_of (slice_get t.program.sections (run t p).frame.section))))
+    else option_or (option_map Global (position (bytes_eq name) input.program.globals))
+    (option_map Local (position (bytes_eq name)
+        (locals_of (slice_get input.program.sections (run input p).frame.section))))
 
 -- the line of a variable of this name, or that there is none
 abbrev pub value_line : Input → ℕ → List ℕ → Option Variable → List ℕ
-value_line t p name (Some v) =
-    name ++ codes " = " ++ signed_decimal (variable_in (run t p) v) ++ 10 ∷ []
-value_line t p name None = codes "NO VARIABLE " ++ name ++ 10 ∷ []
+value_line input p name (Some v) =
+    name ++ codes " = " ++ signed_decimal (variable_in (run input p) v) ++ 10 ∷ []
+value_line input p name None = codes "NO VARIABLE " ++ name ++ 10 ∷ []
 
 -- the answer to SHOW VAR in state p
 unfoldable pub var_text : List ℕ → Input → ℕ → List ℕ
-var_text name t p = value_line t p name (variable_named t p name)
+var_text name input p = value_line input p name (variable_named input p name)
 
 -- the answer to SHOW TAKEN in state p
 unfoldable pub taken_text : Input → ℕ → List ℕ
-taken_text t p = codes "TAKEN " ++ decimal (run t p).feed.taken ++ 10 ∷ []
+taken_text input p = codes "TAKEN " ++ decimal (run input p).feed.taken ++ 10 ∷ []
 
 -- the line of an entry: its class, the reference of its notice, and whether it waits or its event runs
 abbrev pub entry_line : ProgramTable → Entry → List ℕ
@@ -133,7 +134,7 @@ entry_line program (Running class notice) =
 
 -- the answer to SHOW ENTRY in state p
 unfoldable pub entry_text : Input → ℕ → List ℕ
-entry_text t p = entry_line t.program (run t p).entry
+entry_text input p = entry_line input.program (run input p).entry
 
 -- the line of a pending notice: its class, its reference and its time
 abbrev pub notice_line : ProgramTable → ℕ → Slot → List ℕ
@@ -153,8 +154,8 @@ pending_text program (n ∷ ns) = notice_lines program (n ∷ ns)
 
 -- the answer to SHOW EVENTS in state p: the pending notices, the next first
 unfoldable pub events_text : Input → ℕ → List ℕ
-events_text t p = pending_text t.program (in_order (rules_of t.program) (run t p).agenda)
+events_text input p = pending_text input.program (in_order (rules_of input.program) (run input p).agenda)
 
 -- the answer to SHOW REPORT in state p: the line REPORT and the report's bytes
 unfoldable pub report_text : Input → ℕ → List ℕ
-report_text t p = codes "REPORT\n" ++ (run t p).report
+report_text input p = codes "REPORT\n" ++ (run input p).report

@@ -100,7 +100,7 @@ class_text name x program store (Some class) =
 
 -- the answer to SHOW c k in state p
 unfoldable pub entity_text : List ℕ → ℤ → Input → ℕ → List ℕ
-entity_text name x t p = class_text name x t.program (run t p).store (class_named t.program name)
+entity_text name x input p = class_text name x input.program (run input p).store (class_named input.program name)
 
 -- ---- a list
 
@@ -150,4 +150,4 @@ named_list_text name owner program state (Some set) = list_text name owner progr
 
 -- the answer to SHOW SET in state p
 unfoldable pub set_text : List ℕ → Option ℤ → Input → ℕ → List ℕ
-set_text name owner t p = named_list_text name owner t.program (run t p) (set_named t.program name)
+set_text name owner input p = named_list_text name owner input.program (run input p) (set_named input.program name)

@@ -36,13 +36,13 @@ bound_of_shape (back n) = n
 bound_of_shape (search_back test word) = GREATEST_BOUND
 
 -- a movement ends at q, at most n steps from where it began, at a position that is kept and not past the last one
-pub record IsWithinBound (d : DebuggerState) (n q : ℕ) : Type 0 where
+pub record IsWithinBound (debugger : DebuggerState) (n q : ℕ) : Type 0 where
   -- so many steps on at most
-  pub no_further_on : q ≤ d.position + n
+  pub no_further_on : q ≤ debugger.position + n
   -- so many steps back at most
-  pub no_further_back : d.position ≤ q + n
+  pub no_further_back : debugger.position ≤ q + n
   -- not before the earliest kept position
-  pub not_before_the_kept : d.earliest ≤ q
+  pub not_before_the_kept : debugger.earliest ≤ q
   -- not past the last position
   pub not_past_the_last : q ≤ LAST_POSITION
 

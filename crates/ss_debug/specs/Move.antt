@@ -19,7 +19,7 @@ least test (suc n) = if nat_lt (least test n) n then least test n else (if test 
 
 -- whether the status of state p is ready
 abbrev pub is_ready_at : Input → ℕ → Bool
-is_ready_at t p = is_ready (run t p).status
+is_ready_at input p = is_ready (run input p).status
 
 -- the line of a place; 0, which is never met, where there is none
 abbrev pub spot_line : Option Spot → ℕ
@@ -28,32 +28,33 @@ spot_line (Some spot) = spot.line
 
 -- the line of a state's present place
 abbrev pub line_of_state : Input → State → ℕ
-line_of_state t s = spot_line (spot_at t.program s.frame.section s.frame.place)
+line_of_state input state = spot_line (spot_at input.program state.frame.section state.frame.place)
 
 -- the line of the place of state p
 abbrev pub line_at : Input → ℕ → ℕ
-line_at t p = line_of_state t (run t p)
+line_at input p = line_of_state input (run input p)
 
 -- whether the place of state p is on a break line
 abbrev pub is_on_break : Input → List ℕ → ℕ → Bool
-is_on_break t breaks p = is_break_line breaks (line_at t p)
+is_on_break input breaks p = is_break_line breaks (line_at input p)
 
 -- whether the clock of state p is at or past a time, if one is named
 abbrev pub has_come : Input → Option ℕ → ℕ → Bool
-has_come t None p = false
-has_come t (Some time) p = int_le (pos time) (run t p).clock
+has_come input None p = false
+has_come input (Some time) p = int_le (pos time) (run input p).clock
 
 -- whether the frame of an event is the last one
 abbrev pub runs_event : Input → State → Bool
-runs_event t s = is_event_section (section_of t.program s.frame.section)
+runs_event input state = is_event_section (section_of input.program state.frame.section)
 
 -- whether the step from state p is an event start: it opens the frame of an event
 abbrev pub starts_event : Input → ℕ → Bool
-starts_event t p = runs_event t (run t (p + 1)) && nat_lt (length (run t p).below) (length (run t (p + 1)).below)
+starts_event input p =
+    runs_event input (run input (p + 1)) && nat_lt (length (run input p).below) (length (run input (p + 1)).below)
 
 -- whether an event start led to state p
 abbrev pub is_behind_start : Input → ℕ → Bool
-is_behind_start t p = nat_lt 0 p && starts_event t (p - 1)
+is_behind_start input p = nat_lt 0 p && starts_event input (p - 1)
 
 -- where a forward movement may stop before its bound, and what it says
 pub record StopCondition : Type 0 where
@@ -72,17 +73,17 @@ step_condition = record { time = None; test = λ p. false; word = codes "DONE"; 
 
 -- RUN stops at a state whose place is on a break line
 abbrev pub run_condition : Input → List ℕ → StopCondition
-run_condition t breaks =
-    record { time = None; test = is_on_break t breaks; word = codes "BREAK"; bound_word = codes "BOUND" }
+run_condition input breaks =
+    record { time = None; test = is_on_break input breaks; word = codes "BREAK"; bound_word = codes "BOUND" }
 
 -- RUN TO stops there, and at a state whose clock is at or past a time
 abbrev pub run_to_condition : Input → List ℕ → ℕ → StopCondition
-run_to_condition t breaks time = record (run_condition t breaks) { time = Some time }
+run_to_condition input breaks time = record (run_condition input breaks) { time = Some time }
 
 -- NEXT stops at a state to which an event start led
 abbrev pub next_condition : Input → StopCondition
-next_condition t =
-    record { time = None; test = is_behind_start t; word = codes "EVENT"; bound_word = codes "BOUND" }
+next_condition input =
+    record { time = None; test = is_behind_start input; word = codes "EVENT"; bound_word = codes "BOUND" }
 
 -- what a movement does: it goes forward to where it stops, so many steps at most; so many steps back; or back to where
 -- a test holds, for which it has a word
@@ -93,33 +94,33 @@ pub data MovementShape : Type 0 where
 
 -- what each movement does
 abbrev pub shape_of : Input → List ℕ → Movement → MovementShape
-shape_of t breaks (Step n) = forward step_condition n
-shape_of t breaks (Run n) = forward (run_condition t breaks) n
-shape_of t breaks (RunTo time) = forward (run_to_condition t breaks time) GREATEST_BOUND
-shape_of t breaks Next = forward (next_condition t) GREATEST_BOUND
-shape_of t breaks (Back n) = back n
-shape_of t breaks BackEvent = search_back (starts_event t) (codes "EVENT")
-shape_of t breaks BackBreak = search_back (is_on_break t breaks) (codes "BREAK")
+shape_of input breaks (Step n) = forward step_condition n
+shape_of input breaks (Run n) = forward (run_condition input breaks) n
+shape_of input breaks (RunTo time) = forward (run_to_condition input breaks time) GREATEST_BOUND
+shape_of input breaks Next = forward (next_condition input) GREATEST_BOUND
+shape_of input breaks (Back n) = back n
+shape_of input breaks BackEvent = search_back (starts_event input) (codes "EVENT")
+shape_of input breaks BackBreak = search_back (is_on_break input breaks) (codes "BREAK")
 
 -- ---- forward
 
 -- whether a movement from p stops at q: there the status isn't ready, or the time has come, or q is later and the test
 -- holds
 abbrev pub is_stop : Input → StopCondition → ℕ → ℕ → Bool
-is_stop t condition p q =
-    not (is_ready_at t q) || has_come t condition.time q || (nat_lt p q && condition.test q)
+is_stop input condition p q =
+    not (is_ready_at input q) || has_come input condition.time q || (nat_lt p q && condition.test q)
 
 -- whether it stops k positions on
 abbrev pub stops : Input → StopCondition → ℕ → ℕ → Bool
-stops t condition p k = is_stop t condition p (p + k)
+stops input condition p k = is_stop input condition p (p + k)
 
 -- where a movement from p ends: at the least such position, at most n positions on, and not past the last one
 abbrev pub forward_end : Input → StopCondition → ℕ → ℕ → ℕ
-forward_end t condition p n = p + least (stops t condition p) (min n (LAST_POSITION - p))
+forward_end input condition p n = p + least (stops input condition p) (min n (LAST_POSITION - p))
 
 -- the same as one fact: q is the least later position that meets the condition, within the bound, never past a state
 -- that isn't ready nor past the last position
-pub record EndsAt (t : Input) (condition : StopCondition) (p n q : ℕ) : Type 0 where
+pub record EndsAt (input : Input) (condition : StopCondition) (p n q : ℕ) : Type 0 where
   -- it is not before the start
   pub no_earlier : p ≤ q
   -- it is within the bound
@@ -127,14 +128,14 @@ pub record EndsAt (t : Input) (condition : StopCondition) (p n q : ℕ) : Type 0
   -- it is not past the last position
   pub not_past_the_last : q ≤ LAST_POSITION
   -- no state before it has ended
-  pub not_past_an_end : (k : ℕ) → p ≤ k → k < q → is_ready_at t k ≡ true
+  pub not_past_an_end : (k : ℕ) → p ≤ k → k < q → is_ready_at input k ≡ true
   -- before it the time has not come
-  pub not_past_the_time : (k : ℕ) → p ≤ k → k < q → has_come t condition.time k ≡ false
+  pub not_past_the_time : (k : ℕ) → p ≤ k → k < q → has_come input condition.time k ≡ false
   -- between the two the test holds nowhere
   pub not_past_a_met : (k : ℕ) → p < k → k < q → condition.test k ≡ false
   -- it is at one of the bounds, or meets the condition
   pub for_a_reason :
-      (q ≡ p + n) ⊎ ((q ≡ LAST_POSITION) ⊎ ((is_ready_at t q ≡ false) ⊎ ((has_come t condition.time q ≡ true)
+      (q ≡ p + n) ⊎ ((q ≡ LAST_POSITION) ⊎ ((is_ready_at input q ≡ false) ⊎ ((has_come input condition.time q ≡ true)
       ⊎ ((p < q) × (condition.test q ≡ true)))))
 
 -- ---- back

@@ -33,71 +33,75 @@ initial_debugger_state = record { position = 0; earliest = 0; breaks = [] }
 
 -- the same, at another position
 abbrev pub debugger_state_at : DebuggerState → ℕ → DebuggerState
-debugger_state_at d p = record { position = p; earliest = d.earliest; breaks = d.breaks }
+debugger_state_at debugger p = record { position = p; earliest = debugger.earliest; breaks = debugger.breaks }
 
 -- the position to which a movement of this shape leads
 abbrev pub end_of : Input → DebuggerState → MovementShape → ℕ
-end_of t d (forward condition n) = forward_end t condition d.position n
-end_of t d (back n) = back_end d.earliest d.position n
-end_of t d (search_back test word) = search_back_end test d.earliest d.position GREATEST_BOUND
+end_of input debugger (forward condition n) = forward_end input condition debugger.position n
+end_of input debugger (back n) = back_end debugger.earliest debugger.position n
+end_of input debugger (search_back test word) = search_back_end test debugger.earliest debugger.position GREATEST_BOUND
 
 -- its word, where it leads to q
 abbrev pub word_of : Input → DebuggerState → MovementShape → ℕ → List ℕ
-word_of t d (forward condition n) q = forward_word t condition d.position n q
-word_of t d (back n) q = back_word d.earliest d.position n
-word_of t d (search_back test word) q = search_back_word test word d.earliest d.position q
+word_of input debugger (forward condition n) q = forward_word input condition debugger.position n q
+word_of input debugger (back n) q = back_word debugger.earliest debugger.position n
+word_of input debugger (search_back test word) q = search_back_word test word debugger.earliest debugger.position q
 
 -- the state of the debugger after it
 abbrev pub debugger_state_after_movement : Input → DebuggerState → MovementShape → DebuggerState
-debugger_state_after_movement t d shape = debugger_state_at d (end_of t d shape)
+debugger_state_after_movement input debugger shape = debugger_state_at debugger (end_of input debugger shape)
 
 -- what it answers
 abbrev pub movement_answer : Input → DebuggerState → MovementShape → List ℕ
-movement_answer t d shape = let q = end_of t d shape in movement_text (word_of t d shape q) t q
+movement_answer input debugger shape =
+    let q = end_of input debugger shape in movement_text (word_of input debugger shape q) input q
 
 -- the same, with other break lines
 abbrev pub debugger_state_with : DebuggerState → List ℕ → DebuggerState
-debugger_state_with d breaks = record { position = d.position; earliest = d.earliest; breaks = breaks }
+debugger_state_with debugger breaks =
+    record { position = debugger.position; earliest = debugger.earliest; breaks = breaks }
 
 -- the same, where nothing before the position to which BACK n goes is kept
 abbrev pub debugger_state_after_forget : DebuggerState → ℕ → DebuggerState
-debugger_state_after_forget d n =
-    record { position = d.position; earliest = back_end d.earliest d.position n; breaks = d.breaks }
+debugger_state_after_forget debugger n =
+    record { position = debugger.position; earliest = back_end debugger.earliest debugger.position n;
+        breaks = debugger.breaks }
 
 -- the state of the debugger after a command
 unfoldable pub debugger_state_after : Input → DebuggerState → Command → DebuggerState
-debugger_state_after t d (Move m) = debugger_state_after_movement t d (shape_of t d.breaks m)
-debugger_state_after t d (Break line) = debugger_state_with d (breaks_after_set d.breaks line)
-debugger_state_after t d (Clear line) = debugger_state_with d (without_line line d.breaks)
-debugger_state_after t d (Forget n) = debugger_state_after_forget d n
-debugger_state_after t d _ = d
+debugger_state_after input debugger (Move m) =
+    debugger_state_after_movement input debugger (shape_of input debugger.breaks m)
+debugger_state_after input debugger (Break line) = debugger_state_with debugger (breaks_after_set debugger.breaks line)
+debugger_state_after input debugger (Clear line) = debugger_state_with debugger (without_line line debugger.breaks)
+debugger_state_after input debugger (Forget n) = debugger_state_after_forget debugger n
+debugger_state_after input debugger _ = debugger
 
 -- what FORGET answers
 abbrev pub forget_answer : DebuggerState → ℕ → List ℕ
-forget_answer d n = kept_text (d.position - (debugger_state_after_forget d n).earliest)
+forget_answer debugger n = kept_text (debugger.position - (debugger_state_after_forget debugger n).earliest)
 
 -- what SHOW answers in state p
 abbrev pub show_answer : Input → ℕ → Question → List ℕ
-show_answer t p Clock = clock_text t p
-show_answer t p Where = state_line t p
-show_answer t p (Variable name) = var_text name t p
-show_answer t p (Entity name x) = entity_text name x t p
-show_answer t p (Set name owner) = set_text name owner t p
-show_answer t p Events = events_text t p
-show_answer t p Taken = taken_text t p
-show_answer t p Entry = entry_text t p
-show_answer t p Report = report_text t p
+show_answer input p Clock = clock_text input p
+show_answer input p Where = state_line input p
+show_answer input p (Variable name) = var_text name input p
+show_answer input p (Entity name x) = entity_text name x input p
+show_answer input p (Set name owner) = set_text name owner input p
+show_answer input p Events = events_text input p
+show_answer input p Taken = taken_text input p
+show_answer input p Entry = entry_text input p
+show_answer input p Report = report_text input p
 
 -- what a command answers
 unfoldable pub answer : Input → DebuggerState → Command → List ℕ
-answer t d Blank = []
-answer t d Bad = codes "BAD COMMAND\n"
-answer t d (Move m) = movement_answer t d (shape_of t d.breaks m)
-answer t d (Break line) = break_text d.breaks line
-answer t d (Clear line) = clear_text d.breaks line
-answer t d (Forget n) = forget_answer d n
-answer t d (Show q) = show_answer t d.position q
-answer t d Quit = []
+answer input debugger Blank = []
+answer input debugger Bad = codes "BAD COMMAND\n"
+answer input debugger (Move m) = movement_answer input debugger (shape_of input debugger.breaks m)
+answer input debugger (Break line) = break_text debugger.breaks line
+answer input debugger (Clear line) = clear_text debugger.breaks line
+answer input debugger (Forget n) = forget_answer debugger n
+answer input debugger (Show q) = show_answer input debugger.position q
+answer input debugger Quit = []
 
 -- whether a command gives no answer
 abbrev pub is_silent : Command → Bool
@@ -122,12 +126,13 @@ obeyed_lines (line ∷ lines) = line ∷ (if is_quit (command_of line) then [] e
 
 -- the state of the debugger after some lines
 unfoldable pub debugger_state_after_lines : Input → DebuggerState → List (List ℕ) → DebuggerState
-debugger_state_after_lines t d [] = d
-debugger_state_after_lines t d (line ∷ lines) =
-    debugger_state_after_lines t (debugger_state_after t d (command_of line)) lines
+debugger_state_after_lines input debugger [] = debugger
+debugger_state_after_lines input debugger (line ∷ lines) =
+    debugger_state_after_lines input (debugger_state_after input debugger (command_of line)) lines
 
 -- the whole answers to some lines
 unfoldable pub answers : Input → DebuggerState → List (List ℕ) → List ℕ
-answers t d [] = []
-answers t d (line ∷ lines) =
-    answer t d (command_of line) ++ answers t (debugger_state_after t d (command_of line)) lines
+answers input debugger [] = []
+answers input debugger (line ∷ lines) =
+    answer input debugger (command_of line)
+        ++ answers input (debugger_state_after input debugger (command_of line)) lines

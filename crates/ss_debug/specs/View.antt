@@ -10,9 +10,9 @@ use Rattle.ss_debug.specs.Turn.{DebuggerState}
 
 -- whether a state is what a movement looks for
 abbrev pub target_test : Input → List ℕ → Target → ℕ → Bool
-target_test t breaks Nothing = λ p. false
-target_test t breaks BreakLine = is_on_break t breaks
-target_test t breaks EventStart = is_behind_start t
+target_test input breaks Nothing = λ p. false
+target_test input breaks BreakLine = is_on_break input breaks
+target_test input breaks EventStart = is_behind_start input
 
 -- the word where it is found
 abbrev pub target_word : Target → List ℕ
@@ -28,9 +28,9 @@ target_bound_word EventStart = codes "BOUND"
 
 -- the stop condition that the code names
 abbrev pub condition_of : Input → List ℕ → StopChoice → StopCondition
-condition_of t breaks choice = record {
+condition_of input breaks choice = record {
   time = choice.time;
-  test = target_test t breaks choice.target;
+  test = target_test input breaks choice.target;
   word = target_word choice.target;
   bound_word = target_bound_word choice.target;
 }
@@ -44,9 +44,9 @@ pub record DebuggerView : Type 0 where
 
 -- the state of a debugger
 abbrev pub debugger_state_of : DebuggerView → DebuggerState
-debugger_state_of d =
-    record { position = position d.machine; earliest = d.machine.forgotten; breaks = d.breaks }
+debugger_state_of debugger =
+    record { position = position debugger.machine; earliest = debugger.machine.forgotten; breaks = debugger.breaks }
 
 -- the stop condition that the code names to a debugger
 abbrev pub condition_in : DebuggerView → StopChoice → StopCondition
-condition_in d choice = condition_of d.machine.input d.breaks choice
+condition_in debugger choice = condition_of debugger.machine.input debugger.breaks choice

@@ -43,7 +43,7 @@ pending_at (m ∷ ms) k = if m.notice == k then Some m else pending_at ms k
 
 -- whether notice k is pending
 abbrev pub is_pending : Agenda → ℕ → Bool
-is_pending a k = is_some (pending_at a.pending k)
+is_pending agenda k = is_some (pending_at agenda.pending k)
 
 -- which of two notices comes first: by time, by the priority of the class, by the keys, by scheduling
 abbrev pub by_time : List Rule → Pending → Pending → Ordering
@@ -58,7 +58,7 @@ is_before rules m n = is_lt (by_time rules m n)
 
 -- the least of a notice and others
 abbrev pub least_of : List Rule → Pending → List Pending → Pending
-least_of rules n ms = fold (λ l m. if is_before rules m l then m else l) n ms
+least_of rules notice ms = fold (λ l m. if is_before rules m l then m else l) notice ms
 
 -- the least pending notice, which is the next
 abbrev pub least : List Rule → List Pending → Option Pending
@@ -80,7 +80,7 @@ first_notices rules (suc j) (n ∷ ms) =
 
 -- all pending notices in order
 abbrev pub in_order : List Rule → Agenda → List Pending
-in_order rules a = first_notices rules (length a.pending) a.pending
+in_order rules agenda = first_notices rules (length agenda.pending) agenda.pending
 
 -- the notices of one class
 abbrev pub of_class : ℕ → List Pending → List Pending
@@ -90,27 +90,27 @@ of_class c (m ∷ ms) = if m.class == c then m ∷ of_class c ms else of_class c
 -- whether notice k can be scheduled at a time: F9 before the clock, F10 where it is pending, F20 where there were as
 -- many schedulings as there may be
 abbrev pub may_schedule : Agenda → ℕ → ℤ → ℤ → Result (Unit {0}) RunFault
-may_schedule a k time clock =
+may_schedule agenda k time clock =
     if int_lt time clock then Err TimeBeforeClock
-    else if is_pending a k then Err AlreadyScheduled
-    else if nat_lt MOST_SCHEDULINGS a.next_filing then Err TooManyReferences
+    else if is_pending agenda k then Err AlreadyScheduled
+    else if nat_lt MOST_SCHEDULINGS agenda.next_filing then Err TooManyReferences
     else Ok tt
 
 -- whether notice k can be cancelled: F11 where it is not pending
 abbrev pub may_cancel : Agenda → ℕ → Result (Unit {0}) RunFault
-may_cancel a k = if is_pending a k then Ok tt else Err NotScheduled
+may_cancel agenda k = if is_pending agenda k then Ok tt else Err NotScheduled
 
 -- notices with one more, in order of their references
 abbrev pub with_notice : Pending → List Pending → List Pending
-with_notice n [] = n ∷ []
-with_notice n (m ∷ ms) = if nat_lt n.notice m.notice then n ∷ m ∷ ms else m ∷ with_notice n ms
+with_notice notice [] = notice ∷ []
+with_notice notice (m ∷ ms) = if nat_lt notice.notice m.notice then notice ∷ m ∷ ms else m ∷ with_notice notice ms
 
 -- notice k scheduled with the next filing number
 abbrev pub agenda_after_scheduling : Agenda → ℕ → ℤ → ℕ → List ℤ → Agenda
-agenda_after_scheduling a k time class keys =
-    let n : Pending = record { notice = k; time = time; class = class; keys = keys; filing = a.next_filing } in
-    record { pending = with_notice n a.pending; next_filing = a.next_filing + 1 }
+agenda_after_scheduling agenda k time class keys =
+    let n : Pending = record { notice = k; time = time; class = class; keys = keys; filing = agenda.next_filing } in
+    record { pending = with_notice n agenda.pending; next_filing = agenda.next_filing + 1 }
 
 -- notice k taken off
 abbrev pub agenda_after_taking : Agenda → ℕ → Agenda
-agenda_after_taking a k = record a { pending = without_notice k a.pending }
+agenda_after_taking agenda k = record agenda { pending = without_notice k agenda.pending }

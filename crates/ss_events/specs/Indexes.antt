@@ -6,16 +6,17 @@ use Rattle.ss_events.specs.Agenda.{Pending, pending_at, is_before}
 
 -- whether a notice comes before another, if there is another
 abbrev pub is_before_some : List Rule → Pending → Option Pending → Bool
-is_before_some rules e None = false
-is_before_some rules e (Some f) = is_before rules e f
+is_before_some rules notice None = false
+is_before_some rules notice (Some f) = is_before rules notice f
 
 -- whether a notice comes before the pending notice of a seat
 abbrev pub comes_before : List Rule → List Pending → List ℕ → Pending → ℕ → Bool
-comes_before rules es notices e seat = is_before_some rules e (pending_at es (slice_index notices seat))
+comes_before rules es notices notice seat = is_before_some rules notice (pending_at es (slice_index notices seat))
 
 -- a notice of an event class, with a key for each of the class's
 abbrev pub IsOfClass : List Rule → Pending → Type 0
-IsOfClass rules e = (is_event_class rules e.class ≡ true) × (length e.keys ≡ length (rule_at rules e.class).ties)
+IsOfClass rules notice =
+    (is_event_class rules notice.class ≡ true) × (length notice.keys ≡ length (rule_at rules notice.class).ties)
 
 -- a notice and that of a seat can be compared: both are of event classes, with a key for each of their class's
 pub record IsComparable (rules : List Rule) (es : List Pending) (notices : List ℕ) (e : Pending)

@@ -8,16 +8,16 @@ use Rattle.ss_events.specs.State.{AgendaState, seats_of, order}
 
 -- the seat that a listing keeps for a class
 abbrev pub seat_of_class : Listing → ℕ → Option ℕ
-seat_of_class l c = slice_index_or l.seats c None
+seat_of_class listing c = slice_index_or listing.seats c None
 
 -- the notices that a listing has not listed yet
 abbrev pub left_of : AgendaState → Listing → List Pending
-left_of s l = drop l.listed (order s)
+left_of agenda listing = drop listing.listed (order agenda)
 
 -- a listing of the agenda: it keeps for each class the seat of the first notice that it has not listed yet
-pub record IsListing (s : AgendaState) (l : Listing) : Type 0 where
+pub record IsListing (agenda : AgendaState) (listing : Listing) : Type 0 where
   -- there is a place for each class that may be
-  pub all : length l.seats ≡ MOST_CLASSES
+  pub all : length listing.seats ≡ MOST_CLASSES
   -- the place of a class is the seat that is listed next of it
-  pub seats : (c : ℕ) → c < length s.rules →
-      seat_of_class l c ≡ first_of (seats_of s.notices (of_class c (left_of s l)))
+  pub seats : (c : ℕ) → c < length agenda.rules →
+      seat_of_class listing c ≡ first_of (seats_of agenda.notices (of_class c (left_of agenda listing)))

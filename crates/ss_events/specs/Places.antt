@@ -10,14 +10,15 @@ use Rattle.ss_events.specs.State.{AgendaState, seats_of, order}
 
 -- those that a notice doesn't come before, up to the first that it comes before
 abbrev pub notices_passed : (Pending → Pending → Bool) → Pending → List Pending → List Pending
-notices_passed lt e [] = []
-notices_passed lt e (f ∷ fs) = if lt e f then [] else f ∷ notices_passed lt e fs
+notices_passed lt notice [] = []
+notices_passed lt notice (f ∷ fs) = if lt notice f then [] else f ∷ notices_passed lt notice fs
 
 -- where a notice belongs: in its class's list, behind those that it doesn't come before
 abbrev pub rank_place : AgendaState → Pending → Place
-rank_place s e = record {
-  head = event_number s.rules e.class;
-  before = last_of (seats_of s.notices (notices_passed (is_before s.rules) e (of_class e.class (order s))));
+rank_place agenda notice = record {
+  head = event_number agenda.rules notice.class;
+  before = last_of (seats_of agenda.notices
+      (notices_passed (is_before agenda.rules) notice (of_class notice.class (order agenda))));
 }
 
 -- the last of a list
@@ -27,19 +28,19 @@ last (e ∷ es) = Some (unwrap_or (last es) e)
 
 -- the notice of its class directly behind which a notice belongs, or none where it belongs in front of all
 abbrev pub predecessor_of : AgendaState → Pending → Option ℕ
-predecessor_of s e = option_map (λ f. f.notice)
-    (last (notices_passed (is_before s.rules) e (of_class e.class (order s))))
+predecessor_of agenda notice = option_map (λ f. f.notice)
+    (last (notices_passed (is_before agenda.rules) notice (of_class notice.class (order agenda))))
 
 -- the notice of a seat
 abbrev pub notice_on : AgendaState → ℕ → ℕ
-notice_on s seat = slice_index s.notices seat
+notice_on agenda seat = slice_index agenda.notices seat
 
 -- a seat whose notice is pending
-pub record IsTaken (s : AgendaState) (seat : ℕ) : Type 0 where
+pub record IsTaken (agenda : AgendaState) (seat : ℕ) : Type 0 where
   -- there is such a seat
-  pub made : seat < length s.notices
+  pub made : seat < length agenda.notices
   -- its notice is pending
-  pub pending : IsSome (pending_at s.agenda.pending (notice_on s seat))
+  pub pending : IsSome (pending_at agenda.agenda.pending (notice_on agenda seat))
 
 -- the first of perhaps one notice and perhaps another
 abbrev pub earlier : (Pending → Pending → Bool) → Option Pending → Option Pending → Option Pending
@@ -49,13 +50,13 @@ earlier lt (Some e) (Some f) = if lt f e then Some f else Some e
 
 -- the pending notice of a seat, if there is a seat
 abbrev pub pending_on : AgendaState → Option ℕ → Option Pending
-pending_on s None = None
-pending_on s (Some seat) = pending_at s.agenda.pending (notice_on s seat)
+pending_on agenda None = None
+pending_on agenda (Some seat) = pending_at agenda.agenda.pending (notice_on agenda seat)
 
 -- a seat, if there is one, whose notice is pending
 abbrev pub IsTakenIfSome : AgendaState → Option ℕ → Type 0
-IsTakenIfSome s None = Unit {0}
-IsTakenIfSome s (Some seat) = IsTaken s seat
+IsTakenIfSome agenda None = Unit {0}
+IsTakenIfSome agenda (Some seat) = IsTaken agenda seat
 
 -- the first of a list
 abbrev pub first : List Pending → Option Pending

@@ -43,7 +43,7 @@ state_of rules rows next notices = record {
 
 -- the room of a row's seat in an index is kept in the row while its notice is not pending
 abbrev pub HasNode : Row → Type 0
-HasNode r = r.node ≡ (if is_some r.pending then None else r.seat)
+HasNode row = row.node ≡ (if is_some row.pending then None else row.seat)
 
 -- each seat has a time, and where its notice is pending, that is when it is due
 pub record AreDue (times : List ℤ) (notices : List ℕ) (rows : List Row) : Type 0 where
@@ -54,39 +54,40 @@ pub record AreDue (times : List ℤ) (notices : List ℕ) (rows : List Row) : Ty
       → (row_at rows (slice_index notices seat - 1)).pending ≡ Some x → slice_index_or times seat (pos 0) ≡ x.time
 
 -- what is kept, the rows, the state and the board, agrees
-pub record IsAgenda (rows : List Row) (s : AgendaState) (b : Board) : Type 0 where
+pub record IsAgenda (rows : List Row) (agenda : AgendaState) (b : Board) : Type 0 where
   -- the rows are the pending notices
-  pub read : s.agenda.pending ≡ notices_from 1 rows
+  pub read : agenda.agenda.pending ≡ notices_from 1 rows
   -- the board is that of the state
-  pub board : b ≡ board_of s
+  pub board : b ≡ board_of agenda
   -- no seat stands twice on the board
   pub sound : IsSound b
   -- each row has its notice's seat
-  pub seats : (i : ℕ) → i < length rows → (row_at rows i).seat ≡ seat_at s.notices (i + 1)
+  pub seats : (i : ℕ) → i < length rows → (row_at rows i).seat ≡ seat_at agenda.notices (i + 1)
   -- each seat has its room
   pub nodes : (i : ℕ) → HasNode (row_at rows i)
   -- a seat is a row's notice's
-  pub seated : (n : ℕ) → has s.notices n ≡ true → (0 < n) × (n ≤ length rows)
+  pub seated : (n : ℕ) → has agenda.notices n ≡ true → (0 < n) × (n ≤ length rows)
   -- no notice has two seats
-  pub once : (n : ℕ) → times_in s.notices n ≤ 1
+  pub once : (n : ℕ) → times_in agenda.notices n ≤ 1
   -- there are at most as many rows as references
   pub few : length rows ≤ MOST_REFERENCES
   -- what is kept of each pending notice fits its class
-  pub pending : Each (IsPending s.rules s.notices s.agenda.next_filing) s.agenda.pending
+  pub pending : Each (IsPending agenda.rules agenda.notices agenda.agenda.next_filing) agenda.agenda.pending
   -- no two have one filing number
-  pub filed : AreFiled s.agenda.pending
+  pub filed : AreFiled agenda.agenda.pending
   -- filing numbers begin with 1
-  pub next : 0 < s.agenda.next_filing
+  pub next : 0 < agenda.agenda.next_filing
   -- and end with the limit
-  pub filing : s.agenda.next_filing ≤ MOST_SCHEDULINGS + 1
+  pub filing : agenda.agenda.next_filing ≤ MOST_SCHEDULINGS + 1
   -- no two classes have one place in the order of priority
-  pub ranked : AreRanked s.rules
+  pub ranked : AreRanked agenda.rules
   -- there are at most as many classes as a program has
-  pub classes : length s.rules ≤ MOST_CLASSES
+  pub classes : length agenda.rules ≤ MOST_CLASSES
 
 -- an entry's class is an event class, and it has a key for each of the class's
 abbrev pub IsEntry : List Rule → PendingNotice → Type 0
-IsEntry rules x = (is_event_class rules x.class ≡ true) × (length x.keys.items ≡ length (rule_at rules x.class).ties)
+IsEntry rules notice =
+    (is_event_class rules notice.class ≡ true) × (length notice.keys.items ≡ length (rule_at rules notice.class).ties)
 
 -- rows became more, the new ones empty, but not more than a count
 pub record IsGrown (old new : List Row) (count : ℕ) : Type 0 where

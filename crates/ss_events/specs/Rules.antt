@@ -15,15 +15,15 @@ pub record Rule : Type 0 where
 
 -- the rule of class c of a program
 abbrev pub program_rule : ProgramTable → ℕ → Rule
-program_rule p c = record {
-  for_events = is_event (class_of p c).kind;
-  priority = priority_of p c;
-  ties = (event_of p c).ties;
+program_rule program c = record {
+  for_events = is_event (class_of program c).kind;
+  priority = priority_of program c;
+  ties = (event_of program c).ties;
 }
 
 -- the rules of a program's classes, class by class
 abbrev pub rules_of : ProgramTable → List Rule
-rules_of p = map (program_rule p) (range_with_len 0 (length p.classes))
+rules_of program = map (program_rule program) (range_with_len 0 (length program.classes))
 
 -- the rule of a class
 abbrev pub rule_at : List Rule → ℕ → Rule

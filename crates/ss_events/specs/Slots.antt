@@ -4,4 +4,4 @@ use Rattle.ss_events.specs.Agenda.{Pending}
 
 -- when a notice is due, and of which class it is
 abbrev pub slot_of : Pending → Slot
-slot_of e = record { time = e.time; class = e.class }
+slot_of notice = record { time = notice.time; class = notice.class }

@@ -35,13 +35,13 @@ seats_of notices es = map (λ e. seat_in notices e.notice) es
 
 -- all pending notices in order
 abbrev pub order : AgendaState → List Pending
-order s = in_order s.rules s.agenda
+order agenda = in_order agenda.rules agenda.agenda
 
 -- the board: for each event class a list with the seats of its pending notices, in their order
 abbrev pub board_of : AgendaState → Board
-board_of s = record {
-  lists = map (λ c. seats_of s.notices (of_class c (order s))) (event_classes s.rules);
-  seats = length s.notices;
+board_of agenda = record {
+  lists = map (λ c. seats_of agenda.notices (of_class c (order agenda))) (event_classes agenda.rules);
+  seats = length agenda.notices;
 }
 
 -- a fact of each notice
@@ -63,24 +63,24 @@ AreFiled [] = Unit {0}
 AreFiled (e ∷ es) = NoneFiled e.filing es × AreFiled es
 
 -- a notice of an event class, with a time of 64 bits, as many keys as its class has, and a filing number that was given
-pub record IsWellNotice (rules : List Rule) (next_filing : ℕ) (e : Pending) : Type 0 where
+pub record IsWellNotice (rules : List Rule) (next_filing : ℕ) (notice : Pending) : Type 0 where
   -- its class is an event class
-  pub class : is_event_class rules e.class ≡ true
+  pub class : is_event_class rules notice.class ≡ true
   -- its time is a number of 64 bits
-  pub time : in_range e.time ≡ true
+  pub time : in_range notice.time ≡ true
   -- it has a key for each of the class's
-  pub keys : length e.keys ≡ length (rule_at rules e.class).ties
+  pub keys : length notice.keys ≡ length (rule_at rules notice.class).ties
   -- filing numbers begin with 1
-  pub first : 0 < e.filing
+  pub first : 0 < notice.filing
   -- its filing number was given
-  pub filing : e.filing < next_filing
+  pub filing : notice.filing < next_filing
 
 -- such a notice that has a seat
-pub record IsPending (rules : List Rule) (notices : List ℕ) (next_filing : ℕ) (e : Pending) : Type 0 where
+pub record IsPending (rules : List Rule) (notices : List ℕ) (next_filing : ℕ) (notice : Pending) : Type 0 where
   -- it is well-formed
-  pub well : IsWellNotice rules next_filing e
+  pub well : IsWellNotice rules next_filing notice
   -- it has a seat
-  pub seat : has notices e.notice ≡ true
+  pub seat : has notices notice.notice ≡ true
 
 -- no two classes have one place in the order of priority
 abbrev pub AreRanked : List Rule → Type 0

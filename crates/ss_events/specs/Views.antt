@@ -7,8 +7,9 @@ use Rattle.ss_events.specs.Rules.{Rule}
 
 -- a class's rule
 abbrev pub rule_of : ClassRule → Rule
-rule_of k = record { for_events = k.for_events; priority = k.priority; ties = k.ties.items }
+rule_of rule = record { for_events = rule.for_events; priority = rule.priority; ties = rule.ties.items }
 
 -- the pending notice with this reference of which this is kept
 abbrev pub notice_of : ℕ → PendingNotice → Pending
-notice_of n x = record { notice = n; time = x.time; class = x.class; keys = x.keys.items; filing = x.filing }
+notice_of n notice =
+    record { notice = n; time = notice.time; class = notice.class; keys = notice.keys.items; filing = notice.filing }

@@ -13,16 +13,16 @@ IsRising n (e ∷ es) = (n < e.notice) × IsRising e.notice es
 
 -- well-formed notices in order of their references, which are within the limit, with different filing numbers below
 -- the next
-pub record IsWellAgenda (rules : List Rule) (a : Agenda) : Type 0 where
+pub record IsWellAgenda (rules : List Rule) (agenda : Agenda) : Type 0 where
   -- each pending notice is well-formed
-  pub notices : Each (IsWellNotice rules a.next_filing) a.pending
+  pub notices : Each (IsWellNotice rules agenda.next_filing) agenda.pending
   -- there are at most so many references
-  pub few : Each (λ e. e.notice ≤ MOST_REFERENCES) a.pending
+  pub few : Each (λ e. e.notice ≤ MOST_REFERENCES) agenda.pending
   -- they stand in order of their references
-  pub references : IsRising 0 a.pending
+  pub references : IsRising 0 agenda.pending
   -- no two have one filing number
-  pub filings : AreFiled a.pending
+  pub filings : AreFiled agenda.pending
   -- filing numbers begin with 1
-  pub next : 0 < a.next_filing
+  pub next : 0 < agenda.next_filing
   -- and end with the limit
-  pub limit : a.next_filing ≤ MOST_SCHEDULINGS + 1
+  pub limit : agenda.next_filing ≤ MOST_SCHEDULINGS + 1

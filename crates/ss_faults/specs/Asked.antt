@@ -24,7 +24,7 @@ use Rattle.ss_faults.specs.Texts.{if_told}
 
 -- an entity, as WHY is asked of it; of a number that no entity has nothing is asked
 abbrev pub entity_asked : ProgramTable → ℕ → ℤ → List ℕ
-entity_asked p c x = if int_lt x (pos 1) then [] else (class_of p c).name ++ codes " " ++ signed_decimal x
+entity_asked program c x = if int_lt x (pos 1) then [] else (class_of program c).name ++ codes " " ++ signed_decimal x
 
 -- the owner of a list, as it is asked; the system has one list
 abbrev pub owner_asked : Owner → ℤ → List ℕ
@@ -33,44 +33,45 @@ owner_asked (OwnedBy c) x = codes " " ++ signed_decimal x
 
 -- a list, as WHY is asked of it
 abbrev pub list_asked : ProgramTable → ℕ → ℤ → List ℕ
-list_asked p set x = codes "SET " ++ (set_of p set).name ++ owner_asked (set_of p set).owner x
+list_asked program set x = codes "SET " ++ (set_of program set).name ++ owner_asked (set_of program set).owner x
 
 -- what is asked of an entity that is missing
 abbrev pub missing_asked : ProgramTable → Told → List ℕ
-missing_asked p (Missing c x) = entity_asked p c x
-missing_asked p (Value x) = []
-missing_asked p Untold = []
-missing_asked p Unclear = []
+missing_asked program (Missing c x) = entity_asked program c x
+missing_asked program (Value x) = []
+missing_asked program Untold = []
+missing_asked program Unclear = []
 
 -- what is asked of a list as it is named now
 abbrev pub named_list_asked : ProgramTable → State → SetRef → List ℕ
-named_list_asked p s r = if_told (subscript_told p s r.owner) (list_asked p r.set)
+named_list_asked program state set = if_told (subscript_told program state set.owner) (list_asked program set.set)
 
 -- what is asked of a phrase: the list that it names
 abbrev pub walk_asked : ProgramTable → State → Phrase → List ℕ
-walk_asked p s (Counting d x first last step) = []
-walk_asked p s (Each c is_called x count) = []
-walk_asked p s (Walking d x r begin) = named_list_asked p s r
+walk_asked program state (Counting d x first last step) = []
+walk_asked program state (Each c is_called x count) = []
+walk_asked program state (Walking d x r begin) = named_list_asked program state r
 
 -- the same of the phrase of a loop
 abbrev pub loop_asked : ProgramTable → State → Place → List ℕ
-loop_asked p s (places.Looping (For l)) = walk_asked p s l.phrase
-loop_asked p s x = []
+loop_asked program state (places.Looping (For l)) = walk_asked program state l.phrase
+loop_asked program state place = []
 
 -- what is asked of a fault at a statement
 abbrev pub fault_asked : ProgramTable → State → RunFault → Place → List ℕ
-fault_asked p s f.NoEntity x = missing_asked p (place_told p s x)
-fault_asked p s f.MemberLeft x = loop_asked p s x
-fault_asked p s _ x = []
+fault_asked program state f.NoEntity place = missing_asked program (place_told program state place)
+fault_asked program state f.MemberLeft place = loop_asked program state place
+fault_asked program state _ place = []
 
 -- what is asked at the place where the last frame stands
 abbrev pub asked_here : ProgramTable → State → RunFault → Option Spot → List ℕ
-asked_here p s e None = []
-asked_here p s e (Some spot) = fault_asked p s e spot.place
+asked_here program state fault None = []
+asked_here program state fault (Some spot) = fault_asked program state fault spot.place
 
 -- what the history is asked of a state; nothing of a state that is not faulted
 unfoldable pub state_asked : ProgramTable → State → Status → List ℕ
-state_asked p s (Faulted e) = asked_here p s e (spot_at p s.frame.section s.frame.place)
-state_asked p s Ready = []
-state_asked p s Stopped = []
-state_asked p s Finished = []
+state_asked program state (Faulted e) =
+    asked_here program state e (spot_at program state.frame.section state.frame.place)
+state_asked program state Ready = []
+state_asked program state Stopped = []
+state_asked program state Finished = []

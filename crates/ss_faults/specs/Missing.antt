@@ -43,165 +43,172 @@ use Rattle.ss_faults.specs.Readings.{told_of, subscript_told, both, at_entity, a
 
 -- a variable, or the entity of an attribute
 abbrev pub target_told : ProgramTable → State → Target → Told
-target_told p s (targets.Variable x) = Untold
-target_told p s (targets.Attribute c a i) = at_entity (subscript_told p s i) (attribute_told s c a)
+target_told program state (targets.Variable x) = Untold
+target_told program state (targets.Attribute c a i) =
+    at_entity (subscript_told program state i) (attribute_told state c a)
 
 -- expressions, behind others
 abbrev pub values_told : ProgramTable → State → Told → List Expr → Told
-values_told p s a [] = a
-values_told p s a (e ∷ es) = values_told p s (both a (told_of p s e)) es
+values_told program state a [] = a
+values_told program state a (e ∷ es) = values_told program state (both a (told_of program state e)) es
 
 -- an expression that may be left out
 abbrev pub option_told : ProgramTable → State → Option Expr → Told
-option_told p s None = Untold
-option_told p s (Some e) = told_of p s e
+option_told program state None = Untold
+option_told program state (Some e) = told_of program state e
 
 -- the entity of class c that an expression names
 abbrev pub named_told : ProgramTable → State → ℕ → Expr → Told
-named_told p s c e = at_entity (told_of p s e) (entity_told s c)
+named_told program state c expression = at_entity (told_of program state expression) (entity_told state c)
 
 -- the owner of a list
 abbrev pub list_told : ProgramTable → State → SetRef → Told
-list_told p s r = at_entity (subscript_told p s r.owner) (owner_told p s Count r.set)
+list_told program state set =
+    at_entity (subscript_told program state set.owner) (owner_told program state Count set.set)
 
 -- ---- statements
 
 -- LET, ADD and SUBTRACT: the value, and the target
 abbrev pub assign_told : ProgramTable → State → Assign → Told
-assign_told p s (Let written t e) = both (told_of p s e) (target_told p s t)
-assign_told p s (Add e t) = both (told_of p s e) (target_told p s t)
-assign_told p s (Subtract e t) = both (told_of p s e) (target_told p s t)
+assign_told program state (Let written t e) = both (told_of program state e) (target_told program state t)
+assign_told program state (Add e t) = both (told_of program state e) (target_told program state t)
+assign_told program state (Subtract e t) = both (told_of program state e) (target_told program state t)
 
 -- CREATE assigns when the entity is made
 abbrev pub making_told : ProgramTable → State → Making → Told
-making_told p s (Create c is_called t) = Unclear
-making_told p s (CreateEvery c e count) = option_told p s e
-making_told p s (Destroy c is_called e) = named_told p s c e
+making_told program state (Create c is_called t) = Unclear
+making_told program state (CreateEvery c e count) = option_told program state e
+making_told program state (Destroy c is_called e) = named_told program state c e
 
 -- the member that BEFORE or AFTER names
 abbrev pub position_told : ProgramTable → State → Position → Told
-position_told p s position.ByRule = Untold
-position_told p s (position.AtEnd end) = Untold
-position_told p s (position.Before e) = told_of p s e
-position_told p s (position.After e) = told_of p s e
+position_told program state position.ByRule = Untold
+position_told program state (position.AtEnd end) = Untold
+position_told program state (position.Before e) = told_of program state e
+position_told program state (position.After e) = told_of program state e
 
 -- the same, as an entity of class c
 abbrev pub placed_told : ProgramTable → State → ℕ → Position → Told
-placed_told p s c position.ByRule = Untold
-placed_told p s c (position.AtEnd end) = Untold
-placed_told p s c (position.Before e) = named_told p s c e
-placed_told p s c (position.After e) = named_told p s c e
+placed_told program state c position.ByRule = Untold
+placed_told program state c (position.AtEnd end) = Untold
+placed_told program state c (position.Before e) = named_told program state c e
+placed_told program state c (position.After e) = named_told program state c e
 
 -- a member and a list: what their subscripts name, then the owner, then the member
 abbrev pub filed_told : ProgramTable → State → Expr → Told → SetRef → Told
-filed_told p s e between r =
-    both (both (both (told_of p s e) between) (list_told p s r)) (named_told p s (set_of p r.set).member e)
+filed_told program state expression between set =
+    both (both (both (told_of program state expression) between) (list_told program state set))
+        (named_told program state (set_of program set.set).member expression)
 
 -- FILE and REMOVE
 abbrev pub filing_told : ProgramTable → State → Filing → Told
-filing_told p s (File e how r) =
-    both (filed_told p s e (position_told p s how) r) (placed_told p s (set_of p r.set).member how)
-filing_told p s (FileAt end e r) = filed_told p s e Untold r
-filing_told p s (RemoveAt end t r) = list_told p s r
-filing_told p s (Remove e r) = filed_told p s e Untold r
+filing_told program state (File e how r) =
+    both (filed_told program state e (position_told program state how) r)
+        (placed_told program state (set_of program r.set).member how)
+filing_told program state (FileAt end e r) = filed_told program state e Untold r
+filing_told program state (RemoveAt end t r) = list_told program state r
+filing_told program state (Remove e r) = filed_told program state e Untold r
 
 -- PRINT and SKIP
 abbrev pub output_told : ProgramTable → State → Output → Told
-output_told p s (Print count values picture) = values_told p s Untold values
-output_told p s (Skip e) = told_of p s e
+output_told program state (Print count values picture) = values_told program state Untold values
+output_told program state (Skip e) = told_of program state e
 
 -- a relation; of one in parentheses nothing
 abbrev pub relation_told : ProgramTable → State → Relation → Told
-relation_told p s (compared e c f) = both (told_of p s e) (told_of p s f)
-relation_told p s (is_empty r is) = list_told p s r
-relation_told p s (is_in e is r) = filed_told p s e Untold r
-relation_told p s (nested c) = Unclear
+relation_told program state (compared e c f) = both (told_of program state e) (told_of program state f)
+relation_told program state (is_empty r is) = list_told program state r
+relation_told program state (is_in e is r) = filed_told program state e Untold r
+relation_told program state (nested c) = Unclear
 
 -- relations joined by AND, behind others: the fault is in one of them, and those before it hold
 abbrev pub relations_told : ProgramTable → State → Told → Relations → Told
-relations_told p s a no_relations = a
-relations_told p s a (and_also r rs) = relations_told p s (both a (relation_told p s r)) rs
+relations_told program state a no_relations = a
+relations_told program state a (and_also r rs) =
+    relations_told program state (both a (relation_told program state r)) rs
 
 -- the same of a conjunction
 abbrev pub conjunction_told : ProgramTable → State → Conjunction → Told
-conjunction_told p s (all r rs) = relations_told p s (relation_told p s r) rs
+conjunction_told program state (all r rs) = relations_told program state (relation_told program state r) rs
 
 -- the first relation of a conjunction
 abbrev pub first_told : ProgramTable → State → Conjunction → Told
-first_told p s (all r rs) = relation_told p s r
+first_told program state (all r rs) = relation_told program state r
 
 -- a condition: with OR its first relation alone, since those behind it may have been passed over
 abbrev pub condition_told : ProgramTable → State → Condition → Told
-condition_told p s (any c no_conjunctions) = conjunction_told p s c
-condition_told p s (any c (or_else d ds)) = first_told p s c
+condition_told program state (any c no_conjunctions) = conjunction_told program state c
+condition_told program state (any c (or_else d ds)) = first_told program state c
 
 -- IF
 abbrev pub question_told : ProgramTable → State → Question → Told
-question_told p s (Whether c) = condition_told p s c
-question_told p s WasFound = Unclear
-question_told p s WasNone = Unclear
+question_told program state (Whether c) = condition_told program state c
+question_told program state WasFound = Unclear
+question_told program state WasNone = Unclear
 
 -- what begins, parts and ends an IF
 abbrev pub branch_told : ProgramTable → State → Branch → Told
-branch_told p s (If q) = question_told p s q
-branch_told p s Else = Unclear
-branch_told p s Always = Unclear
+branch_told program state (If q) = question_told program state q
+branch_told program state Else = Unclear
+branch_told program state Always = Unclear
 
 -- the value that COMPUTE gathers; a FOR phrase also goes on from one entity to the next
 abbrev pub looping_told : ProgramTable → State → Looping → Told
-looping_told p s (For f) = Unclear
-looping_told p s Loop = Unclear
-looping_told p s Find = Unclear
-looping_told p s (Gather e) = told_of p s e
-looping_told p s (Tell ts) = Unclear
+looping_told program state (For f) = Unclear
+looping_told program state Loop = Unclear
+looping_told program state Find = Unclear
+looping_told program state (Gather e) = told_of program state e
+looping_told program state (Tell ts) = Unclear
 
 -- the value that names the notice of THE
 abbrev pub notice_value_told : ProgramTable → State → Notice → Told
-notice_value_told p s (New is_called t) = Untold
-notice_value_told p s (Known is_called e) = told_of p s e
+notice_value_told program state (New is_called t) = Untold
+notice_value_told program state (Known is_called e) = told_of program state e
 
 -- that notice; A makes one
 abbrev pub notice_told : ProgramTable → State → ℕ → Notice → Told
-notice_told p s c (New is_called t) = Unclear
-notice_told p s c (Known is_called e) = named_told p s c e
+notice_told program state c (New is_called t) = Unclear
+notice_told program state c (Known is_called e) = named_told program state c e
 
 -- the arguments and the value that names the notice, as they are written
 abbrev pub listing_told : ProgramTable → State → Listing → Notice → List Expr → Told
-listing_told p s InParentheses n es = both (values_told p s Untold es) (notice_value_told p s n)
-listing_told p s Given n es = values_told p s (notice_value_told p s n) es
+listing_told program state InParentheses notice es =
+    both (values_told program state Untold es) (notice_value_told program state notice)
+listing_told program state Given notice es = values_told program state (notice_value_told program state notice) es
 
 -- the time
 abbrev pub when_told : ProgramTable → State → When → Told
-when_told p s (At e) = told_of p s e
-when_told p s Now = Untold
-when_told p s (In e) = told_of p s e
+when_told program state (At e) = told_of program state e
+when_told program state Now = Untold
+when_told program state (In e) = told_of program state e
 
 -- SCHEDULE
 abbrev pub schedule_told : ProgramTable → State → Schedule → Told
-schedule_told p s x =
-    both (both (listing_told p s x.listing x.notice x.arguments) (when_told p s x.when))
-    (notice_told p s x.class x.notice)
+schedule_told program state schedule =
+    both (both (listing_told program state schedule.listing schedule.notice schedule.arguments)
+        (when_told program state schedule.when))
+    (notice_told program state schedule.class schedule.notice)
 
 -- SCHEDULE, CANCEL and START SIMULATION
 abbrev pub timing_told : ProgramTable → State → Timing → Told
-timing_told p s (timings.Schedule x) = schedule_told p s x
-timing_told p s (timings.Cancel c is_called e) = named_told p s c e
-timing_told p s timings.Start = Unclear
+timing_told program state (timings.Schedule x) = schedule_told program state x
+timing_told program state (timings.Cancel c is_called e) = named_told program state c e
+timing_told program state timings.Start = Unclear
 
 -- READ: its first target, since a further one is assigned behind it
 abbrev pub read_told : ProgramTable → State → List Target → Told
-read_told p s [] = Unclear
-read_told p s (t ∷ ts) = target_told p s t
+read_told program state [] = Unclear
+read_told program state (t ∷ ts) = target_told program state t
 
 -- the entity that a statement names first of those that are missing, as far as it is told
 abbrev pub place_told : ProgramTable → State → Place → Told
-place_told p s (places.Assign a) = assign_told p s a
-place_told p s (places.Making m) = making_told p s m
-place_told p s (places.Filing f) = filing_told p s f
-place_told p s (places.Output o) = output_told p s o
-place_told p s (places.Control c) = Unclear
-place_told p s (places.Branch b) = branch_told p s b
-place_told p s (places.Looping l) = looping_told p s l
-place_told p s (places.Call c) = values_told p s Untold c.given
-place_told p s (places.Timing x) = timing_told p s x
-place_told p s (places.Read ts) = read_told p s ts
+place_told program state (places.Assign a) = assign_told program state a
+place_told program state (places.Making m) = making_told program state m
+place_told program state (places.Filing f) = filing_told program state f
+place_told program state (places.Output o) = output_told program state o
+place_told program state (places.Control c) = Unclear
+place_told program state (places.Branch b) = branch_told program state b
+place_told program state (places.Looping l) = looping_told program state l
+place_told program state (places.Call c) = values_told program state Untold c.given
+place_told program state (places.Timing x) = timing_told program state x
+place_told program state (places.Read ts) = read_told program state ts

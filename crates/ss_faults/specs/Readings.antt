@@ -39,10 +39,10 @@ behind Unclear = Unclear
 
 -- what is told of two parts
 abbrev pub both : Told → Told → Told
-both (Value x) b = behind b
-both Untold b = behind b
-both (Missing c x) b = Missing c x
-both Unclear b = Unclear
+both (Value x) told = behind told
+both Untold told = behind told
+both (Missing c x) told = Missing c x
+both Unclear told = Unclear
 
 -- what is told at the entity that a part names; nothing where its number is not told
 abbrev pub at_entity : Told → (ℤ → Told) → Told
@@ -55,7 +55,7 @@ at_entity Unclear f = Unclear
 
 -- a set, as the store has it
 abbrev pub shape_of : ProgramTable → ℕ → SetShape
-shape_of p set = tables.set_of (tables_of p) set
+shape_of program set = tables.set_of (tables_of program) set
 
 -- a number
 abbrev pub number_told : Result ℤ RunFault → Told
@@ -69,7 +69,7 @@ attribute_read c x (Err e) = Missing c x
 
 -- the same, by its number there
 abbrev pub attribute_told : State → ℕ → ℕ → ℤ → Told
-attribute_told s c a x = attribute_read c x (attribute_of s.store c a (number_of x))
+attribute_told state c a x = attribute_read c x (attribute_of state.store c a (number_of x))
 
 -- the owner of this class that a value names is missing
 abbrev pub owner_missing : Owner → ℤ → Told
@@ -93,47 +93,49 @@ truth_read otherwise (Err e) = otherwise
 
 -- F.s, L.s and N.s of the owner that a value names
 abbrev pub of_owner : ProgramTable → State → OwnerKept → ℕ → ℤ → Told
-of_owner p s First set x =
-    member_read (owner_missing (set_of p set).owner x) (walk_first (shape_of p set) s.store (number_of x))
-of_owner p s Last set x =
-    member_read (owner_missing (set_of p set).owner x) (walk_last (shape_of p set) s.store (number_of x))
-of_owner p s Count set x =
-    count_read (owner_missing (set_of p set).owner x) (count (shape_of p set) s.store (number_of x))
+of_owner program state First set x =
+    member_read (owner_missing (set_of program set).owner x)
+        (walk_first (shape_of program set) state.store (number_of x))
+of_owner program state Last set x =
+    member_read (owner_missing (set_of program set).owner x)
+        (walk_last (shape_of program set) state.store (number_of x))
+of_owner program state Count set x =
+    count_read (owner_missing (set_of program set).owner x) (count (shape_of program set) state.store (number_of x))
 
 -- P.s, S.s and M.s of the member that a value names
 abbrev pub of_member : ProgramTable → State → MemberKept → ℕ → ℤ → Told
-of_member p s Predecessor set x =
-    member_read (Missing (set_of p set).member x) (predecessor (shape_of p set) s.store (number_of x))
-of_member p s Successor set x =
-    member_read (Missing (set_of p set).member x) (successor (shape_of p set) s.store (number_of x))
-of_member p s Membership set x =
-    truth_read (Missing (set_of p set).member x) (membership (shape_of p set) s.store (number_of x))
+of_member program state Predecessor set x =
+    member_read (Missing (set_of program set).member x) (predecessor (shape_of program set) state.store (number_of x))
+of_member program state Successor set x =
+    member_read (Missing (set_of program set).member x) (successor (shape_of program set) state.store (number_of x))
+of_member program state Membership set x =
+    truth_read (Missing (set_of program set).member x) (membership (shape_of program set) state.store (number_of x))
 
 -- the same of a set of the table
 abbrev pub owner_told : ProgramTable → State → OwnerKept → ℕ → ℤ → Told
-owner_told p s kept set x =
-    elim (nat_lt set (length p.sets)) [ true ↦ of_owner p s kept set x | false ↦ Unclear ]
+owner_told program state kept set x =
+    elim (nat_lt set (length program.sets)) [ true ↦ of_owner program state kept set x | false ↦ Unclear ]
 
 -- and so
 abbrev pub member_told : ProgramTable → State → MemberKept → ℕ → ℤ → Told
-member_told p s kept set x =
-    elim (nat_lt set (length p.sets)) [ true ↦ of_member p s kept set x | false ↦ Unclear ]
+member_told program state kept set x =
+    elim (nat_lt set (length program.sets)) [ true ↦ of_member program state kept set x | false ↦ Unclear ]
 
 -- the entity of class c that a value names
 abbrev pub entity_told : State → ℕ → ℤ → Told
-entity_told s c x = elim (exists s.store c (number_of x)) [ true ↦ Value x | false ↦ Missing c x ]
+entity_told state c x = elim (exists state.store c (number_of x)) [ true ↦ Value x | false ↦ Missing c x ]
 
 -- a value with its sign
 abbrev pub signed_value : TermSign → Told → Told
-signed_value w (Value x) = number_told (with_sign (Some w) x)
-signed_value w Untold = Untold
-signed_value w (Missing c x) = Missing c x
-signed_value w Unclear = Unclear
+signed_value sign (Value x) = number_told (with_sign (Some sign) x)
+signed_value sign Untold = Untold
+signed_value sign (Missing c x) = Missing c x
+signed_value sign Unclear = Unclear
 
 -- the first term with the sign at the head, if there is one
 abbrev pub signed_told : Option TermSign → Told → Told
-signed_told None b = b
-signed_told (Some w) b = signed_value w b
+signed_told None told = told
+signed_told (Some w) told = signed_value w told
 
 abbrev mutual
   -- of an expression

@@ -19,18 +19,18 @@ cut_line line =
 
 -- what a fault names at the place where the last frame stands
 abbrev pub about_here : ProgramTable → State → RunFault → Option Spot → List ℕ
-about_here p s f None = []
-about_here p s f (Some spot) = about p s f spot.place
+about_here program state fault None = []
+about_here program state fault (Some spot) = about program state fault spot.place
 
 -- the number of a fault, its sentence, and what it names
 abbrev pub whole_line : ProgramTable → State → RunFault → List ℕ
-whole_line p s f =
-    codes "F" ++ decimal (run_fault_number f) ++ codes ": " ++ fault_sentence (run_fault_number f)
-    ++ about_here p s f (spot_at p s.frame.section s.frame.place)
+whole_line program state fault =
+    codes "F" ++ decimal (run_fault_number fault) ++ codes ": " ++ fault_sentence (run_fault_number fault)
+    ++ about_here program state fault (spot_at program state.frame.section state.frame.place)
 
 -- the line that tells a state's fault; nothing of a state that is not faulted
 unfoldable pub fault_text : ProgramTable → State → Status → List ℕ
-fault_text p s (Faulted f) = cut_line (whole_line p s f) ++ codes "\n"
-fault_text p s Ready = []
-fault_text p s Stopped = []
-fault_text p s Finished = []
+fault_text program state (Faulted f) = cut_line (whole_line program state f) ++ codes "\n"
+fault_text program state Ready = []
+fault_text program state Stopped = []
+fault_text program state Finished = []

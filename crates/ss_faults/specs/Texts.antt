@@ -25,7 +25,7 @@ label_and_count label n = label ++ decimal n ++ codes "."
 
 -- an entity
 abbrev pub entity_text : ProgramTable → ℕ → ℤ → List ℕ
-entity_text p c x = label_name_and_number (codes " Entity: ") (class_of p c).name x
+entity_text program c x = label_name_and_number (codes " Entity: ") (class_of program c).name x
 
 -- the list of an owner; the system has one
 abbrev pub owned_text : List ℕ → Owner → ℤ → List ℕ
@@ -34,19 +34,19 @@ owned_text set (OwnedBy c) x = label_name_and_number (codes " List: ") set x
 
 -- the list of a set
 abbrev pub list_text : ProgramTable → ℕ → ℤ → List ℕ
-list_text p set x = owned_text (set_of p set).name (set_of p set).owner x
+list_text program set x = owned_text (set_of program set).name (set_of program set).owner x
 
 -- a class, a set, a section
 abbrev pub class_text : ProgramTable → ℕ → List ℕ
-class_text p c = label_and_name (codes " Class: ") (class_of p c).name
+class_text program c = label_and_name (codes " Class: ") (class_of program c).name
 
 -- a set
 abbrev pub set_text : ProgramTable → ℕ → List ℕ
-set_text p set = label_and_name (codes " Set: ") (set_of p set).name
+set_text program set = label_and_name (codes " Set: ") (set_of program set).name
 
 -- a section
 abbrev pub section_text : ProgramTable → ℕ → List ℕ
-section_text p n = label_and_name (codes " Section: ") (section_of p n).name
+section_text program n = label_and_name (codes " Section: ") (section_of program n).name
 
 -- what is said of a value, if it is told
 abbrev pub if_told : Told → (ℤ → List ℕ) → List ℕ
@@ -61,7 +61,7 @@ unnumbered_text x = if int_lt x (pos 1) then codes " No entity has a number belo
 
 -- an entity that is missing
 abbrev pub missing_text : ProgramTable → Told → List ℕ
-missing_text p (Missing c x) = entity_text p c x ++ unnumbered_text x
-missing_text p (Value x) = []
-missing_text p Untold = []
-missing_text p Unclear = []
+missing_text program (Missing c x) = entity_text program c x ++ unnumbered_text x
+missing_text program (Value x) = []
+missing_text program Untold = []
+missing_text program Unclear = []

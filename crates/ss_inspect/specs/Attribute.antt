@@ -30,28 +30,30 @@ line_or_none name None = no_such_text (codes "ATTRIBUTE") name
 -- an attribute of the entity of this class that x names, or that there is none: of all that is told of the entity the
 -- line with this name, so that the kept attributes are among them
 abbrev pub class_attribute_text : List ℕ → ℤ → List ℕ → ProgramTable → Store → Option ℕ → List ℕ
-class_attribute_text class x name p st None = no_such_text (codes "CLASS") class
-class_attribute_text class x name p st (Some c) =
-    if exists st c (number_of x) then line_or_none name (line_telling name (entity_lines p st c (number_of x)))
+class_attribute_text class x name program store None = no_such_text (codes "CLASS") class
+class_attribute_text class x name program store (Some c) =
+    if exists store c (number_of x)
+        then line_or_none name (line_telling name (entity_lines program store c (number_of x)))
     else no_entity_text class x
 
 -- an entity whole, or one attribute of it, or what of them isn't there
 abbrev pub told_text : List ℕ → ℤ → Option (List ℕ) → ProgramTable → Store → List ℕ
-told_text class x None p st = class_text class x p st (class_named p class)
-told_text class x (Some name) p st = class_attribute_text class x name p st (class_named p class)
+told_text class x None program store = class_text class x program store (class_named program class)
+told_text class x (Some name) program store =
+    class_attribute_text class x name program store (class_named program class)
 
 -- the answer to SHOW c k a in state p
 unfoldable pub attribute_text : List ℕ → ℤ → List ℕ → Input → ℕ → List ℕ
-attribute_text class x name t p = told_text class x (Some name) t.program (run t p).store
+attribute_text class x name input p = told_text class x (Some name) input.program (run input p).store
 
 -- ---- by a variable
 
 -- the answer with the value of a variable as the number, or that there is no such variable
 abbrev pub variable_told_text : List ℕ → List ℕ → Option (List ℕ) → Input → ℕ → Option Variable → List ℕ
-variable_told_text class by name t p None = no_such_text (codes "VARIABLE") by
-variable_told_text class by name t p (Some v) =
-    told_text class (variable_in (run t p) v) name t.program (run t p).store
+variable_told_text class by name input p None = no_such_text (codes "VARIABLE") by
+variable_told_text class by name input p (Some v) =
+    told_text class (variable_in (run input p) v) name input.program (run input p).store
 
 -- the answer to SHOW c v and SHOW c v a in state p
 unfoldable pub by_variable_text : List ℕ → List ℕ → Option (List ℕ) → Input → ℕ → List ℕ
-by_variable_text class by name t p = variable_told_text class by name t p (variable_named t p by)
+by_variable_text class by name input p = variable_told_text class by name input p (variable_named input p by)

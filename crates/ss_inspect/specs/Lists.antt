@@ -19,61 +19,65 @@ use Rattle.ss_inspect.specs.Texts.{texts_below, no_such_text}
 
 -- how many members the list of set number s has for the owner that x names
 abbrev pub counted_text : ProgramTable → Store → ℕ → ℤ → List ℕ
-counted_text p st s x = codes ": " ++ decimal (length (members_of (shape_of p s) st (number_of x))) ++ 10 ∷ []
+counted_text program store s x =
+    codes ": " ++ decimal (length (members_of (shape_of program s) store (number_of x))) ++ 10 ∷ []
 
 -- the same for the entity of class c that x names, or that there is none
 abbrev pub owned_count_text : List ℕ → ProgramTable → Store → ℕ → ℕ → ℤ → List ℕ
-owned_count_text name p st s c x =
-    if exists st c (number_of x)
-    then codes "COUNT " ++ name ++ codes " " ++ signed_decimal x ++ counted_text p st s x
-    else no_entity_text (class_of p c).name x
+owned_count_text name program store s c x =
+    if exists store c (number_of x)
+    then codes "COUNT " ++ name ++ codes " " ++ signed_decimal x ++ counted_text program store s x
+    else no_entity_text (class_of program c).name x
 
 -- the same of set number s, whose lists are the system's or a class's
 abbrev pub list_count_text : List ℕ → Option ℤ → ProgramTable → State → ℕ → Owner → List ℕ
-list_count_text name None p state s System = codes "COUNT " ++ name ++ counted_text p state.store s (pos 0)
-list_count_text name (Some x) p state s System = no_entity_text (codes "SYSTEM") x
-list_count_text name owner p state s (OwnedBy c) =
-    owned_count_text name p state.store s c (owner_or_variable owner p state c)
+list_count_text name None program state s System = codes "COUNT " ++ name ++ counted_text program state.store s (pos 0)
+list_count_text name (Some x) program state s System = no_entity_text (codes "SYSTEM") x
+list_count_text name owner program state s (OwnedBy c) =
+    owned_count_text name program state.store s c (owner_or_variable owner program state c)
 
 -- the same of the set of this number, or that there is no set of this name
 abbrev pub named_count_text : List ℕ → Option ℤ → ProgramTable → State → Option ℕ → List ℕ
-named_count_text name owner p state None = no_such_text (codes "SET") name
-named_count_text name owner p state (Some s) = list_count_text name owner p state s (set_of p s).owner
+named_count_text name owner program state None = no_such_text (codes "SET") name
+named_count_text name owner program state (Some s) = list_count_text name owner program state s (set_of program s).owner
 
 -- the answer to SHOW COUNT s k in state p
 unfoldable pub count_text : List ℕ → Option ℤ → Input → ℕ → List ℕ
-count_text name owner t p = named_count_text name owner t.program (run t p) (set_named t.program name)
+count_text name owner input p = named_count_text name owner input.program (run input p) (set_named input.program name)
 
 -- ---- a part of a list
 
 -- so many members of the list of set number s for the owner that x names, behind so many others
 abbrev pub members_page : ProgramTable → Store → ℕ → ℤ → ℕ → ℕ → List ℕ
-members_page p st s x start count = take count (drop start (members_of (shape_of p s) st (number_of x)))
+members_page program store s x start count =
+    take count (drop start (members_of (shape_of program s) store (number_of x)))
 
 -- ---- where an entity is
 
 -- the list of set number s for owner number j, told behind a head, where entity number k is in it
 abbrev pub list_with : ProgramTable → Store → ℕ → ℕ → List ℕ → ℕ → List ℕ
-list_with p st s k head j =
-    if has (members_of (shape_of p s) st j) k then (set_of p s).name ++ head ++ listed_text p st s (pos j) else []
+list_with program store s k head j =
+    if has (members_of (shape_of program s) store j) k then (set_of program s).name ++ head
+        ++ listed_text program store s (pos j) else []
 
 -- the same for the owner whose number is i + 1
 abbrev pub owned_list_with : ProgramTable → Store → ℕ → ℕ → ℕ → List ℕ
-owned_list_with p st s k i = list_with p st s k (codes " " ++ decimal (suc i)) (suc i)
+owned_list_with program store s k i = list_with program store s k (codes " " ++ decimal (suc i)) (suc i)
 
 -- the lists of set number s in which entity number k is
 abbrev pub lists_with : ProgramTable → Store → ℕ → ℕ → Owner → List ℕ
-lists_with p st s k System = list_with p st s k [] 0
-lists_with p st s k (OwnedBy c) = texts_below (owned_list_with p st s k) (greatest_number st c)
+lists_with program store s k System = list_with program store s k [] 0
+lists_with program store s k (OwnedBy c) = texts_below (owned_list_with program store s k) (greatest_number store c)
 
 -- the same, where its members are of class c
 abbrev pub class_lists_with : ProgramTable → Store → ℕ → ℕ → ℕ → List ℕ
-class_lists_with p st c k s = if (set_of p s).member == c then lists_with p st s k (set_of p s).owner else []
+class_lists_with program store c k s =
+    if (set_of program s).member == c then lists_with program store s k (set_of program s).owner else []
 
 -- when entity number k of class c is due, if it is a pending notice
 abbrev pub due_text : ProgramTable → ℕ → ℕ → Option Pending → List ℕ
-due_text p c k None = []
-due_text p c k (Some n) = if n.class == c then notice_line p k (slot_of n) else []
+due_text program c k None = []
+due_text program c k (Some n) = if n.class == c then notice_line program k (slot_of n) else []
 
 -- a text, or that an entity is in no list
 abbrev pub or_no_list : List ℕ → List ℕ
@@ -81,16 +85,17 @@ or_no_list text = if nat_eq (length text) 0 then codes "IN NO LIST\n" else text
 
 -- the lists in which entity number k of class c is, in the order of the sets, and when it is due
 abbrev pub entity_places_text : ProgramTable → State → ℕ → ℕ → List ℕ
-entity_places_text p s c k =
-    or_no_list (texts_below (class_lists_with p s.store c k) (length p.sets)
-    ++ due_text p c k (pending_at s.agenda.pending k))
+entity_places_text program state c k =
+    or_no_list (texts_below (class_lists_with program state.store c k) (length program.sets)
+    ++ due_text program c k (pending_at state.agenda.pending k))
 
 -- where the entity of a class that x names is, or that there is none
 abbrev pub class_places_text : List ℕ → ℤ → ProgramTable → State → Option ℕ → List ℕ
-class_places_text name x p s None = no_such_text (codes "CLASS") name
-class_places_text name x p s (Some c) =
-    if exists s.store c (number_of x) then entity_places_text p s c (number_of x) else no_entity_text name x
+class_places_text name x program state None = no_such_text (codes "CLASS") name
+class_places_text name x program state (Some c) =
+    if exists state.store c (number_of x) then entity_places_text program state c (number_of x)
+        else no_entity_text name x
 
 -- the answer to SHOW IN c k in state p
 unfoldable pub places_text : List ℕ → ℤ → Input → ℕ → List ℕ
-places_text name x t p = class_places_text name x t.program (run t p) (class_named t.program name)
+places_text name x input p = class_places_text name x input.program (run input p) (class_named input.program name)

@@ -7,17 +7,17 @@ use Rattle.ss_inspect.specs.Texts.{texts_below, no_such_text}
 
 -- number i + 1, if it is that of an entity of class c that lives
 abbrev pub living_at : Store → ℕ → ℕ → List ℕ
-living_at st c i = if exists st c (suc i) then suc i ∷ [] else []
+living_at store c i = if exists store c (suc i) then suc i ∷ [] else []
 
 -- the entities of class c that live, the least number first
 abbrev pub living_numbers : Store → ℕ → List ℕ
-living_numbers st c = texts_below (living_at st c) (greatest_number st c)
+living_numbers store c = texts_below (living_at store c) (greatest_number store c)
 
 -- the entities of a class that live, or that there is no such class
 abbrev pub class_living_text : List ℕ → Store → Option ℕ → List ℕ
-class_living_text name st None = no_such_text (codes "CLASS") name
-class_living_text name st (Some c) = name ++ codes ": " ++ members_text (living_numbers st c) ++ 10 ∷ []
+class_living_text name store None = no_such_text (codes "CLASS") name
+class_living_text name store (Some c) = name ++ codes ": " ++ members_text (living_numbers store c) ++ 10 ∷ []
 
 -- the answer to SHOW c in state p
 unfoldable pub living_text : List ℕ → Input → ℕ → List ℕ
-living_text name t p = class_living_text name (run t p).store (class_named t.program name)
+living_text name input p = class_living_text name (run input p).store (class_named input.program name)

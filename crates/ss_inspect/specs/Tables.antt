@@ -22,13 +22,14 @@ kind_word (OfEvent e) = codes "EVENT"
 
 -- class number c, its kind, and how many of it live
 abbrev pub class_line : ProgramTable → Store → ℕ → List ℕ
-class_line p st c =
-    (class_of p c).name ++ codes " " ++ kind_word (class_of p c).kind ++ codes ": "
-    ++ decimal (length (living_numbers st c)) ++ 10 ∷ []
+class_line program store c =
+    (class_of program c).name ++ codes " " ++ kind_word (class_of program c).kind ++ codes ": "
+    ++ decimal (length (living_numbers store c)) ++ 10 ∷ []
 
 -- the answer to SHOW CLASSES in state p
 unfoldable pub classes_text : Input → ℕ → List ℕ
-classes_text t p = lines_or (codes "NO CLASSES\n") (class_line t.program (run t p).store) (length t.program.classes)
+classes_text input p =
+    lines_or (codes "NO CLASSES\n") (class_line input.program (run input p).store) (length input.program.classes)
 
 -- the word of a discipline
 abbrev pub discipline_word : Discipline → List ℕ
@@ -38,19 +39,19 @@ discipline_word (Ranked keys) = codes "RANKED"
 
 -- the name of an owner
 abbrev pub owner_name : ProgramTable → Owner → List ℕ
-owner_name p System = codes "SYSTEM"
-owner_name p (OwnedBy c) = (class_of p c).name
+owner_name program System = codes "SYSTEM"
+owner_name program (OwnedBy c) = (class_of program c).name
 
 -- set number s, its discipline, whose its lists are, and the class of its members
 abbrev pub set_line : ProgramTable → ℕ → List ℕ
-set_line p s =
-    (set_of p s).name ++ codes " " ++ discipline_word (set_of p s).discipline
-    ++ codes " OWNER " ++ owner_name p (set_of p s).owner
-    ++ codes " MEMBER " ++ (class_of p (set_of p s).member).name ++ 10 ∷ []
+set_line program s =
+    (set_of program s).name ++ codes " " ++ discipline_word (set_of program s).discipline
+    ++ codes " OWNER " ++ owner_name program (set_of program s).owner
+    ++ codes " MEMBER " ++ (class_of program (set_of program s).member).name ++ 10 ∷ []
 
 -- the answer to SHOW SETS
 unfoldable pub sets_text : Input → List ℕ
-sets_text t = lines_or (codes "NO SETS\n") (set_line t.program) (length t.program.sets)
+sets_text input = lines_or (codes "NO SETS\n") (set_line input.program) (length input.program.sets)
 
 -- the word of a section's kind, behind a blank; MAIN has none
 abbrev pub section_word : SectionKind → List ℕ
@@ -60,10 +61,10 @@ section_word Event = codes " EVENT"
 
 -- section number n, its kind, and the line of its head
 abbrev pub section_line : ProgramTable → ℕ → List ℕ
-section_line p n =
-    (section_of p n).name ++ section_word (section_of p n).kind ++ codes " LINE "
-    ++ decimal (section_of p n).line ++ 10 ∷ []
+section_line program n =
+    (section_of program n).name ++ section_word (section_of program n).kind ++ codes " LINE "
+    ++ decimal (section_of program n).line ++ 10 ∷ []
 
 -- the answer to SHOW SECTIONS, in the text's order
 unfoldable pub sections_text : Input → List ℕ
-sections_text t = texts_below (section_line t.program) (length t.program.sections)
+sections_text input = texts_below (section_line input.program) (length input.program.sections)

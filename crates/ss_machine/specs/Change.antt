@@ -37,52 +37,54 @@ pub data Change : Type 0 where
 
 -- the state in which the nearest frame below is the last one
 abbrev pub state_of_caller : List FrameState → State → State
-state_of_caller [] s = s
-state_of_caller (f ∷ fs) s = record s { frame = f; below = fs }
+state_of_caller [] state = state
+state_of_caller (f ∷ fs) state = record state { frame = f; below = fs }
 
 -- the same with another last frame
 abbrev pub with_frame : Held → FrameState → Held
-with_frame h f = with_state h (record h.state { frame = f })
+with_frame held frame = with_state held (record held.state { frame = frame })
 
 -- what was held before a change
 abbrev pub unapply : Change → Held → Held
-unapply (Variable number old) h = with_state h (record h.state { variables = slice_set h.state.variables number old })
-unapply (Local number old) h =
-    with_frame h (record h.state.frame { locals = slice_set h.state.frame.locals number old })
-unapply (Place old) h = with_frame h (record h.state.frame { place = old })
-unapply (Clock old) h = with_state h (record h.state { clock = old })
-unapply (Store change) h = with_store h (unapply_store change (store_of h))
-unapply (Agenda change) h = with_agenda h (notices.unapply change (agenda_of h))
-unapply (Taken old) h = with_state h (record h.state { feed = with_taken h.state.feed old })
-unapply (Report old_len) h = with_state h (record h.state { report = take old_len h.state.report })
-unapply (Entry old) h = with_state h (record h.state { entry = old })
-unapply (Status old) h = with_state h (record h.state { status = old })
-unapply LoopOpened h = with_frame h (record h.state.frame { loops = drop 1 h.state.frame.loops })
-unapply (LoopMoved old) h = with_frame h (record h.state.frame { loops = loops_with_candidate old h.state.frame.loops })
-unapply (LoopClosed closed) h = with_frame h (record h.state.frame { loops = closed ∷ h.state.frame.loops })
-unapply FrameOpened h = with_state h (state_of_caller h.state.below h.state)
-unapply (FrameDropped dropped) h =
-    with_state h (record h.state { frame = dropped; below = h.state.frame ∷ h.state.below })
-unapply (Found old) h = with_frame h (record h.state.frame { found = old })
-unapply (Statistics old) h = with_frame h (record h.state.frame { statistics = old })
+unapply (Variable number old) held =
+    with_state held (record held.state { variables = slice_set held.state.variables number old })
+unapply (Local number old) held =
+    with_frame held (record held.state.frame { locals = slice_set held.state.frame.locals number old })
+unapply (Place old) held = with_frame held (record held.state.frame { place = old })
+unapply (Clock old) held = with_state held (record held.state { clock = old })
+unapply (Store change) held = with_store held (unapply_store change (store_of held))
+unapply (Agenda change) held = with_agenda held (notices.unapply change (agenda_of held))
+unapply (Taken old) held = with_state held (record held.state { feed = with_taken held.state.feed old })
+unapply (Report old_len) held = with_state held (record held.state { report = take old_len held.state.report })
+unapply (Entry old) held = with_state held (record held.state { entry = old })
+unapply (Status old) held = with_state held (record held.state { status = old })
+unapply LoopOpened held = with_frame held (record held.state.frame { loops = drop 1 held.state.frame.loops })
+unapply (LoopMoved old) held =
+    with_frame held (record held.state.frame { loops = loops_with_candidate old held.state.frame.loops })
+unapply (LoopClosed closed) held = with_frame held (record held.state.frame { loops = closed ∷ held.state.frame.loops })
+unapply FrameOpened held = with_state held (state_of_caller held.state.below held.state)
+unapply (FrameDropped dropped) held =
+    with_state held (record held.state { frame = dropped; below = held.state.frame ∷ held.state.below })
+unapply (Found old) held = with_frame held (record held.state.frame { found = old })
+unapply (Statistics old) held = with_frame held (record held.state.frame { statistics = old })
 
 -- what it changed or opened is there, no old length or number is above the present one, and there is room for a frame
 -- that it dropped
 abbrev pub Fits : Change → Held → Type 0
-Fits (Variable number old) h = number < length h.state.variables
-Fits (Local number old) h = number < length h.state.frame.locals
-Fits (Place old) h = Unit {0}
-Fits (Clock old) h = Unit {0}
-Fits (Store change) h = FitsStore change (store_of h)
-Fits (Agenda change) h = notices.Fits change (agenda_of h)
-Fits (Taken old) h = old ≤ h.state.feed.taken
-Fits (Report old_len) h = old_len ≤ length h.state.report
-Fits (Entry old) h = Unit {0}
-Fits (Status old) h = Unit {0}
-Fits LoopOpened h = 0 < length h.state.frame.loops
-Fits (LoopMoved old) h = 0 < length h.state.frame.loops
-Fits (LoopClosed closed) h = Unit {0}
-Fits FrameOpened h = 0 < length h.state.below
-Fits (FrameDropped dropped) h = length h.state.below < MOST_BELOW
-Fits (Found old) h = Unit {0}
-Fits (Statistics old) h = Unit {0}
+Fits (Variable number old) held = number < length held.state.variables
+Fits (Local number old) held = number < length held.state.frame.locals
+Fits (Place old) held = Unit {0}
+Fits (Clock old) held = Unit {0}
+Fits (Store change) held = FitsStore change (store_of held)
+Fits (Agenda change) held = notices.Fits change (agenda_of held)
+Fits (Taken old) held = old ≤ held.state.feed.taken
+Fits (Report old_len) held = old_len ≤ length held.state.report
+Fits (Entry old) held = Unit {0}
+Fits (Status old) held = Unit {0}
+Fits LoopOpened held = 0 < length held.state.frame.loops
+Fits (LoopMoved old) held = 0 < length held.state.frame.loops
+Fits (LoopClosed closed) held = Unit {0}
+Fits FrameOpened held = 0 < length held.state.below
+Fits (FrameDropped dropped) held = length held.state.below < MOST_BELOW
+Fits (Found old) held = Unit {0}
+Fits (Statistics old) held = Unit {0}

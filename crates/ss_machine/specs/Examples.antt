@@ -56,7 +56,7 @@ use Rattle.ss_machine.specs.Run.{Input, input_with, run}
 
 -- a factor alone
 abbrev pub alone : Factor → Expr
-alone f = expr None (term f no_products) no_sums
+alone factor = expr None (term factor no_products) no_sums
 
 -- a number
 abbrev pub number : ℕ → Expr
@@ -77,11 +77,11 @@ local i = alone (variable (Local i))
 
 -- local number i compared with a number
 abbrev pub compares : ℕ → Comparison → ℕ → Condition
-compares i c n = any (all (compared (local i) c (number n)) no_relations) no_conjunctions
+compares i comparison n = any (all (compared (local i) comparison (number n)) no_relations) no_conjunctions
 
 -- a qualifier on local number i
 abbrev pub qualifier : QualifierWord → ℕ → Comparison → ℕ → Qualifier
-qualifier word i c n = record { word = word; condition = compares i c n }
+qualifier word i comparison n = record { word = word; condition = compares i comparison n }
 
 -- nothing to read
 abbrev pub no_readings : Readings
@@ -95,13 +95,13 @@ no_readings = record {
 
 -- ---- places
 
--- LET x = e
+-- LET variable = expression
 abbrev pub let_be : Variable → Expr → Place
-let_be x e = Assign (Let false (ToVariable x) e)
+let_be variable expression = Assign (Let false (ToVariable variable) expression)
 
--- ADD e TO x
+-- ADD expression TO variable
 abbrev pub add_to : Variable → Expr → Place
-add_to x e = Assign (Add e (ToVariable x))
+add_to variable expression = Assign (Add expression (ToVariable variable))
 
 -- END
 abbrev pub end_place : Place
@@ -154,7 +154,7 @@ routine_of given yielded n xs = record {
 
 -- a program with n global variables
 abbrev pub program_of : ℕ → List SectionTable → ProgramTable
-program_of n ss = record { globals = replicate n []; classes = []; sets = []; priority = []; sections = ss }
+program_of n sections = record { globals = replicate n []; classes = []; sets = []; priority = []; sections = sections }
 
 -- state number k of a MAIN with n locals over data
 abbrev pub main_run : List ℕ → ℕ → List Place → ℕ → State
@@ -168,8 +168,8 @@ sum_of_passed qs = for_bare 0 (number 1) (number 9) qs ∷ add_to (Local 1) (loc
 
 -- the first of the numbers from 1 to 5 that passes a qualifier goes to local 1; 100 where there is none
 abbrev pub first_of_five : Qualifier → List Place
-first_of_five q =
-    for_bare 0 (number 1) (number 5) (q ∷ []) ∷ Looping Find ∷ Branch (If WasFound) ∷ let_be (Local 1) (local 0)
+first_of_five qualifier =
+    for_bare 0 (number 1) (number 5) (qualifier ∷ []) ∷ Looping Find ∷ Branch (If WasFound) ∷ let_be (Local 1) (local 0)
     ∷ Branch Else ∷ let_be (Local 1) (number 100) ∷ Branch Always ∷ end_place ∷ []
 
 -- the statistics of the numbers from a to b go to locals 1 to 4
@@ -218,17 +218,17 @@ each_of_two =
 
 -- SKIP of so many lines
 abbrev pub skip_of : Expr → List Place
-skip_of e = Output (Skip e) ∷ end_place ∷ []
+skip_of expression = Output (Skip expression) ∷ end_place ∷ []
 
 -- ---- entities and sets
 
 -- MAIN with 2 locals over a temporary class with one attribute, whose variable is global 0, and a set of the system of
 -- this discipline
 abbrev pub jobs_with : Discipline → List Place → ProgramTable
-jobs_with d xs = record {
+jobs_with discipline xs = record {
   globals = [] ∷ [];
   classes = record { name = []; kind = Temporary; variable = 0; attributes = [] ∷ [] } ∷ [];
-  sets = record { name = []; discipline = d; owner = System; member = 0 } ∷ [];
+  sets = record { name = []; discipline = discipline; owner = System; member = 0 } ∷ [];
   priority = [];
   sections = main_of 2 xs ∷ [];
 }
@@ -249,8 +249,8 @@ job_of n =
 
 -- FOR EVERY member of the list
 abbrev pub for_every_job : Direction → Place
-for_every_job d =
-    Looping (For (record { phrase = Walking d (Global 0) queue AtTheEnd; qualifiers = []; has_do = false }))
+for_every_job direction =
+    Looping (For (record { phrase = Walking direction (Global 0) queue AtTheEnd; qualifiers = []; has_do = false }))
 
 -- the member's value written behind the digits of local 0
 abbrev pub note_value : Place
@@ -260,8 +260,8 @@ note_value =
 
 -- three entities of the values 3, 1 and 2 are filed, and their list is walked
 abbrev pub three_jobs : Discipline → Direction → ProgramTable
-three_jobs d way =
-    jobs_with d (job_of 3 ++ (job_of 1 ++ (job_of 2 ++ (for_every_job way ∷ note_value ∷ end_place ∷ []))))
+three_jobs discipline way =
+    jobs_with discipline (job_of 3 ++ (job_of 1 ++ (job_of 2 ++ (for_every_job way ∷ note_value ∷ end_place ∷ []))))
 
 -- two entities are filed, and the loop removes the last member at its first turn
 abbrev pub next_is_removed : ProgramTable
@@ -422,7 +422,7 @@ values_of_arrivals =
 
 -- an event that the model scheduled does this while an entry waits
 abbrev pub while_waiting : Place → ProgramTable
-while_waiting x = arrivals_with (tick_of 7 Now ∷ start_place ∷ end_place ∷ []) (x ∷ end_place ∷ [])
+while_waiting place = arrivals_with (tick_of 7 Now ∷ start_place ∷ end_place ∷ []) (place ∷ end_place ∷ [])
 
 -- CANCEL of notice number n
 abbrev pub cancel_number : ℕ → Place

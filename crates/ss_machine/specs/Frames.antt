@@ -5,12 +5,12 @@ use Rattle.ss_machine.specs.State.{State, FrameState}
 
 -- the frame on which so many others stand, if there is one; none stands on the last frame
 abbrev pub frame_at : State → ℕ → Option FrameState
-frame_at s depth = slice_get (s.frame ∷ s.below) depth
+frame_at state depth = slice_get (state.frame ∷ state.below) depth
 
 -- its section, and the place where it stands
 abbrev pub frame_place : State → ℕ → Option (ℕ × ℕ)
-frame_place s depth = option_map (λ f. (f.section, f.place)) (frame_at s depth)
+frame_place state depth = option_map (λ f. (f.section, f.place)) (frame_at state depth)
 
 -- the value of a local of it, by its number in the section's table
 abbrev pub frame_local : State → ℕ → ℕ → Option ℤ
-frame_local s depth number = option_and_then (λ f. slice_get f.locals number) (frame_at s depth)
+frame_local state depth number = option_and_then (λ f. slice_get f.locals number) (frame_at state depth)

@@ -30,26 +30,26 @@ pub record Held : Type 0 where
 
 -- what is held of the store
 abbrev pub store_of : Held → StoreValue
-store_of h = record { tables = h.beside.tables; state = h.state.store; kept = h.beside.kept }
+store_of held = record { tables = held.beside.tables; state = held.state.store; kept = held.beside.kept }
 
 -- and of the agenda
 abbrev pub agenda_of : Held → AgendaState
-agenda_of h = record { rules = h.beside.rules; agenda = h.state.agenda; notices = h.beside.notices }
+agenda_of held = record { rules = held.beside.rules; agenda = held.state.agenda; notices = held.beside.notices }
 
 -- the same with another state
 abbrev pub with_state : Held → State → Held
-with_state h s = record h { state = s }
+with_state held state = record held { state = state }
 
 -- the same with another store
 abbrev pub with_store : Held → StoreValue → Held
-with_store h v = record {
-  state = record h.state { store = v.state };
-  beside = record h.beside { tables = v.tables; kept = v.kept };
+with_store held store = record {
+  state = record held.state { store = store.state };
+  beside = record held.beside { tables = store.tables; kept = store.kept };
 }
 
 -- the same with another agenda
 abbrev pub with_agenda : Held → AgendaState → Held
-with_agenda h v = record {
-  state = record h.state { agenda = v.agenda };
-  beside = record h.beside { rules = v.rules; notices = v.notices };
+with_agenda held v = record {
+  state = record held.state { agenda = v.agenda };
+  beside = record held.beside { rules = v.rules; notices = v.notices };
 }

@@ -10,13 +10,13 @@ use Rattle.ss_machine.specs.Well.{IsWell}
 use Rattle.ss_machine.specs.Moment.{change_bound, target_count}
 
 -- the states of a run are well-formed
-pub record StatesAreWell (i : Input) : Type 0 where
+pub record StatesAreWell (input : Input) : Type 0 where
   -- the start is
-  pub start : IsWell i.program (start i)
+  pub start : IsWell input.program (start input)
   -- a step keeps every state so
-  pub step : (s : State) → IsWell i.program s → IsWell i.program (step i.program s)
+  pub step : (s : State) → IsWell input.program s → IsWell input.program (step input.program s)
   -- and so all states of the run are
-  pub run : (k : ℕ) → IsWell i.program (run i k)
+  pub run : (k : ℕ) → IsWell input.program (run input k)
 
 -- for every program that the checker makes, and all data
 abbrev pub ProgramsKeepStatesWell : Type 0

@@ -69,20 +69,21 @@ number_behind Backward step x = x -ℤ step
 
 -- the number behind another one; past the integers' end there is none
 abbrev pub next_number : Direction → ℤ → ℤ → ℤ → Option ℤ
-next_number d last step x =
-    if in_range (number_behind d step x) then candidate_within d last (number_behind d step x) else None
+next_number direction last step x =
+    if in_range (number_behind direction step x) then candidate_within direction last (number_behind direction step x)
+        else None
 
 -- ---- members
 
 -- the member at the end where a walk in this direction begins, or none; the set by its number, the owner by a value
 abbrev pub end_member : Readings → Direction → ℕ → ℤ → Result (Option ℕ) RunFault
-end_member v Onward s o = walk_first (set_of v.tables s) v.store (number_of o)
-end_member v Backward s o = walk_last (set_of v.tables s) v.store (number_of o)
+end_member readings Onward s o = walk_first (set_of readings.tables s) readings.store (number_of o)
+end_member readings Backward s o = walk_last (set_of readings.tables s) readings.store (number_of o)
 
 -- the member behind another one in this direction, or none
 abbrev pub member_behind : Readings → Direction → ℕ → ℤ → ℤ → Result (Option ℕ) RunFault
-member_behind v Onward s o x = walk_next (set_of v.tables s) v.store (number_of o) (number_of x)
-member_behind v Backward s o x = walk_prev (set_of v.tables s) v.store (number_of o) (number_of x)
+member_behind readings Onward s o x = walk_next (set_of readings.tables s) readings.store (number_of o) (number_of x)
+member_behind readings Backward s o x = walk_prev (set_of readings.tables s) readings.store (number_of o) (number_of x)
 
 -- a member, if there is one, as a candidate
 abbrev pub as_candidate : Option ℕ → Result (Option ℤ) RunFault
@@ -106,46 +107,52 @@ AreSoundWalks n (l ∷ ls) = IsSoundWalk n l.walk × AreSoundWalks n ls
 
 -- the candidate behind another one, or none; F14 where that one is no longer in the list
 abbrev pub next_candidate : Readings → Walk → ℤ → Result (Option ℤ) RunFault
-next_candidate v (Numbers d last step) x = Ok (next_number d last step x)
-next_candidate v (Members d s o) x =
-    unless_left (member_behind v d s o x)
+next_candidate readings (Numbers d last step) x = Ok (next_number d last step x)
+next_candidate readings (Members d s o) x =
+    unless_left (member_behind readings d s o x)
 
 -- the value of BY, 1 where it is not written
 abbrev pub step_value : Readings → Option Expr → Result ℤ RunFault
-step_value v None = Ok (pos 1)
-step_value v (Some e) = value_of v e
+step_value readings None = Ok (pos 1)
+step_value readings (Some e) = value_of readings e
 
 -- a loop over numbers, or F15 where its step is below 1
 abbrev pub number_loop : ℕ → Direction → ℤ → ℤ → ℤ → Result OpenLoop RunFault
-number_loop place d first last step =
+number_loop place direction first last step =
     refuse_if (int_lt step (pos 1)) StepBelowOne
-    >> Ok (record { phrase = place; candidate = candidate_within d last first; walk = Numbers d last step })
+    >> Ok (record { phrase = place; candidate = candidate_within direction last first;
+    walk = Numbers direction last step })
 
 -- F5 where the member that FROM or AFTER names is not in the list
 abbrev pub member_named : Readings → ℕ → ℤ → ℤ → Result ℤ RunFault
-member_named v s o y =
-    is_in (set_of v.tables s) v.store (number_of o) (number_of y) >>= λ b. refuse_if (not b) NotInList >> Ok y
+member_named readings s o y =
+    is_in (set_of readings.tables s) readings.store (number_of o) (number_of y)
+        >>= λ b. refuse_if (not b) NotInList >> Ok y
 
 -- the first candidate of a walk through the list of a set for the owner that a value names
 abbrev pub candidate_at_begin : Readings → Direction → ℕ → ℤ → Begin → Result (Option ℤ) RunFault
-candidate_at_begin v d s o AtTheEnd = end_member v d s o >>= as_candidate
-candidate_at_begin v d s o (From e) = value_of v e >>= λ y. member_named v s o y >>= λ z. Ok (Some z)
-candidate_at_begin v d s o (After e) =
-    value_of v e >>= λ y. member_named v s o y >>= λ z. member_behind v d s o z >>= as_candidate
+candidate_at_begin readings direction s o AtTheEnd = end_member readings direction s o >>= as_candidate
+candidate_at_begin readings direction s o (From e) =
+    value_of readings e >>= λ y. member_named readings s o y >>= λ z. Ok (Some z)
+candidate_at_begin readings direction s o (After e) =
+    value_of readings e >>= λ y. member_named readings s o y >>= λ z. member_behind readings direction s o z
+        >>= as_candidate
 
 -- a loop through the list of a set, for the owner that a value names
 abbrev pub list_loop : ℕ → Direction → ℕ → ℤ → Option ℤ → OpenLoop
-list_loop place d s o c = record { phrase = place; candidate = c; walk = Members d s o }
+list_loop place direction s o c = record { phrase = place; candidate = c; walk = Members direction s o }
 
 -- what the entry of the phrase at a place opens: its bounds and its step are got once; EACH goes from 1 up to N.c by 1;
 -- a walk goes through the list of an owner that is got once
 abbrev pub loop_at_entry : Readings → ℕ → Phrase → Result OpenLoop RunFault
-loop_at_entry v place (Counting d x first last step) =
-    value_of v first >>= λ a. value_of v last >>= λ b. step_value v step >>= λ c. number_loop place d a b c
-loop_at_entry v place (Each class is_called x count) =
-    number_loop place Onward (pos 1) (variable_value v (Global count)) (pos 1)
-loop_at_entry v place (Walking d x r begin) =
-    subscript_value v r.owner >>= λ o. candidate_at_begin v d r.set o begin >>= λ c. Ok (list_loop place d r.set o c)
+loop_at_entry readings place (Counting d x first last step) =
+    value_of readings first >>= λ a. value_of readings last >>= λ b. step_value readings step
+        >>= λ c. number_loop place d a b c
+loop_at_entry readings place (Each class is_called x count) =
+    number_loop place Onward (pos 1) (variable_value readings (Global count)) (pos 1)
+loop_at_entry readings place (Walking d x r begin) =
+    subscript_value readings r.owner >>= λ o. candidate_at_begin readings d r.set o begin
+        >>= λ c. Ok (list_loop place d r.set o c)
 
 -- the variable to which a candidate goes
 abbrev pub loop_variable : Phrase → Variable
@@ -169,5 +176,5 @@ verdict_by Until b rest = if b then Ok Closes else rest
 
 -- what the qualifiers say, in written order
 abbrev pub verdict_of : Readings → List Qualifier → Result Verdict RunFault
-verdict_of v [] = Ok Runs
-verdict_of v (q ∷ qs) = holds v q.condition >>= λ b. verdict_by q.word b (verdict_of v qs)
+verdict_of readings [] = Ok Runs
+verdict_of readings (q ∷ qs) = holds readings q.condition >>= λ b. verdict_by q.word b (verdict_of readings qs)

@@ -38,19 +38,19 @@ pub record Moment : Type 0 where
 
 -- what is held there
 abbrev pub held_of : Moment → Held
-held_of m = record { state = m.state; beside = m.beside }
+held_of moment = record { state = moment.state; beside = moment.beside }
 
 -- how many steps are kept
 abbrev pub steps_kept : Moment → ℕ
-steps_kept m = length m.steps
+steps_kept moment = length moment.steps
 
 -- the number of the state in the run: the steps that are forgotten count
 abbrev pub position : Moment → ℕ
-position m = m.forgotten + steps_kept m
+position moment = moment.forgotten + steps_kept moment
 
 -- the states before this one to which the kept steps lead back, the earliest first
 abbrev pub past_of : Moment → List State
-past_of m = map (λ h. h.state) (past unapply (held_of m) m.steps)
+past_of moment = map (λ h. h.state) (past unapply (held_of moment) moment.steps)
 
 -- how many targets a CALL has
 abbrev pub call_targets : Place → ℕ
@@ -64,21 +64,21 @@ call_targets_by None = 0
 
 -- how many targets the CALL where the last frame stands has
 abbrev pub place_targets : ProgramTable → State → ℕ
-place_targets p s = call_targets_by (spot_at p s.frame.section s.frame.place)
+place_targets program state = call_targets_by (spot_at program state.frame.section state.frame.place)
 
 -- how many values come back from the last frame to the one below it
 abbrev pub yield_count : ProgramTable → List FrameState → ℕ
-yield_count p [] = 0
-yield_count p (f ∷ fs) = call_targets_by (spot_at p f.section f.place)
+yield_count program [] = 0
+yield_count program (f ∷ fs) = call_targets_by (spot_at program f.section f.place)
 
 -- the most changes that LOOP, FIND, COMPUTE and a FOR phrase note, with these ways: FIND one for each loop that it
 -- closes
 abbrev pub most_looping_changes : Ways → Looping → ℕ
-most_looping_changes w (For f) = 4
-most_looping_changes w Loop = 1
-most_looping_changes w Find = 2 + w.chain
-most_looping_changes w (Gather e) = 2
-most_looping_changes w (Tell ts) = 1 + length ts
+most_looping_changes ways (For f) = 4
+most_looping_changes ways Loop = 1
+most_looping_changes ways Find = 2 + ways.chain
+most_looping_changes ways (Gather e) = 2
+most_looping_changes ways (Tell ts) = 1 + length ts
 
 -- the most changes that SCHEDULE, CANCEL and START SIMULATION note: SCHEDULE one for each argument, which are at most
 -- 32
@@ -89,45 +89,45 @@ most_timing_changes Start = 6
 
 -- the most changes that the step of a place notes, with these ways: RETURN and END one for each value that comes back
 abbrev pub most_changes : ProgramTable → State → Ways → Place → ℕ
-most_changes p s w (places.Assign a) = 2
-most_changes p s w (places.Making m) = 3
-most_changes p s w (places.Filing f) = 3
-most_changes p s w (places.Output o) = 2
-most_changes p s w (places.Control c) = 3 + yield_count p s.below
-most_changes p s w (places.Branch b) = 1
-most_changes p s w (places.Looping l) = most_looping_changes w l
-most_changes p s w (places.Call c) = 1
-most_changes p s w (places.Timing x) = most_timing_changes x
-most_changes p s w (places.Read ts) = 2 + length ts
+most_changes program state ways (places.Assign a) = 2
+most_changes program state ways (places.Making m) = 3
+most_changes program state ways (places.Filing f) = 3
+most_changes program state ways (places.Output o) = 2
+most_changes program state ways (places.Control c) = 3 + yield_count program state.below
+most_changes program state ways (places.Branch b) = 1
+most_changes program state ways (places.Looping l) = most_looping_changes ways l
+most_changes program state ways (places.Call c) = 1
+most_changes program state ways (places.Timing x) = most_timing_changes x
+most_changes program state ways (places.Read ts) = 2 + length ts
 
 -- the same of the place that stands there, if one does
 abbrev pub most_changes_by : ProgramTable → State → Option Spot → ℕ
-most_changes_by p s (Some spot) = most_changes p s (ways_here p s spot.place) spot.place
-most_changes_by p s None = 0
+most_changes_by program state (Some spot) = most_changes program state (ways_here program state spot.place) spot.place
+most_changes_by program state None = 0
 
 -- the most changes that the next step notes
 abbrev pub change_bound : ProgramTable → State → ℕ
-change_bound p s = most_changes_by p s (spot_at p s.frame.section s.frame.place)
+change_bound program state = most_changes_by program state (spot_at program state.frame.section state.frame.place)
 
 -- how many targets the statement at a place has; those of the CALL to which RETURN and END go back are theirs
 abbrev pub targets_at : ProgramTable → State → Place → ℕ
-targets_at p s (places.Assign a) = 1
-targets_at p s (places.Making m) = 1
-targets_at p s (places.Filing f) = 1
-targets_at p s (places.Control c) = yield_count p s.below
-targets_at p s (places.Looping (Tell ts)) = length ts
-targets_at p s (places.Call c) = length c.targets
-targets_at p s (places.Read ts) = length ts
-targets_at p s other = 0
+targets_at program state (places.Assign a) = 1
+targets_at program state (places.Making m) = 1
+targets_at program state (places.Filing f) = 1
+targets_at program state (places.Control c) = yield_count program state.below
+targets_at program state (places.Looping (Tell ts)) = length ts
+targets_at program state (places.Call c) = length c.targets
+targets_at program state (places.Read ts) = length ts
+targets_at program state other = 0
 
 -- the same of the place that stands there, if one does
 abbrev pub targets_by : ProgramTable → State → Option Spot → ℕ
-targets_by p s (Some spot) = targets_at p s spot.place
-targets_by p s None = 0
+targets_by program state (Some spot) = targets_at program state spot.place
+targets_by program state None = 0
 
 -- how many targets the next statement has
 abbrev pub target_count : ProgramTable → State → ℕ
-target_count p s = targets_by p s (spot_at p s.frame.section s.frame.place)
+target_count program state = targets_by program state (spot_at program state.frame.section state.frame.place)
 
 -- one step forward
 pub record HasMoved (old new : Moment) : Type 0 where

@@ -8,22 +8,22 @@ use Rattle.ss_machine.specs.State.{State}
 
 -- what an expression reads of a state
 abbrev pub readings : Tables → State → Readings
-readings t s = record {
-  tables = t;
-  store = s.store;
-  variables = s.variables;
-  locals = s.frame.locals;
-  clock = s.clock;
+readings tables state = record {
+  tables = tables;
+  store = state.store;
+  variables = state.variables;
+  locals = state.frame.locals;
+  clock = state.clock;
 }
 
 -- what a variable holds in a state
 abbrev pub variable_in : State → Variable → ℤ
-variable_in s (Global i) = slice_index_or s.variables i (pos 0)
-variable_in s (Local i) = slice_index_or s.frame.locals i (pos 0)
-variable_in s Clock = s.clock
+variable_in state (Global i) = slice_index_or state.variables i (pos 0)
+variable_in state (Local i) = slice_index_or state.frame.locals i (pos 0)
+variable_in state Clock = state.clock
 
 -- a state has a variable
 abbrev pub HasVariable : State → Variable → Type 0
-HasVariable s (Global i) = i < length s.variables
-HasVariable s (Local i) = i < length s.frame.locals
-HasVariable s Clock = Unit {0}
+HasVariable state (Global i) = i < length state.variables
+HasVariable state (Local i) = i < length state.frame.locals
+HasVariable state Clock = Unit {0}

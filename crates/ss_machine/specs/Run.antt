@@ -19,18 +19,18 @@ pub record Input : Type 0 where
 
 -- a program over data
 abbrev pub input_with : ProgramTable → List ℕ → Input
-input_with p text = record { program = p; items = items text }
+input_with program text = record { program = program; items = items text }
 
 -- MAIN at its first place, all variables and the clock 0, no entities, nothing pending, taken or printed, no entry
 abbrev pub start : Input → State
-start i = record {
-  variables = replicate (length i.program.globals) (pos 0);
-  frame = new_frame i.program (main_number i.program) [];
+start input = record {
+  variables = replicate (length input.program.globals) (pos 0);
+  frame = new_frame input.program (main_number input.program) [];
   below = [];
   clock = pos 0;
-  store = empty_store (tables_of i.program);
+  store = empty_store (tables_of input.program);
   agenda = empty_agenda;
-  feed = record { items = i.items; taken = 0 };
+  feed = record { items = input.items; taken = 0 };
   report = [];
   status = Ready;
   entry = Absent;
@@ -38,14 +38,14 @@ start i = record {
 
 -- the state behind another one; one that isn't ready stays
 abbrev pub next : ProgramTable → State → State
-next p s = if is_ready s.status then step p s else s
+next program state = if is_ready state.status then step program state else state
 
 -- state number k
 abbrev pub run : Input → ℕ → State
-run i zero = start i
-run i (suc k) = next i.program (run i k)
+run input zero = start input
+run input (suc k) = next input.program (run input k)
 
 -- k states, the first of them number a
 abbrev pub states_from : Input → ℕ → ℕ → List State
-states_from i a zero = []
-states_from i a (suc k) = states_from i a k ++ run i (a + k) ∷ []
+states_from input a zero = []
+states_from input a (suc k) = states_from input a k ++ run input (a + k) ∷ []

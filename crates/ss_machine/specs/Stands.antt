@@ -13,23 +13,23 @@ use Rattle.ss_machine.specs.Run.{Input, run}
 
 -- changes that fit and lead back through the states of a run, the first of them to its state number a
 abbrev pub LeadsBack : Input → ℕ → List (List Change) → Held → Type 0
-LeadsBack i a steps h = StepsLeadBack Fits unapply (λ g. g.state) (λ k. run i (a + k)) steps h
+LeadsBack input a steps held = StepsLeadBack Fits unapply (λ g. g.state) (λ k. run input (a + k)) steps held
 
 -- what every machine keeps
-pub record Stands (i : Input) (forgotten : ℕ) (h : Held) (j : Log Change) : Type 0 where
+pub record Stands (input : Input) (forgotten : ℕ) (held : Held) (log : Log Change) : Type 0 where
   -- the program is sound
-  pub sound : IsSound i.program
+  pub sound : IsSound input.program
   -- the numbers of its data are in range
-  pub items : AreItemsInRange i.items
+  pub items : AreItemsInRange input.items
   -- no step is open
-  pub closed : j.current ≡ []
+  pub closed : log.current ≡ []
   -- the state is the run's with the machine's position
-  pub here : h.state ≡ run i (forgotten + length j.steps)
+  pub here : held.state ≡ run input (forgotten + length log.steps)
   -- which is not past the last one
-  pub within : forgotten + length j.steps ≤ LAST_POSITION
+  pub within : forgotten + length log.steps ≤ LAST_POSITION
   -- beside the state stand the tables of the program's classes and sets
-  pub tables : h.beside.tables ≡ tables_of i.program
+  pub tables : held.beside.tables ≡ tables_of input.program
   -- and the order of its notices
-  pub rules : h.beside.rules ≡ rules_of i.program
+  pub rules : held.beside.rules ≡ rules_of input.program
   -- the kept changes fit, and lead back through the states of the run
-  pub kept : LeadsBack i forgotten j.steps h
+  pub kept : LeadsBack input forgotten log.steps held

@@ -66,10 +66,10 @@ no_statistics = record { number = pos 0; sum = pos 0; greatest = pos 0; least = 
 
 -- the frame of a section at its first place: the values that it is given, and 0 in all other locals
 abbrev pub new_frame : ProgramTable → ℕ → List ℤ → FrameState
-new_frame p section xs = record {
+new_frame program section xs = record {
   section = section;
   place = 0;
-  locals = xs ++ replicate (length (locals_of (slice_get p.sections section)) - length xs) (pos 0);
+  locals = xs ++ replicate (length (locals_of (slice_get program.sections section)) - length xs) (pos 0);
   loops = [];
   found = false;
   statistics = no_statistics;

@@ -20,23 +20,23 @@ use Rattle.ss_machine.specs.Statements.Timing.{step_timing}
 
 -- one step of a place with these ways, by its kind
 abbrev pub step_at : ProgramTable → State → Ways → Place → State
-step_at p s w (places.Assign a) = step_assign (tables_of p) s w.next a
-step_at p s w (places.Making m) = step_making (tables_of p) s w.next m
-step_at p s w (places.Filing f) = step_filing (tables_of p) s w.next f
-step_at p s w (places.Output o) = step_output (tables_of p) s w.next o
-step_at p s w (places.Control c) = step_control p s c
-step_at p s w (places.Branch b) = step_branch (tables_of p) s w b
-step_at p s w (places.Looping l) = step_looping (tables_of p) s w l
-step_at p s w (places.Call c) = step_call p s c
-step_at p s w (places.Timing x) = step_timing p s w.next x
-step_at p s w (places.Read ts) = step_read p s w.next ts
+step_at program state ways (places.Assign a) = step_assign (tables_of program) state ways.next a
+step_at program state ways (places.Making m) = step_making (tables_of program) state ways.next m
+step_at program state ways (places.Filing f) = step_filing (tables_of program) state ways.next f
+step_at program state ways (places.Output o) = step_output (tables_of program) state ways.next o
+step_at program state ways (places.Control c) = step_control program state c
+step_at program state ways (places.Branch b) = step_branch (tables_of program) state ways b
+step_at program state ways (places.Looping l) = step_looping (tables_of program) state ways l
+step_at program state ways (places.Call c) = step_call program state c
+step_at program state ways (places.Timing x) = step_timing program state ways.next x
+step_at program state ways (places.Read ts) = step_read program state ways.next ts
 
 -- one step of the place that stands there, if one does
 abbrev pub step_by : ProgramTable → State → Option Spot → State
-step_by p s (Some spot) = step_at p s (ways_here p s spot.place) spot.place
+step_by program state (Some spot) = step_at program state (ways_here program state spot.place) spot.place
 -- never met: each frame stands at a place
-step_by p s None = s
+step_by program state None = state
 
 -- one step of a ready state: that of the place where the last frame stands
 abbrev pub step : ProgramTable → State → State
-step p s = step_by p s (spot_at p s.frame.section s.frame.place)
+step program state = step_by program state (spot_at program state.frame.section state.frame.place)

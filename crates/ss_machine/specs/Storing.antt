@@ -15,17 +15,17 @@ use Rattle.ss_machine.specs.Statements.{state_with_store}
 use Rattle.ss_machine.specs.Statements.Timing.{state_with_agenda}
 
 -- a change of the store was made
-pub record LeavesStore (c : Change) (st : Store) (old new : Held) : Type 0 where
+pub record LeavesStore (change : Change) (store : Store) (old new : Held) : Type 0 where
   -- the store alone is another one
-  pub state : new.state ≡ state_with_store old.state st
+  pub state : new.state ≡ state_with_store old.state store
   -- the tables are the same
   pub tables : new.beside.tables ≡ old.beside.tables
   -- so are the rules
   pub rules : new.beside.rules ≡ old.beside.rules
   -- the change fits
-  pub fits : Fits (as_change c) new
+  pub fits : Fits (as_change change) new
   -- and leads back
-  pub back : unapply (as_change c) new ≡ old
+  pub back : unapply (as_change change) new ≡ old
 
 -- a call that may fault; a fault changes nothing
 abbrev pub IsStoring : Result Change RunFault → Result Store RunFault → Held → Held → Type 0
@@ -61,7 +61,7 @@ IsMakingAll (Err e) r old new = IsRefused e r old new
 IsMakingAll (Ok c) (Err f) old new = ⊥
 
 -- a change was made
-pub record LeavesState (c : Change) (s : State) (old new : Held) : Type 0 where
+pub record LeavesState (change : Change) (s : State) (old new : Held) : Type 0 where
   -- the state is this one
   pub state : new.state ≡ s
   -- the tables are the same
@@ -69,14 +69,14 @@ pub record LeavesState (c : Change) (s : State) (old new : Held) : Type 0 where
   -- so are the rules
   pub rules : new.beside.rules ≡ old.beside.rules
   -- the change fits
-  pub fits : Fits (as_change c) new
+  pub fits : Fits (as_change change) new
   -- and leads back
-  pub back : unapply (as_change c) new ≡ old
+  pub back : unapply (as_change change) new ≡ old
 
 -- a fault was marked in a state; a want of memory is not
 abbrev pub IsMarked : StepFault → State → State → Type 0
-IsMarked (Fault e) s t = t ≡ record s { status = Faulted e }
-IsMarked Memory s t = ⊥
+IsMarked (Fault e) state t = t ≡ record state { status = Faulted e }
+IsMarked Memory state t = ⊥
 
 -- a notice was scheduled, or not; a refusal changes nothing, and memory is refused only where there is no fault
 abbrev pub IsScheduling : Result Change StepFault → Result State RunFault → Held → Held → Type 0

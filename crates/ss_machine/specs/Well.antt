@@ -42,15 +42,15 @@ AreItemsInRange [] = Unit {0}
 AreItemsInRange (i ∷ is) = IsNoneOrInRange i.value × AreItemsInRange is
 
 -- statistics are
-pub record AreStatisticsInRange (g : Statistics) : Type 0 where
+pub record AreStatisticsInRange (statistics : Statistics) : Type 0 where
   -- how many values there were
-  pub number : in_range g.number ≡ true
+  pub number : in_range statistics.number ≡ true
   -- their sum
-  pub sum : in_range g.sum ≡ true
+  pub sum : in_range statistics.sum ≡ true
   -- the greatest of them
-  pub greatest : in_range g.greatest ≡ true
+  pub greatest : in_range statistics.greatest ≡ true
   -- the least of them
-  pub least : in_range g.least ≡ true
+  pub least : in_range statistics.least ≡ true
 
 -- the attributes of entities are
 abbrev pub AreEntitiesInRange : List Entity → Type 0
@@ -73,33 +73,33 @@ AreReferencesInRange [] = Unit {0}
 AreReferencesInRange (o ∷ os) = IsNoneOrEntityInRange o × AreReferencesInRange os
 
 -- those of all entities are
-pub record IsStoreInRange (st : Store) : Type 0 where
+pub record IsStoreInRange (store : Store) : Type 0 where
   -- those of the permanent classes
-  pub made : AreClassesInRange st.made
+  pub made : AreClassesInRange store.made
   -- those with references
-  pub references : AreReferencesInRange st.references
+  pub references : AreReferencesInRange store.references
 
 -- a well-formed frame
-pub record IsWellFrame (p : ProgramTable) (f : FrameState) : Type 0 where
+pub record IsWellFrame (program : ProgramTable) (frame : FrameState) : Type 0 where
   -- its section is one of the program's
-  pub section : f.section < length p.sections
+  pub section : frame.section < length program.sections
   -- it stands at a place of that section
-  pub place : f.place < length (places_of (slice_get p.sections f.section))
+  pub place : frame.place < length (places_of (slice_get program.sections frame.section))
   -- it has the locals of that section
-  pub locals : length f.locals ≡ length (locals_of (slice_get p.sections f.section))
+  pub locals : length frame.locals ≡ length (locals_of (slice_get program.sections frame.section))
   -- their values are in range
-  pub values : AreInRange f.locals
+  pub values : AreInRange frame.locals
   -- and so are the candidates of its open loops
-  pub loops : AreLoopsInRange f.loops
+  pub loops : AreLoopsInRange frame.loops
   -- the loops over sets walk sets that there are
-  pub walks : AreSoundWalks (length p.sets) f.loops
+  pub walks : AreSoundWalks (length program.sets) frame.loops
   -- what COMPUTE has gathered is in range
-  pub statistics : AreStatisticsInRange f.statistics
+  pub statistics : AreStatisticsInRange frame.statistics
 
 -- so do all frames
 abbrev pub AreWellFrames : ProgramTable → List FrameState → Type 0
-AreWellFrames p [] = Unit {0}
-AreWellFrames p (f ∷ fs) = IsWellFrame p f × AreWellFrames p fs
+AreWellFrames program [] = Unit {0}
+AreWellFrames program (f ∷ fs) = IsWellFrame program f × AreWellFrames program fs
 
 -- a place is a CALL of this section
 abbrev pub Calls : ℕ → Place → Type 0
@@ -124,32 +124,34 @@ StartsAt (Some spot) = Starts spot.place
 -- a frame of this kind of section stands on another one: a routine's on a CALL of it, an event's on MAIN at START
 -- SIMULATION
 abbrev pub StandsOn : ProgramTable → SectionKind → ℕ → FrameState → Type 0
-StandsOn p Main section f = ⊥
-StandsOn p Routine section f = CallsAt section (spot_at p f.section f.place)
-StandsOn p Event section f = (is_main (section_of p f.section) ≡ true) × StartsAt (spot_at p f.section f.place)
+StandsOn program Main section frame = ⊥
+StandsOn program Routine section frame = CallsAt section (spot_at program frame.section frame.place)
+StandsOn program Event section frame =
+    (is_main (section_of program frame.section) ≡ true) × StartsAt (spot_at program frame.section frame.place)
 
 -- the first frame is MAIN's, and each other stands on the one below it
 abbrev pub IsStack : ProgramTable → ℕ → List FrameState → Type 0
-IsStack p section [] = is_main (section_of p section) ≡ true
-IsStack p section (f ∷ fs) = StandsOn p (section_of p section).kind section f × IsStack p f.section fs
+IsStack program section [] = is_main (section_of program section) ≡ true
+IsStack program section (f ∷ fs) =
+    StandsOn program (section_of program section).kind section f × IsStack program f.section fs
 
 -- a pending notice that is due at the clock or later
-pub record IsDue (p : ProgramTable) (clock : ℤ) (st : Store) (e : Pending) : Type 0 where
+pub record IsDue (program : ProgramTable) (clock : ℤ) (store : Store) (notice : Pending) : Type 0 where
   -- its class is an event class
-  pub event : is_event (class_of p e.class).kind ≡ true
+  pub event : is_event (class_of program notice.class).kind ≡ true
   -- it exists
-  pub exists : exists st e.class e.notice ≡ true
+  pub exists : exists store notice.class notice.notice ≡ true
   -- its time is in range
-  pub time : in_range e.time ≡ true
+  pub time : in_range notice.time ≡ true
   -- and not before the clock
-  pub due : int_lt e.time clock ≡ false
+  pub due : int_lt notice.time clock ≡ false
   -- so are the keys by which it goes among those due at that time
-  pub keys : AreInRange e.keys
+  pub keys : AreInRange notice.keys
 
 -- so do all pending notices
 abbrev pub AreDue : ProgramTable → ℤ → Store → List Pending → Type 0
-AreDue p clock st [] = Unit {0}
-AreDue p clock st (e ∷ es) = IsDue p clock st e × AreDue p clock st es
+AreDue program clock store [] = Unit {0}
+AreDue program clock store (e ∷ es) = IsDue program clock store e × AreDue program clock store es
 
 -- all pending notices with reference k are of class c
 abbrev pub AreOfClass : ℕ → ℕ → List Pending → Type 0
@@ -164,40 +166,40 @@ IsSecond i section (f ∷ g ∷ fs) = IsSecond i f.section (g ∷ fs)
 
 -- an entry is of an external class; one that waits is a pending notice of it, one that runs belongs to the second frame
 abbrev pub IsWellEntry : ProgramTable → List Pending → ℕ → List FrameState → Entry → Type 0
-IsWellEntry p es section below Absent = Unit {0}
-IsWellEntry p es section below (Waiting c k) =
-    ((event_of p c).external ≡ true) × (is_some (pending_at es k) ≡ true) × AreOfClass k c es
-IsWellEntry p es section below (Running c k) =
-    ((event_of p c).external ≡ true) × IsSecond (event_of p c).section section below
+IsWellEntry program es section below Absent = Unit {0}
+IsWellEntry program es section below (Waiting c k) =
+    ((event_of program c).external ≡ true) × (is_some (pending_at es k) ≡ true) × AreOfClass k c es
+IsWellEntry program es section below (Running c k) =
+    ((event_of program c).external ≡ true) × IsSecond (event_of program c).section section below
 
 -- a state all of which is within its bounds
-pub record IsInBounds (p : ProgramTable) (s : State) : Type 0 where
+pub record IsInBounds (program : ProgramTable) (state : State) : Type 0 where
   -- each global variable has a value
-  pub variables : length s.variables ≡ length p.globals
+  pub variables : length state.variables ≡ length program.globals
   -- which is in range
-  pub values : AreInRange s.variables
+  pub values : AreInRange state.variables
   -- the last frame is well-formed
-  pub frame : IsWellFrame p s.frame
+  pub frame : IsWellFrame program state.frame
   -- so are those below it
-  pub below : AreWellFrames p s.below
+  pub below : AreWellFrames program state.below
   -- the first is MAIN's, and each other stands on the one below it
-  pub stack : IsStack p s.frame.section s.below
+  pub stack : IsStack program state.frame.section state.below
   -- there are at most 200
-  pub few : length s.below ≤ MOST_BELOW
+  pub few : length state.below ≤ MOST_BELOW
   -- the clock is in range
-  pub clock : in_range s.clock ≡ true
+  pub clock : in_range state.clock ≡ true
   -- so are the attributes of all entities
-  pub store : IsStoreInRange s.store
+  pub store : IsStoreInRange state.store
   -- so are the numbers of the data
-  pub items : AreItemsInRange s.feed.items
+  pub items : AreItemsInRange state.feed.items
   -- no more items are taken than there are
-  pub taken : s.feed.taken ≤ length s.feed.items
+  pub taken : state.feed.taken ≤ length state.feed.items
   -- the report is within its limit
-  pub report : length s.report ≤ LONGEST_REPORT
+  pub report : length state.report ≤ LONGEST_REPORT
   -- all pending notices are due
-  pub due : AreDue p s.clock s.store s.agenda.pending
+  pub due : AreDue program state.clock state.store state.agenda.pending
   -- the entry of an external event is well-formed
-  pub entry : IsWellEntry p s.agenda.pending s.frame.section s.below s.entry
+  pub entry : IsWellEntry program state.agenda.pending state.frame.section state.below state.entry
 
 -- the places of the phrases of loops
 abbrev pub phrases_of : List OpenLoop → List ℕ
@@ -206,16 +208,17 @@ phrases_of (l ∷ ls) = l.phrase ∷ phrases_of ls
 
 -- the open loops of a frame are those of the FOR phrases around its place, with or without that of the place itself
 abbrev pub HasItsLoops : ProgramTable → FrameState → Type 0
-HasItsLoops p f = may_be_open (places_of (slice_get p.sections f.section)) (phrases_of f.loops) f.place ≡ true
+HasItsLoops program frame =
+    may_be_open (places_of (slice_get program.sections frame.section)) (phrases_of frame.loops) frame.place ≡ true
 
 -- so do all frames
 abbrev pub HaveTheirLoops : ProgramTable → List FrameState → Type 0
-HaveTheirLoops p [] = Unit {0}
-HaveTheirLoops p (f ∷ fs) = HasItsLoops p f × HaveTheirLoops p fs
+HaveTheirLoops program [] = Unit {0}
+HaveTheirLoops program (f ∷ fs) = HasItsLoops program f × HaveTheirLoops program fs
 
 -- a well-formed state
-pub record IsWell (p : ProgramTable) (s : State) : Type 0 where
+pub record IsWell (program : ProgramTable) (state : State) : Type 0 where
   -- all is within its bounds
-  pub bounds : IsInBounds p s
+  pub bounds : IsInBounds program state
   -- the open loops of each frame are those around its place
-  pub loops : HaveTheirLoops p (s.frame ∷ s.below)
+  pub loops : HaveTheirLoops program (state.frame ∷ state.below)

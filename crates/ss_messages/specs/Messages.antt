@@ -39,9 +39,9 @@ pub data Sent : Type 0 where
 
 -- message n, sent for a request
 abbrev pub sent_text : ℕ → Request → Sent → List ℕ
-sent_text n r (reply body) = reply_text n r.number r.name body
-sent_text n r (failure reason) = failure_text n r.number r.name reason
-sent_text n r (event name body) = event_text n name body
+sent_text n request (reply body) = reply_text n request.number request.name body
+sent_text n request (failure reason) = failure_text n request.number request.name reason
+sent_text n request (event name body) = event_text n name body
 
 -- messages that are to be written
 pub record PostView : Type 0 where
@@ -52,9 +52,10 @@ pub record PostView : Type 0 where
 
 -- one message more
 abbrev pub posted_with : Request → PostView → Sent → PostView
-posted_with r p m = record { sent = p.sent + 1; bytes = p.bytes ++ message_text (sent_text (p.sent + 1) r m) }
+posted_with request post sent =
+    record { sent = post.sent + 1; bytes = post.bytes ++ message_text (sent_text (post.sent + 1) request sent) }
 
 -- some messages more
 unfoldable pub posted_all : Request → PostView → List Sent → PostView
-posted_all r p [] = p
-posted_all r p (m ∷ ms) = posted_all r (posted_with r p m) ms
+posted_all request post [] = post
+posted_all request post (m ∷ ms) = posted_all request (posted_with request post m) ms

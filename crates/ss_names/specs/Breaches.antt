@@ -85,12 +85,12 @@ rule_of code = rule_beside code (map (λ row. (row.0.now, row.1)) NAME_RULES)
 
 -- what is wrong, where it is so
 abbrev pub where_so : Bool → Wrong → Option Wrong
-where_so true x = Some x
-where_so false x = None
+where_so true wrong = Some wrong
+where_so false wrong = None
 
 -- what a name is
 abbrev pub known_in : TextFacts → List ℕ → Knowledge
-known_in f n = knowledge_of f.names n
+known_in facts n = knowledge_of facts.names n
 
 -- ---- C1
 
@@ -101,7 +101,7 @@ is_undeclared_as _ = false
 
 -- declared nowhere
 abbrev pub is_undeclared : Knowledge → Bool
-is_undeclared a = is_undeclared_as a.what
+is_undeclared knowledge = is_undeclared_as knowledge.what
 
 -- a second declaration goes with the first
 abbrev pub repeats : Meaning → Option Meaning → Bool
@@ -110,21 +110,23 @@ repeats first None = false
 
 -- the language, a set or a class gives a name, whatever else it is declared as
 abbrev pub is_given : TextFacts → List ℕ → Bool
-is_given f n = not (is_undeclared (knowledge_given f.names n))
+is_given facts n = not (is_undeclared (knowledge_given facts.names n))
 
 -- what is declared here conflicts with this first declaration of its name
 abbrev pub conflicts_with : TextFacts → Standpoint → Option Declaration → Bool
-conflicts_with f a (Some d) = if not (d.index == a.index) then not (repeats d.meaning a.declared) else is_given f a.name
-conflicts_with f a None = false
+conflicts_with facts standpoint (Some d) =
+    if not (d.index == standpoint.index) then not (repeats d.meaning standpoint.declared)
+        else is_given facts standpoint.name
+conflicts_with facts standpoint None = false
 
 -- a name that is declared here is declared before as what does not go with that, or is given
 abbrev pub conflicts : TextFacts → Standpoint → Bool
-conflicts f a = conflicts_with f a (declared_as f.names a.name)
+conflicts facts standpoint = conflicts_with facts standpoint (declared_as facts.names standpoint.name)
 
 -- the first of some places of a name stands before this one
 abbrev pub stands_before : Standpoint → Option Declaration → Bool
-stands_before a (Some d) = nat_lt d.index a.index
-stands_before a None = false
+stands_before standpoint (Some d) = nat_lt d.index standpoint.index
+stands_before standpoint None = false
 
 -- a set is named here
 abbrev pub is_set_here : Option Meaning → Bool
@@ -138,36 +140,41 @@ is_define _ = false
 
 -- a set stands in its DEFINE here
 abbrev pub is_in_define : Standpoint → Bool
-is_in_define a = is_set_here a.declared && is_define a.last
+is_in_define standpoint = is_set_here standpoint.declared && is_define standpoint.last
 
 -- a name that is declared here conflicts, or is a set whose discipline is given before
 abbrev pub wrong_declaration : TextFacts → Standpoint → Option Wrong
-wrong_declaration f a = if conflicts f a
+wrong_declaration facts standpoint = if conflicts facts standpoint
     then Some w.DeclaredTwice
-    else where_so (is_in_define a && stands_before a (declared_as f.disciplines a.name)) w.DisciplinedTwice
+    else where_so (is_in_define standpoint
+        && stands_before standpoint (declared_as facts.disciplines standpoint.name)) w.DisciplinedTwice
 
 -- a parameter is declared or given, or stands again
 abbrev pub wrong_parameter : TextFacts → Standpoint → Option Wrong
-wrong_parameter f a =
-    if not (is_undeclared (known_in f a.name)) then Some w.DeclaredTwice else where_so a.repeated w.ParameterTwice
+wrong_parameter facts standpoint =
+    if not (is_undeclared (known_in facts standpoint.name)) then Some w.DeclaredTwice
+        else where_so standpoint.repeated w.ParameterTwice
 
 -- an event of an item that this word begins: behind BREAK its ties are broken before; it is named external before
 abbrev pub wrong_item : TextFacts → Standpoint → Option AReserved → Option Wrong
-wrong_item f a (Some r.Break) = where_so (stands_before a (declared_as f.ties a.name)) w.BrokenTwice
-wrong_item f a (Some r.External) = where_so (stands_before a (declared_as f.externals a.name)) w.ExternalTwice
-wrong_item f a _ = None
+wrong_item facts standpoint (Some r.Break) =
+    where_so (stands_before standpoint (declared_as facts.ties standpoint.name)) w.BrokenTwice
+wrong_item facts standpoint (Some r.External) =
+    where_so (stands_before standpoint (declared_as facts.externals standpoint.name)) w.ExternalTwice
+wrong_item facts standpoint _ = None
 
 -- what is wrong with a declaration, a parameter, an event of an item, or an event with a section before
 abbrev pub second_at : TextFacts → Standpoint → Position → Option Wrong
-second_at f a p.Declared = wrong_declaration f a
-second_at f a p.Local = wrong_parameter f a
-second_at f a p.Head = where_so (stands_before a (declared_as f.sections a.name)) w.DeclaredTwice
-second_at f a p.EventClass = wrong_item f a a.begun
-second_at f a _ = None
+second_at facts standpoint p.Declared = wrong_declaration facts standpoint
+second_at facts standpoint p.Local = wrong_parameter facts standpoint
+second_at facts standpoint p.Head =
+    where_so (stands_before standpoint (declared_as facts.sections standpoint.name)) w.DeclaredTwice
+second_at facts standpoint p.EventClass = wrong_item facts standpoint standpoint.begun
+second_at facts standpoint _ = None
 
 -- C1
 abbrev pub second_declaration : TextFacts → Standpoint → Option Wrong
-second_declaration f a = second_at f a a.position
+second_declaration facts standpoint = second_at facts standpoint standpoint.position
 
 -- ---- C2
 
@@ -194,15 +201,15 @@ is_headless _ = false
 
 -- what a name is serves where it stands, if a class is needed there
 abbrev pub serves : Position → What → Bool
-serves p.PermanentClass x = is_permanent x
-serves p.EndingClass x = can_end x
-serves p.EventClass x = is_event_class x
-serves p.Declared x = not (is_headless x)
-serves _ x = true
+serves p.PermanentClass what = is_permanent what
+serves p.EndingClass what = can_end what
+serves p.EventClass what = is_event_class what
+serves p.Declared what = not (is_headless what)
+serves _ what = true
 
 -- C2
 abbrev pub is_wrong_class : TextFacts → Standpoint → Bool
-is_wrong_class f a = not (serves a.position (known_in f a.name).what)
+is_wrong_class facts standpoint = not (serves standpoint.position (known_in facts standpoint.name).what)
 
 -- ---- C3
 
@@ -233,37 +240,39 @@ owns_none None = false
 
 -- the system owns a set
 abbrev pub is_of_system : TextFacts → List ℕ → Bool
-is_of_system f s = owns_none (declared_as f.owned s)
+is_of_system facts s = owns_none (declared_as facts.owned s)
 
 -- what may stand before a parenthesis: an attribute, a function, what is kept of members, or of owners that are no
 -- system; and a set, since IS EMPTY may stand behind its subscript
 abbrev pub takes_as : TextFacts → What → List ℕ → Bool
-takes_as f (k.Declared m.Attribute) of = true
-takes_as f (k.Declared m.Set) of = true
-takes_as f k.OfMembers of = true
-takes_as f k.Function of = true
-takes_as f k.OfOwners of = not (is_of_system f of)
-takes_as f _ of = false
+takes_as facts (k.Declared m.Attribute) of = true
+takes_as facts (k.Declared m.Set) of = true
+takes_as facts k.OfMembers of = true
+takes_as facts k.Function of = true
+takes_as facts k.OfOwners of = not (is_of_system facts of)
+takes_as facts _ of = false
 
 -- the same of what a name is
 abbrev pub takes_subscript : TextFacts → Knowledge → Bool
-takes_subscript f a = takes_as f a.what a.of
+takes_subscript facts knowledge = takes_as facts knowledge.what knowledge.of
 
 -- a name is no value, or stands before a parenthesis and takes none
 abbrev pub is_wrong_value : TextFacts → Knowledge → Bool → Bool
-is_wrong_value f a opens = if opens then not (takes_subscript f a) else is_valueless a.what
+is_wrong_value facts knowledge opens =
+    if opens then not (takes_subscript facts knowledge) else is_valueless knowledge.what
 
 -- a name that is this is used as what it is not
 abbrev pub is_misused_as : TextFacts → Standpoint → Knowledge → Position → Bool
-is_misused_as f a x p.Routine = not (is_routine x.what)
-is_misused_as f a x p.InSet = not (is_set x.what) || (a.opens && is_of_system f a.name)
-is_misused_as f a x p.Target = is_wrong_value f x a.opens
-is_misused_as f a x p.Value = is_wrong_value f x a.opens
-is_misused_as f a x _ = false
+is_misused_as facts standpoint knowledge p.Routine = not (is_routine knowledge.what)
+is_misused_as facts standpoint knowledge p.InSet =
+    not (is_set knowledge.what) || (standpoint.opens && is_of_system facts standpoint.name)
+is_misused_as facts standpoint knowledge p.Target = is_wrong_value facts knowledge standpoint.opens
+is_misused_as facts standpoint knowledge p.Value = is_wrong_value facts knowledge standpoint.opens
+is_misused_as facts standpoint knowledge _ = false
 
 -- C3
 abbrev pub is_misused : TextFacts → Standpoint → Bool
-is_misused f a = is_misused_as f a (known_in f a.name) a.position
+is_misused facts standpoint = is_misused_as facts standpoint (known_in facts standpoint.name) standpoint.position
 
 -- ---- C4 and C5
 
@@ -279,27 +288,31 @@ is_to _ = false
 
 -- of a set with this first OWNS: a second one is wrong; without one it has no owner
 abbrev pub wrong_owner_by : Standpoint → Option Declaration → Option Wrong
-wrong_owner_by a (Some d) = where_so (is_owns a.last && nat_lt d.index a.index) w.OwnedTwice
-wrong_owner_by a None = Some w.Ownerless
+wrong_owner_by standpoint (Some d) = where_so (is_owns standpoint.last && nat_lt d.index standpoint.index) w.OwnedTwice
+wrong_owner_by standpoint None = Some w.Ownerless
 
 -- C4
 abbrev pub wrong_owner : TextFacts → Standpoint → Option Wrong
-wrong_owner f a = if not (is_set_here a.declared) then None else wrong_owner_by a (declared_as f.owned a.name)
+wrong_owner facts standpoint =
+    if not (is_set_here standpoint.declared) then None
+        else wrong_owner_by standpoint (declared_as facts.owned standpoint.name)
 
 -- of a set with this first BELONGS TO: that of the system gives no members, and a second one is wrong
 abbrev pub wrong_joining : Declaration → Standpoint → Option Wrong
-wrong_joining d a = if is_no_name d.of
+wrong_joining declaration standpoint = if is_no_name declaration.of
     then Some w.Memberless
-    else where_so (is_to a.last && nat_lt d.index a.index) w.JoinedTwice
+    else where_so (is_to standpoint.last && nat_lt declaration.index standpoint.index) w.JoinedTwice
 
 -- without one it has no members
 abbrev pub wrong_member_by : Standpoint → Option Declaration → Option Wrong
-wrong_member_by a (Some d) = wrong_joining d a
-wrong_member_by a None = Some w.Memberless
+wrong_member_by standpoint (Some d) = wrong_joining d standpoint
+wrong_member_by standpoint None = Some w.Memberless
 
 -- C5
 abbrev pub wrong_member : TextFacts → Standpoint → Option Wrong
-wrong_member f a = if not (is_set_here a.declared) then None else wrong_member_by a (declared_as f.joined a.name)
+wrong_member facts standpoint =
+    if not (is_set_here standpoint.declared) then None
+        else wrong_member_by standpoint (declared_as facts.joined standpoint.name)
 
 -- ---- C6
 
@@ -315,33 +328,35 @@ is_attribute _ = false
 
 -- what a name is is no attribute of a class
 abbrev pub is_no_attribute_of : List ℕ → Knowledge → Bool
-is_no_attribute_of class x = not (is_attribute x.what) || not (bytes_eq x.of class)
+is_no_attribute_of class knowledge = not (is_attribute knowledge.what) || not (bytes_eq knowledge.of class)
 
 -- C6
 abbrev pub is_wrong_key : TextFacts → Standpoint → Bool
-is_wrong_key f a = if not (is_key a.position) then false else is_no_attribute_of a.ranked (known_in f a.name)
+is_wrong_key facts standpoint =
+    if not (is_key standpoint.position) then false
+        else is_no_attribute_of standpoint.ranked (known_in facts standpoint.name)
 
 -- ---- C8 and C12
 
 -- an event class
 abbrev pub is_event : TextFacts → List ℕ → Bool
-is_event f n = is_event_class (known_in f n).what
+is_event facts n = is_event_class (known_in facts n).what
 
 -- an event class without a section
 abbrev pub lacks_section : TextFacts → List ℕ → Bool
-lacks_section f n = is_event f n && not (is_some (declared_as f.sections n))
+lacks_section facts n = is_event facts n && not (is_some (declared_as facts.sections n))
 
 -- a head is of no event; an event that is named has no section
 abbrev pub wrong_event_at : TextFacts → Standpoint → Position → Option Wrong
-wrong_event_at f a p.Head = where_so (not (is_event f a.name)) w.NoEvent
-wrong_event_at f a p.Declared = where_so (lacks_section f a.name) w.NoSection
-wrong_event_at f a p.EventClass = where_so (lacks_section f a.name) w.NoSection
-wrong_event_at f a p.Ordered = where_so (lacks_section f a.name) w.NoSection
-wrong_event_at f a _ = None
+wrong_event_at facts standpoint p.Head = where_so (not (is_event facts standpoint.name)) w.NoEvent
+wrong_event_at facts standpoint p.Declared = where_so (lacks_section facts standpoint.name) w.NoSection
+wrong_event_at facts standpoint p.EventClass = where_so (lacks_section facts standpoint.name) w.NoSection
+wrong_event_at facts standpoint p.Ordered = where_so (lacks_section facts standpoint.name) w.NoSection
+wrong_event_at facts standpoint _ = None
 
 -- C8
 abbrev pub wrong_event : TextFacts → Standpoint → Option Wrong
-wrong_event f a = wrong_event_at f a a.position
+wrong_event facts standpoint = wrong_event_at facts standpoint standpoint.position
 
 -- behind PRIORITY ORDER IS
 abbrev pub is_ordered : Position → Bool
@@ -350,13 +365,13 @@ is_ordered _ = false
 
 -- a name there is no event class, or stands there before
 abbrev pub wrong_ordered : TextFacts → Standpoint → Option Wrong
-wrong_ordered f a = if not (is_event f a.name)
+wrong_ordered facts standpoint = if not (is_event facts standpoint.name)
     then Some w.NoEvent
-    else where_so (stands_before a (declared_as f.ordered a.name)) w.OrderedTwice
+    else where_so (stands_before standpoint (declared_as facts.ordered standpoint.name)) w.OrderedTwice
 
 -- C12
 abbrev pub wrong_priority : TextFacts → Standpoint → Option Wrong
-wrong_priority f a = if not (is_ordered a.position) then None else wrong_ordered f a
+wrong_priority facts standpoint = if not (is_ordered standpoint.position) then None else wrong_ordered facts standpoint
 
 -- ---- C9
 
@@ -386,25 +401,25 @@ is_variable _ = false
 
 -- what a name is cannot be assigned, or is no variable, where it is a loop's
 abbrev pub wrong_target_at : What → Position → Option Wrong
-wrong_target_at x p.Target = where_so (is_kept x) w.Fixed
-wrong_target_at x p.LoopVariable = where_so (not (is_variable x)) w.NoVariable
-wrong_target_at x _ = None
+wrong_target_at what p.Target = where_so (is_kept what) w.Fixed
+wrong_target_at what p.LoopVariable = where_so (not (is_variable what)) w.NoVariable
+wrong_target_at what _ = None
 
 -- C9
 abbrev pub wrong_target : TextFacts → Standpoint → Option Wrong
-wrong_target f a = wrong_target_at (known_in f a.name).what a.position
+wrong_target facts standpoint = wrong_target_at (known_in facts standpoint.name).what standpoint.position
 
 -- ---- all of them
 
 -- what a name breaks of a rule where it stands, if it does
 abbrev pub wrong : TextFacts → NameRule → Standpoint → Option Wrong
-wrong f rule.DeclaredTwice a = second_declaration f a
-wrong f rule.WrongClass a = where_so (is_wrong_class f a) w.WrongClass
-wrong f rule.WrongUse a = where_so (is_misused f a) w.WrongUse
-wrong f rule.WrongOwner a = wrong_owner f a
-wrong f rule.WrongMember a = wrong_member f a
-wrong f rule.WrongKey a = where_so (is_wrong_key f a) w.WrongKey
-wrong f rule.WrongCount a = None
-wrong f rule.WrongEvent a = wrong_event f a
-wrong f rule.FixedTarget a = wrong_target f a
-wrong f rule.WrongPriority a = wrong_priority f a
+wrong facts rule.DeclaredTwice standpoint = second_declaration facts standpoint
+wrong facts rule.WrongClass standpoint = where_so (is_wrong_class facts standpoint) w.WrongClass
+wrong facts rule.WrongUse standpoint = where_so (is_misused facts standpoint) w.WrongUse
+wrong facts rule.WrongOwner standpoint = wrong_owner facts standpoint
+wrong facts rule.WrongMember standpoint = wrong_member facts standpoint
+wrong facts rule.WrongKey standpoint = where_so (is_wrong_key facts standpoint) w.WrongKey
+wrong facts rule.WrongCount standpoint = None
+wrong facts rule.WrongEvent standpoint = wrong_event facts standpoint
+wrong facts rule.FixedTarget standpoint = wrong_target facts standpoint
+wrong facts rule.WrongPriority standpoint = wrong_priority facts standpoint

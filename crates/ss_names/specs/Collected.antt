@@ -33,15 +33,15 @@ section_behind _ = None
 
 -- in the list behind OWNS
 abbrev pub behind_owns : Here → Option Meaning
-behind_owns h = owned_behind h.last h.names
+behind_owns here = owned_behind here.last here.names
 
 -- in the list behind BELONGS TO
 abbrev pub behind_belongs : Here → Option Meaning
-behind_belongs h = joined_behind h.last h.names
+behind_belongs here = joined_behind here.last here.names
 
 -- directly behind EVENT
 abbrev pub behind_event : Here → Option Meaning
-behind_event h = section_behind h.before
+behind_event here = section_behind here.before
 
 -- HIGH or LOW
 abbrev pub is_rank : Option AReserved → Bool
@@ -61,7 +61,7 @@ set_only _ = None
 
 -- a key in a DEFINE
 abbrev pub behind_rank : Here → Option Meaning
-behind_rank h = if is_rank h.last && is_define h.begun then Some m.Attribute else None
+behind_rank here = if is_rank here.last && is_define here.begun then Some m.Attribute else None
 
 -- PRIORITY
 abbrev pub ordered_in : Option AReserved → Option Meaning
@@ -70,11 +70,11 @@ ordered_in _ = None
 
 -- in the list behind PRIORITY ORDER IS
 abbrev pub behind_priority : Here → Option Meaning
-behind_priority h = ordered_in h.begun
+behind_priority here = ordered_in here.begun
 
 -- a set in the list of its DEFINE
 abbrev pub behind_define : Here → Option Meaning
-behind_define h = if is_define h.last then set_only h.names else None
+behind_define here = if is_define here.last then set_only here.names else None
 
 -- BREAK
 abbrev pub broken_behind : Option AReserved → Option Meaning
@@ -83,7 +83,7 @@ broken_behind _ = None
 
 -- directly behind BREAK
 abbrev pub behind_break : Here → Option Meaning
-behind_break h = broken_behind h.last
+behind_break here = broken_behind here.last
 
 -- EXTERNAL
 abbrev pub external_in : Option AReserved → Option Meaning
@@ -92,23 +92,24 @@ external_in _ = None
 
 -- in the list behind EXTERNAL EVENTS ARE
 abbrev pub behind_external : Here → Option Meaning
-behind_external h = external_in h.begun
+behind_external here = external_in here.begun
 
 -- what a name is collected as here, if it is wanted
 abbrev pub collected_as : Wanted → Here → Option Meaning
-collected_as Declared h = h.names
-collected_as Owned h = behind_owns h
-collected_as Joined h = behind_belongs h
-collected_as Sections h = behind_event h
-collected_as Keys h = behind_rank h
-collected_as Ordered h = behind_priority h
-collected_as Disciplines h = behind_define h
-collected_as Ties h = behind_break h
-collected_as Externals h = behind_external h
+collected_as Declared here = here.names
+collected_as Owned here = behind_owns here
+collected_as Joined here = behind_belongs here
+collected_as Sections here = behind_event here
+collected_as Keys here = behind_rank here
+collected_as Ordered here = behind_priority here
+collected_as Disciplines here = behind_define here
+collected_as Ties here = behind_break here
+collected_as Externals here = behind_external here
 
 -- what stands before a word, where a name may begin an assignment
 abbrev pub here_at : Here → PlainAt → Here
-here_at h w = elim w.word [ name n ↦ at_name h w.line | number n ↦ h | mark k ↦ h | picture ls ↦ h ]
+here_at here word =
+    elim word.word [ name n ↦ at_name here word.line | number n ↦ here | mark k ↦ here | picture ls ↦ here ]
 
 -- EVERY
 abbrev pub is_every : Option AReserved → Bool
@@ -117,13 +118,13 @@ is_every _ = false
 
 -- the class of EVERY, or the last set of DEFINE, behind a word: its own, where the word is that
 abbrev pub class_at : Here → List ℕ → PlainAt → List ℕ
-class_at h class w = if is_every h.last || is_define h.last
-    then elim w.word [ name n ↦ n | number n ↦ class | mark k ↦ class | picture ls ↦ class ]
+class_at here class word = if is_every here.last || is_define here.last
+    then elim word.word [ name n ↦ n | number n ↦ class | mark k ↦ class | picture ls ↦ class ]
     else class
 
 -- the class by whose clause a name is declared here, or the set that a key ranks, empty where there is none
 abbrev pub class_of : Here → List ℕ → List ℕ
-class_of h class = if is_every h.begun || is_rank h.last then class else []
+class_of here class = if is_every here.begun || is_rank here.last then class else []
 
 -- how many values a routine is given by its head, before these words; another name 0
 abbrev pub head_given : Meaning → List PlainAt → ℕ
@@ -137,12 +138,12 @@ head_yielded _ ws = 0
 
 -- a name on a line, with its place, is declared as this here, before these words
 abbrev pub declaration : Here → List ℕ → List ℕ → PlainAt → List PlainAt → Meaning → Declaration
-declaration h class n w ws meaning = record {
+declaration here class n word ws meaning = record {
   name = n;
   meaning = meaning;
-  of = class_of h class;
-  line = w.line;
-  index = w.index;
+  of = class_of here class;
+  line = word.line;
+  index = word.index;
   given = head_given meaning ws;
   yielded = head_yielded meaning ws;
 }
@@ -157,8 +158,8 @@ with_name ds wanted h class n w ws = elim (collected_as wanted h) [
 
 -- a word put to it, before these
 abbrev pub with_word : List Declaration → Wanted → Here → List ℕ → PlainAt → List PlainAt → List Declaration
-with_word ds wanted h class w ws = elim w.word [
-  | name n ↦ with_name ds wanted h class n w ws
+with_word ds wanted here class word ws = elim word.word [
+  | name n ↦ with_name ds wanted here class n word ws
   | number n ↦ ds
   | mark k ↦ ds
   | picture ls ↦ ds
@@ -166,7 +167,7 @@ with_word ds wanted h class w ws = elim w.word [
 
 -- what is collected behind others of words, the first place of each name
 unfoldable pub collection : Wanted → List Declaration → Here → List ℕ → List PlainAt → List Declaration
-collection wanted ds h class [] = ds
-collection wanted ds h class (w ∷ ws) =
-    let k = here_at h w in
+collection wanted ds here class [] = ds
+collection wanted ds here class (w ∷ ws) =
+    let k = here_at here w in
     collection wanted (with_word ds wanted k class w ws) (behind k w.word w.line ws) (class_at k class w) ws

@@ -16,11 +16,12 @@ use Rattle.ss_names.specs.Values.{arguments, given_count, in_list}
 
 -- a CALL, with these words behind the name, has other counts than the head of the routine that is declared so
 abbrev pub differs : Declaration → List PlainAt → Bool
-differs d behind = not (given_count behind == d.given) || not (in_list l.Yielded behind == d.yielded)
+differs declaration behind =
+    not (given_count behind == declaration.given) || not (in_list l.Yielded behind == declaration.yielded)
 
 -- how many attributes a class has
 abbrev pub attribute_count : TextFacts → List ℕ → ℕ
-attribute_count f class = count_by (bytes_eq class) f.attributes
+attribute_count facts class = count_by (bytes_eq class) facts.attributes
 
 -- a function takes so many values
 abbrev pub takes : List ℕ → ℕ → Bool
@@ -29,15 +30,15 @@ takes n count = if is_among n (map (λ row. row.now) OF_ONE) then count == 1 els
 
 -- what is this has another count of arguments than it takes
 abbrev pub has_wrong_arguments_as : Standpoint → List PlainAt → What → Bool
-has_wrong_arguments_as a ws k.Function = not (takes a.name (arguments ws))
-has_wrong_arguments_as a ws (k.Declared m.Attribute) = a.opens && not (arguments ws == 1)
-has_wrong_arguments_as a ws k.OfOwners = a.opens && not (arguments ws == 1)
-has_wrong_arguments_as a ws k.OfMembers = a.opens && not (arguments ws == 1)
-has_wrong_arguments_as a ws _ = false
+has_wrong_arguments_as standpoint ws k.Function = not (takes standpoint.name (arguments ws))
+has_wrong_arguments_as standpoint ws (k.Declared m.Attribute) = standpoint.opens && not (arguments ws == 1)
+has_wrong_arguments_as standpoint ws k.OfOwners = standpoint.opens && not (arguments ws == 1)
+has_wrong_arguments_as standpoint ws k.OfMembers = standpoint.opens && not (arguments ws == 1)
+has_wrong_arguments_as standpoint ws _ = false
 
 -- a value or target has another count
 abbrev pub has_wrong_arguments : TextFacts → Standpoint → List PlainAt → Bool
-has_wrong_arguments f a ws = has_wrong_arguments_as a ws (known_in f a.name).what
+has_wrong_arguments facts standpoint ws = has_wrong_arguments_as standpoint ws (known_in facts standpoint.name).what
 
 -- a routine that is declared so, if it is, has other counts
 abbrev pub is_wrong_call_of : List PlainAt → Option Declaration → Bool
@@ -46,21 +47,21 @@ is_wrong_call_of behind None = false
 
 -- the routine that a CALL names has
 abbrev pub is_wrong_call : TextFacts → Standpoint → List PlainAt → Bool
-is_wrong_call f a behind = is_wrong_call_of behind (declared_as f.names a.name)
+is_wrong_call facts standpoint behind = is_wrong_call_of behind (declared_as facts.names standpoint.name)
 
 -- more values than a class has attributes
 abbrev pub is_past_attributes : TextFacts → Standpoint → List PlainAt → Bool
-is_past_attributes f a behind = nat_lt (attribute_count f a.name) (given_count behind)
+is_past_attributes facts standpoint behind = nat_lt (attribute_count facts standpoint.name) (given_count behind)
 
 -- where a name stands so
 abbrev pub has_wrong_count_at : TextFacts → Standpoint → List PlainAt → Position → Bool
-has_wrong_count_at f a behind p.Routine = is_wrong_call f a behind
-has_wrong_count_at f a behind p.EventClass = is_past_attributes f a behind
-has_wrong_count_at f a behind p.Head = is_past_attributes f a behind
-has_wrong_count_at f a behind p.Target = has_wrong_arguments f a behind
-has_wrong_count_at f a behind p.Value = has_wrong_arguments f a behind
-has_wrong_count_at f a behind _ = false
+has_wrong_count_at facts standpoint behind p.Routine = is_wrong_call facts standpoint behind
+has_wrong_count_at facts standpoint behind p.EventClass = is_past_attributes facts standpoint behind
+has_wrong_count_at facts standpoint behind p.Head = is_past_attributes facts standpoint behind
+has_wrong_count_at facts standpoint behind p.Target = has_wrong_arguments facts standpoint behind
+has_wrong_count_at facts standpoint behind p.Value = has_wrong_arguments facts standpoint behind
+has_wrong_count_at facts standpoint behind _ = false
 
 -- C7: a name has another count of values behind it than it takes
 abbrev pub has_wrong_count : TextFacts → Standpoint → List PlainAt → Bool
-has_wrong_count f a behind = has_wrong_count_at f a behind a.position
+has_wrong_count facts standpoint behind = has_wrong_count_at facts standpoint behind standpoint.position

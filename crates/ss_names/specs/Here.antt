@@ -86,7 +86,7 @@ begins_control _ = false
 
 -- a word that begins a preamble, a head or a place of a section
 abbrev pub begins_place : AReserved → Bool
-begins_place w = begins_frame w || begins_simple w || begins_control w
+begins_place word = begins_frame word || begins_simple word || begins_control word
 
 -- SAVING, behind which EVENT begins nothing
 abbrev pub is_saving : Option Mark → Bool
@@ -95,8 +95,8 @@ is_saving _ = false
 
 -- a word begins an item, a head or a place
 abbrev pub begins : AReserved → Bool → Option Mark → Bool
-begins w true before = begins_item w
-begins w false before = begins_place w && not (is_saving before)
+begins word true before = begins_item word
+begins word false before = begins_place word && not (is_saving before)
 
 -- a word with which a statement, a phrase or a head can end
 abbrev pub ends_form : AReserved → Bool
@@ -133,11 +133,11 @@ ends_statement (Some (Reserved w)) = ends_form w
 
 -- a name here begins an assignment without LET
 abbrev pub begins_assignment : Here → Bool
-begins_assignment h = not h.in_preamble && h.depth == 0 && ends_statement h.before
+begins_assignment here = not here.in_preamble && here.depth == 0 && ends_statement here.before
 
 -- at a name on this line: where it begins an assignment, that has begun
 abbrev pub at_name : Here → ℕ → Here
-at_name h line = if begins_assignment h then record h {
+at_name here line = if begins_assignment here then record here {
   names = None;
   begun = Some r.Let;
   line = line;
@@ -212,8 +212,8 @@ declared_by_item _ begun c sets = None
 
 -- what names behind a word are declared as
 abbrev pub declared_behind : AReserved → Bool → Option AReserved → Meaning → Bool → Option Meaning
-declared_behind w true begun c sets = declared_by_item w begun c sets
-declared_behind w false begun c sets = declared_by_head w
+declared_behind word true begun c sets = declared_by_item word begun c sets
+declared_behind word false begun c sets = declared_by_head word
 
 -- one name stands behind EVERY and ROUTINE, and a list behind the others
 abbrev pub names_behind_name : Option Meaning → Option AReserved → Option Meaning
@@ -236,41 +236,41 @@ depth_behind d _ = d
 
 -- behind a name
 abbrev pub behind_name : Here → Here
-behind_name h = record h { names = names_behind_name h.names h.last; before = None }
+behind_name here = record here { names = names_behind_name here.names here.last; before = None }
 
 -- behind a sign
 abbrev pub behind_sign : Here → ASign → Here
-behind_sign h x = record h {
-  names = names_behind_sign h.names x;
+behind_sign here x = record here {
+  names = names_behind_sign here.names x;
   before = Some (Sign x);
-  depth = depth_behind h.depth x;
+  depth = depth_behind here.depth x;
 }
 
 -- behind a reserved word on this line, a DEFINE being of sets or not
 abbrev pub behind_reserved : Here → AReserved → ℕ → Bool → Here
-behind_reserved h w line sets =
-    let starts = begins w h.in_preamble h.before in
-    let begun = if starts then Some w else h.begun in
-    let class = class_behind w h.class in
+behind_reserved here word line sets =
+    let starts = begins word here.in_preamble here.before in
+    let begun = if starts then Some word else here.begun in
+    let class = class_behind word here.class in
     record {
-      in_preamble = opens_preamble w h.in_preamble;
+      in_preamble = opens_preamble word here.in_preamble;
       class = class;
-      names = declared_behind w h.in_preamble begun class sets;
+      names = declared_behind word here.in_preamble begun class sets;
       begun = begun;
-      line = if starts then line else h.line;
-      before = Some (Reserved w);
-      last = Some w;
-      depth = if starts then 0 else h.depth;
+      line = if starts then line else here.line;
+      before = Some (Reserved word);
+      last = Some word;
+      depth = if starts then 0 else here.depth;
     }
 
 -- behind a reserved word or sign on this line, before these words
 abbrev pub behind_mark : Here → Mark → ℕ → List PlainAt → Here
-behind_mark h (Sign x) line ws = behind_sign h x
-behind_mark h (Reserved w) line ws = behind_reserved h w line (is_define w && defines_sets ws)
+behind_mark here (Sign x) line ws = behind_sign here x
+behind_mark here (Reserved w) line ws = behind_reserved here w line (is_define w && defines_sets ws)
 
 -- behind a word on this line, before these words
 abbrev pub behind : Here → Plain → ℕ → List PlainAt → Here
-behind h (name n) line ws = behind_name h
-behind h (number n) line ws = record h { before = None }
-behind h (mark j) line ws = behind_mark h j line ws
-behind h (picture ls) line ws = record h { before = None }
+behind here (name n) line ws = behind_name here
+behind here (number n) line ws = record here { before = None }
+behind here (mark j) line ws = behind_mark here j line ws
+behind here (picture ls) line ws = record here { before = None }

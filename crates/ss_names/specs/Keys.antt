@@ -18,7 +18,7 @@ is_end _ = false
 
 -- the section behind a word, told by the place of the END before it
 abbrev pub section_behind : ℕ → PlainAt → ℕ
-section_behind section w = if is_end (mark_in w.word) then w.index else section
+section_behind section word = if is_end (mark_in word.word) then word.index else section
 
 -- what a name is counted as: itself where it is declared, else with its section before it
 abbrev pub key : List Declaration → ℕ → List ℕ → List ℕ
@@ -26,16 +26,16 @@ key ds section n = if is_some (declared_as ds n) then n else decimal section ++ 
 
 -- all names are counted, or those with a role
 abbrev pub is_counted : Option Role → Standing → Bool
-is_counted (Some role) s = same_role (role_at s) role
-is_counted None s = true
+is_counted (Some role) standing = same_role (role_at standing) role
+is_counted None standing = true
 
 -- what each name with a role among words is counted as, or each name, behind others
 unfoldable pub keys_with : List Declaration → Option Role → ℕ → Standing → List PlainAt → List (List ℕ)
-keys_with ds role section s [] = []
-keys_with ds role section s (w ∷ ws) =
-    let rest = keys_with ds role (section_behind section w) (behind s (mark_in w.word)) ws in
+keys_with ds role section standing [] = []
+keys_with ds role section standing (w ∷ ws) =
+    let rest = keys_with ds role (section_behind section w) (behind standing (mark_in w.word)) ws in
     elim w.word [
-      | name n ↦ elim (is_counted role s) [ true ↦ key ds section n ∷ rest | false ↦ rest ]
+      | name n ↦ elim (is_counted role standing) [ true ↦ key ds section n ∷ rest | false ↦ rest ]
       | number n ↦ rest
       | mark m ↦ rest
       | picture ls ↦ rest

@@ -48,7 +48,8 @@ companion_what front _ = k.Undeclared
 
 -- before a declared name
 abbrev pub companion_of : List ℕ → Declaration → Knowledge
-companion_of front d = record { what = companion_what front d.meaning; of = d.name; line = d.line }
+companion_of front declaration =
+    record { what = companion_what front declaration.meaning; of = declaration.name; line = declaration.line }
 
 -- before a name, if that is declared
 abbrev pub companion_by : List ℕ → Option Declaration → Knowledge
@@ -115,4 +116,5 @@ line_text line = if line == 0 then [] else codes ", line " ++ decimal line
 
 -- what a name is, of which class or set, and where that is declared
 abbrev pub known_text : Knowledge → List ℕ
-known_text a = what_text a.what ++ of_text (tells_of a.what) a.of ++ line_text a.line
+known_text knowledge =
+    what_text knowledge.what ++ of_text (tells_of knowledge.what) knowledge.of ++ line_text knowledge.line

@@ -38,11 +38,11 @@ is_priority _ = false
 
 -- the line of the first MAIN behind a word
 abbrev pub main_behind : ℕ → PlainAt → ℕ
-main_behind main w = if is_main (mark_in w.word) then first_or main w.line else main
+main_behind main word = if is_main (mark_in word.word) then first_or main word.line else main
 
 -- the line of the first PRIORITY behind a word
 abbrev pub priority_behind : ℕ → PlainAt → ℕ
-priority_behind priority w = if is_priority (mark_in w.word) then first_or priority w.line else priority
+priority_behind priority word = if is_priority (mark_in word.word) then first_or priority word.line else priority
 
 -- ROUTINE or EVENT
 abbrev pub is_head : Option Mark → Bool
@@ -52,16 +52,16 @@ is_head _ = false
 
 -- a name here is that of a section
 abbrev pub names_section : Here → Bool
-names_section h = not h.in_preamble && is_head h.before
+names_section here = not here.in_preamble && is_head here.before
 
 -- a name here, where it is that of a section; or else this
 abbrev pub section_or : List ℕ → Here → List ℕ → List ℕ
-section_or section h n = if names_section h then n else section
+section_or section here n = if names_section here then n else section
 
 -- the name of the section behind a word, empty behind MAIN
 abbrev pub section_behind : List ℕ → Here → PlainAt → List ℕ
-section_behind section h w = if is_main (mark_in w.word) then [] else elim w.word [
-  | name n ↦ section_or section h n
+section_behind section here word = if is_main (mark_in word.word) then [] else elim word.word [
+  | name n ↦ section_or section here n
   | number n ↦ section
   | mark j ↦ section
   | picture ls ↦ section
@@ -69,17 +69,18 @@ section_behind section h w = if is_main (mark_in w.word) then [] else elim w.wor
 
 -- the line of a head, where a name here is that of a section; or else this
 abbrev pub head_or : ℕ → Here → ℕ
-head_or head h = if names_section h then h.line else head
+head_or head here = if names_section here then here.line else head
 
 -- the line of the head of the section behind a word
 abbrev pub head_behind : ℕ → Here → PlainAt → ℕ
-head_behind head h w = elim w.word [ name n ↦ head_or head h | number n ↦ head | mark j ↦ head | picture ls ↦ head ]
+head_behind head here word =
+    elim word.word [ name n ↦ head_or head here | number n ↦ head | mark j ↦ head | picture ls ↦ head ]
 
 -- behind a further word
 abbrev pub landmarks_behind : Landmarks → Here → PlainAt → Landmarks
-landmarks_behind a h w = record {
-  main = main_behind a.main w;
-  priority = priority_behind a.priority w;
-  section = section_behind a.section h w;
-  head = head_behind a.head h w;
+landmarks_behind landmarks here word = record {
+  main = main_behind landmarks.main word;
+  priority = priority_behind landmarks.priority word;
+  section = section_behind landmarks.section here word;
+  head = head_behind landmarks.head here word;
 }

@@ -24,14 +24,14 @@ pub record Declaration : Type 0 where
 
 -- a declaration of the code
 abbrev pub declaration_at : Row → Declaration
-declaration_at r = record {
-  name = r.name.now;
-  meaning = r.meaning;
-  of = r.of.now;
-  line = r.line;
-  index = r.index;
-  given = r.given;
-  yielded = r.yielded;
+declaration_at row = record {
+  name = row.name.now;
+  meaning = row.meaning;
+  of = row.of.now;
+  line = row.line;
+  index = row.index;
+  given = row.given;
+  yielded = row.yielded;
 }
 
 -- the names of declarations
@@ -54,7 +54,7 @@ declared_as (d ∷ ds) n = if bytes_eq n d.name then Some d else declared_as ds 
 
 -- declarations with a further one, unless its name has one
 abbrev pub with_declaration : List Declaration → Declaration → List Declaration
-with_declaration ds d = if is_some (declared_as ds d.name) then ds else ds ++ d ∷ []
+with_declaration ds declaration = if is_some (declared_as ds declaration.name) then ds else ds ++ declaration ∷ []
 
 -- an attribute
 abbrev pub is_attribute : Meaning → Bool

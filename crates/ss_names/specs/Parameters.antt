@@ -40,4 +40,4 @@ is_head _ = false
 
 -- a name here is a parameter that stands again in its head, before these words
 abbrev pub is_repeated : Here → List ℕ → List PlainAt → Bool
-is_repeated h n ws = not h.in_preamble && is_head h.begun && stands_again n false ws
+is_repeated here n ws = not here.in_preamble && is_head here.begun && stands_again n false ws

@@ -155,13 +155,13 @@ in_list begun last =
 
 -- in a statement, behind this word or sign
 abbrev pub behind_mark : Here → Option Mark → Bool → Position
-behind_mark h (Some (Reserved w)) before_in = behind_word w h.begun before_in
-behind_mark h (Some (Sign s.Comma)) before_in = if h.depth == 0 then in_list h.begun h.last else p.Value
-behind_mark h _ before_in = p.Value
+behind_mark here (Some (Reserved w)) before_in = behind_word w here.begun before_in
+behind_mark here (Some (Sign s.Comma)) before_in = if here.depth == 0 then in_list here.begun here.last else p.Value
+behind_mark here _ before_in = p.Value
 
 -- in a statement, before these words
 abbrev pub in_statement : Here → List PlainAt → Position
-in_statement h ws = if asks_empty ws then p.InSet else behind_mark h h.before (is_in (first_mark ws))
+in_statement here ws = if asks_empty ws then p.InSet else behind_mark here here.before (is_in (first_mark ws))
 
 -- in the head of a section
 abbrev pub in_head : Option Mark → Position
@@ -180,14 +180,14 @@ in_break _ = p.Key
 
 -- in what this word begins, before these words
 abbrev pub in_begun : Here → Option AReserved → List PlainAt → Position
-in_begun h (Some r.Routine) ws = in_head h.before
-in_begun h (Some r.Event) ws = in_head h.before
-in_begun h (Some r.Define) ws = in_define h.last
-in_begun h (Some r.Break) ws = in_break h.last
-in_begun h (Some r.External) ws = p.EventClass
-in_begun h (Some r.Priority) ws = p.Ordered
-in_begun h _ ws = in_statement h ws
+in_begun here (Some r.Routine) ws = in_head here.before
+in_begun here (Some r.Event) ws = in_head here.before
+in_begun here (Some r.Define) ws = in_define here.last
+in_begun here (Some r.Break) ws = in_break here.last
+in_begun here (Some r.External) ws = p.EventClass
+in_begun here (Some r.Priority) ws = p.Ordered
+in_begun here _ ws = in_statement here ws
 
 -- how a name stands here, before these words
 abbrev pub position : Here → List PlainAt → Position
-position h ws = if is_some h.names then p.Declared else in_begun h h.begun ws
+position here ws = if is_some here.names then p.Declared else in_begun here here.begun ws

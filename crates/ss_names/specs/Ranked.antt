@@ -38,11 +38,11 @@ is_file _ = false
 
 -- a name here is what FILE files
 abbrev pub is_member : Here → Bool
-is_member h = is_file h.begun && is_file_end h.before
+is_member here = is_file here.begun && is_file_end here.before
 
 -- a name here is the set of a FILE
 abbrev pub is_filed_set : Here → Bool
-is_filed_set h = is_file h.begun && is_behind_in h.before
+is_filed_set here = is_file here.begun && is_behind_in here.before
 
 -- a REMOVE, and the end of a branch, a loop or a section, end what is known of a FILE
 abbrev pub forgets : AReserved → Bool
@@ -60,20 +60,21 @@ forgets_at _ = false
 
 -- the same of a word
 abbrev pub is_forgetting : PlainAt → Bool
-is_forgetting w = forgets_at (mark_in w.word)
+is_forgetting word = forgets_at (mark_in word.word)
 
 -- a word that is a name, or else this
 abbrev pub name_or : PlainAt → List ℕ → List ℕ
-name_or w ns = elim w.word [ name n ↦ n | number n ↦ ns | mark j ↦ ns | picture ls ↦ ns ]
+name_or word ns = elim word.word [ name n ↦ n | number n ↦ ns | mark j ↦ ns | picture ls ↦ ns ]
 
 -- the name of the member that was filed last, behind a word, empty where none was
 abbrev pub member_behind : List ℕ → Here → PlainAt → List ℕ
-member_behind member h w = if is_forgetting w then [] else if is_member h then name_or w member else member
+member_behind member here word =
+    if is_forgetting word then [] else if is_member here then name_or word member else member
 
 -- the name of the set into which it was filed, behind a word, empty where none is named yet
 abbrev pub set_behind : List ℕ → Here → PlainAt → List ℕ
-set_behind set h w =
-    if is_forgetting w || is_member h then [] else if is_filed_set h then name_or w set else set
+set_behind set here word =
+    if is_forgetting word || is_member here then [] else if is_filed_set here then name_or word set else set
 
 -- ---- the entity of an attribute
 
@@ -110,8 +111,8 @@ is_target _ = false
 
 -- a name is a key that is set of an entity behind its FILE
 abbrev pub is_told : List Declaration → List Declaration → List ℕ → List ℕ → Here → List ℕ → List PlainAt → Bool
-is_told names keys member set h n ws =
-    is_target (position h ws) && not (length set == 0) && ranks keys n set && bytes_eq (entity names n ws) member
+is_told names keys member set here n ws =
+    is_target (position here ws) && not (length set == 0) && ranks keys n set && bytes_eq (entity names n ws) member
 
 -- what is said of a name
 abbrev pub ranked_name :

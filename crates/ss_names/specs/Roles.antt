@@ -37,19 +37,21 @@ calls _ b = b
 
 -- behind a reserved word or a sign; DEFINE and HAS are open up to the next reserved word
 abbrev pub behind_mark : Standing → Mark → Standing
-behind_mark s (Sign x) =
-    record { before = Some (Sign x); in_define = s.in_define; in_has = s.in_has; in_call = s.in_call }
-behind_mark s (Reserved w) = record {
+behind_mark standing (Sign x) =
+    record { before = Some (Sign x); in_define = standing.in_define; in_has = standing.in_has;
+        in_call = standing.in_call }
+behind_mark standing (Reserved w) = record {
   before = Some (Reserved w);
   in_define = is_define w;
   in_has = is_has w;
-  in_call = calls w s.in_call;
+  in_call = calls w standing.in_call;
 }
 
 -- behind a word
 abbrev pub behind : Standing → Option Mark → Standing
-behind s None = record { before = None; in_define = s.in_define; in_has = s.in_has; in_call = s.in_call }
-behind s (Some m) = behind_mark s m
+behind standing None =
+    record { before = None; in_define = standing.in_define; in_has = standing.in_has; in_call = standing.in_call }
+behind standing (Some m) = behind_mark standing m
 
 -- ---- what a name is there
 
@@ -98,7 +100,9 @@ role_behind in_call (Some (Reserved w)) = set_or (sets_name w in_call) (read_or_
 
 -- what a name is at this place
 abbrev pub role_at : Standing → Role
-role_at s = elim (s.in_define || s.in_has) [ true ↦ Declared | false ↦ role_behind s.in_call s.before ]
+role_at standing =
+    elim (standing.in_define
+        || standing.in_has) [ true ↦ Declared | false ↦ role_behind standing.in_call standing.before ]
 
 -- FOR
 abbrev pub is_for : Option Mark → Bool
@@ -108,7 +112,7 @@ is_for _ = false
 -- a name may well stand once here: as an attribute, which may only carry a value given in its place, or as the variable
 -- of a loop that only counts
 abbrev pub may_stand_once : Standing → Bool
-may_stand_once s = s.in_has || is_for s.before
+may_stand_once standing = standing.in_has || is_for standing.before
 
 -- two roles are the same
 abbrev pub same_role : Role → Role → Bool
@@ -122,26 +126,26 @@ same_role _ _ = false
 
 -- the names with this role among words, behind others
 unfoldable pub names_with : Role → Standing → List PlainAt → List (List ℕ)
-names_with role s [] = []
-names_with role s (w ∷ ws) = elim w.word [
-  | name n ↦ elim (same_role (role_at s) role) [
-    | true ↦ n ∷ names_with role (behind s None) ws
-    | false ↦ names_with role (behind s None) ws
+names_with role standing [] = []
+names_with role standing (w ∷ ws) = elim w.word [
+  | name n ↦ elim (same_role (role_at standing) role) [
+    | true ↦ n ∷ names_with role (behind standing None) ws
+    | false ↦ names_with role (behind standing None) ws
   ]
-  | number n ↦ names_with role (behind s None) ws
-  | mark m ↦ names_with role (behind s (Some m)) ws
-  | picture ls ↦ names_with role (behind s None) ws
+  | number n ↦ names_with role (behind standing None) ws
+  | mark m ↦ names_with role (behind standing (Some m)) ws
+  | picture ls ↦ names_with role (behind standing None) ws
 ]
 
 -- the lines on which this name stands with this role, each behind a blank
 unfoldable pub lines_with : Role → List ℕ → Standing → List PlainAt → List ℕ
-lines_with role name_told s [] = []
-lines_with role name_told s (w ∷ ws) = elim w.word [
-  | name n ↦ elim (same_role (role_at s) role && bytes_eq n name_told) [
-    | true ↦ (32 ∷ decimal w.line) ++ lines_with role name_told (behind s None) ws
-    | false ↦ lines_with role name_told (behind s None) ws
+lines_with role name_told standing [] = []
+lines_with role name_told standing (w ∷ ws) = elim w.word [
+  | name n ↦ elim (same_role (role_at standing) role && bytes_eq n name_told) [
+    | true ↦ (32 ∷ decimal w.line) ++ lines_with role name_told (behind standing None) ws
+    | false ↦ lines_with role name_told (behind standing None) ws
   ]
-  | number n ↦ lines_with role name_told (behind s None) ws
-  | mark m ↦ lines_with role name_told (behind s (Some m)) ws
-  | picture ls ↦ lines_with role name_told (behind s None) ws
+  | number n ↦ lines_with role name_told (behind standing None) ws
+  | mark m ↦ lines_with role name_told (behind standing (Some m)) ws
+  | picture ls ↦ lines_with role name_told (behind standing None) ws
 ]

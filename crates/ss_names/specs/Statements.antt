@@ -42,12 +42,12 @@ asks_about _ _ = false
 
 -- the same of a reserved word or sign, if there is one
 abbrev pub asks_about_mark : StatementRule → Option Mark → Bool
-asks_about_mark x (Some (Reserved w)) = asks_about x w
-asks_about_mark x _ = false
+asks_about_mark rule (Some (Reserved w)) = asks_about rule w
+asks_about_mark rule _ = false
 
 -- the same of a word of the text
 abbrev pub asks_at : StatementRule → PlainAt → Bool
-asks_at x w = asks_about_mark x (mark_in w.word)
+asks_at rule word = asks_about_mark rule (mark_in word.word)
 
 -- FOUND or NONE
 abbrev pub is_of_find : Option Mark → Bool
@@ -63,19 +63,21 @@ is_find _ = false
 -- the statement before these words breaks a rule that asks about it: MAIN or PRIORITY stands before it, its section has
 -- a name, no FIND stands directly before it; of a line with a C10 its PRINT does, since a picture ends its line
 abbrev pub is_broken : StatementRule → Landmarks → Here → List PlainAt → Bool
-is_broken rule.WrongPicture a h ws = true
-is_broken rule.WrongMain a h ws = nat_lt 0 a.main
-is_broken rule.SecondPriority a h ws = nat_lt 0 a.priority
-is_broken rule.WrongStart a h ws = not (length a.section == 0)
-is_broken rule.WithoutFind a h ws = is_of_find (first_mark ws) && not (is_find h.begun)
+is_broken rule.WrongPicture landmarks here ws = true
+is_broken rule.WrongMain landmarks here ws = nat_lt 0 landmarks.main
+is_broken rule.SecondPriority landmarks here ws = nat_lt 0 landmarks.priority
+is_broken rule.WrongStart landmarks here ws = not (length landmarks.section == 0)
+is_broken rule.WithoutFind landmarks here ws = is_of_find (first_mark ws) && not (is_find here.begun)
 
 -- a word on this line begins a statement that breaks a rule
 abbrev pub is_broken_at : StatementRule → ℕ → Landmarks → Here → PlainAt → List PlainAt → Bool
-is_broken_at x line a h w ws = w.line == line && asks_at x w && is_broken x a h ws
+is_broken_at rule line landmarks here word ws =
+    word.line == line && asks_at rule word && is_broken rule landmarks here ws
 
 -- the landmarks of the code
 abbrev pub landmarks_at : Track → Landmarks
-landmarks_at a = record { main = a.main; priority = a.priority; section = a.section.now; head = a.head }
+landmarks_at track =
+    record { main = track.main; priority = track.priority; section = track.section.now; head = track.head }
 
 -- a statement: the landmarks before it, the line on which what stands before it begins, the count of its values and its
 -- picture
@@ -91,27 +93,28 @@ pub record Spot : Type 0 where
 
 -- a statement of the code
 abbrev pub spot_at : Beginning → Spot
-spot_at a = record {
-  landmarks = record { main = a.main; priority = a.priority; section = a.section.now; head = a.head };
-  line = a.line;
-  values = a.values;
-  picture = map (λ l. l.items) a.picture.now;
+spot_at beginning = record {
+  landmarks = record { main = beginning.main; priority = beginning.priority; section = beginning.section.now;
+      head = beginning.head };
+  line = beginning.line;
+  values = beginning.values;
+  picture = map (λ l. l.items) beginning.picture.now;
 }
 
 -- the statement that a word begins, before these words, if it begins on a line and breaks a rule
 abbrev pub word_statement : StatementRule → ℕ → Landmarks → Here → PlainAt → List PlainAt → Option Spot
-word_statement x line a h w ws = if is_broken_at x line a h w ws
-    then Some (record { landmarks = a; line = h.line; values = value_count ws; picture = first_picture ws })
+word_statement rule line landmarks here word ws = if is_broken_at rule line landmarks here word ws
+    then Some (record { landmarks = landmarks; line = here.line; values = value_count ws; picture = first_picture ws })
     else None
 
 -- the first statement that begins on a line and breaks a rule, among words behind others
 unfoldable pub statement : StatementRule → ℕ → Landmarks → Here → List PlainAt → Option Spot
-statement x line a h [] = None
-statement x line a h (w ∷ ws) =
-    let at = here_at h w in
-    elim (word_statement x line a at w ws) [
+statement rule line landmarks here [] = None
+statement rule line landmarks here (w ∷ ws) =
+    let at = here_at here w in
+    elim (word_statement rule line landmarks at w ws) [
       | Some found ↦ Some found
-      | None ↦ statement x line (landmarks_behind a at w) (behind at w.word w.line ws) ws
+      | None ↦ statement rule line (landmarks_behind landmarks at w) (behind at w.word w.line ws) ws
     ]
 
 -- MAIN stands among words
@@ -128,14 +131,14 @@ section_text n line =
 
 -- what is said of a statement that breaks a rule
 abbrev pub statement_text : StatementRule → Spot → List ℕ
-statement_text rule.WrongPicture a = picture_text a.values (fields_in a.picture)
-statement_text rule.WrongMain a =
-    number_text (codes "The first MAIN stands on line ") a.landmarks.main (codes ".\n")
-statement_text rule.SecondPriority a =
-    number_text (codes "The first PRIORITY stands on line ") a.landmarks.priority (codes ".\n")
-statement_text rule.WrongStart a = section_text a.landmarks.section a.landmarks.head
-statement_text rule.WithoutFind a =
-    number_text (codes "What begins on line ") a.line (codes " stands before it, and is no FIND.\n")
+statement_text rule.WrongPicture spot = picture_text spot.values (fields_in spot.picture)
+statement_text rule.WrongMain spot =
+    number_text (codes "The first MAIN stands on line ") spot.landmarks.main (codes ".\n")
+statement_text rule.SecondPriority spot =
+    number_text (codes "The first PRIORITY stands on line ") spot.landmarks.priority (codes ".\n")
+statement_text rule.WrongStart spot = section_text spot.landmarks.section spot.landmarks.head
+statement_text rule.WithoutFind spot =
+    number_text (codes "What begins on line ") spot.line (codes " stands before it, and is no FIND.\n")
 
 -- C11
 abbrev pub is_main_rule : StatementRule → Bool
@@ -144,13 +147,13 @@ is_main_rule _ = false
 
 -- what is said where there is no such statement among words: that no section is MAIN
 abbrev pub no_statement_text : StatementRule → List PlainAt → List ℕ
-no_statement_text x ws = if is_main_rule x && not (has_main ws) then codes "No section is MAIN.\n" else []
+no_statement_text rule ws = if is_main_rule rule && not (has_main ws) then codes "No section is MAIN.\n" else []
 
 -- what is said of the statement of a text, if there is one
 abbrev pub found_text : StatementRule → List PlainAt → Option Spot → List ℕ
-found_text x ws (Some a) = statement_text x a
-found_text x ws None = no_statement_text x ws
+found_text rule ws (Some a) = statement_text rule a
+found_text rule ws None = no_statement_text rule ws
 
 -- what is said of the first statement that begins on a line of a text and breaks a rule
 abbrev pub statement_breach : StatementRule → ℕ → List PlainAt → List ℕ
-statement_breach x line ws = found_text x ws (statement x line no_landmarks at_start ws)
+statement_breach rule line ws = found_text rule ws (statement rule line no_landmarks at_start ws)

@@ -54,15 +54,15 @@ facts_of ws = let names = collection Declared [] at_start [] ws in record {
 
 -- a name where it stands, before these words
 abbrev pub standpoint : Here → List ℕ → List ℕ → ℕ → List PlainAt → Standpoint
-standpoint h ranked n index ws = record {
+standpoint here ranked n index ws = record {
   name = n;
   index = index;
-  position = position h ws;
-  declared = h.names;
-  begun = h.begun;
-  last = h.last;
+  position = position here ws;
+  declared = here.names;
+  begun = here.begun;
+  last = here.last;
   opens = opens ws;
-  repeated = is_repeated h n ws;
+  repeated = is_repeated here n ws;
   ranked = ranked;
 }
 
@@ -75,23 +75,23 @@ class_in None = []
 
 -- the class of a set's members, empty where there is none
 abbrev pub members_of : TextFacts → List ℕ → List ℕ
-members_of f s = class_in (declared_as f.joined s)
+members_of facts s = class_in (declared_as facts.joined s)
 
 -- behind a name in a list behind this word: of a set that DEFINE names its members', of an event that BREAK names the
 -- event
 abbrev pub ranked_behind_word : TextFacts → Option AReserved → List ℕ → List ℕ → List ℕ
-ranked_behind_word f (Some r.Define) ranked n = members_of f n
-ranked_behind_word f (Some r.Break) ranked n = n
-ranked_behind_word f _ ranked n = ranked
+ranked_behind_word facts (Some r.Define) ranked n = members_of facts n
+ranked_behind_word facts (Some r.Break) ranked n = n
+ranked_behind_word facts _ ranked n = ranked
 
 -- behind a name
 abbrev pub ranked_behind : TextFacts → Here → List ℕ → List ℕ → List ℕ
-ranked_behind f h ranked n = ranked_behind_word f h.last ranked n
+ranked_behind facts here ranked n = ranked_behind_word facts here.last ranked n
 
 -- behind a word
 abbrev pub ranked_at : TextFacts → Here → List ℕ → PlainAt → List ℕ
-ranked_at f h ranked w = elim w.word [
-  | name n ↦ ranked_behind f h ranked n
+ranked_at facts here ranked word = elim word.word [
+  | name n ↦ ranked_behind facts here ranked n
   | number n ↦ ranked
   | mark m ↦ ranked
   | picture ls ↦ ranked
@@ -106,18 +106,19 @@ subject_with n None = None
 
 -- what a name breaks of a rule, before these words
 abbrev pub wrong_before : TextFacts → NameRule → Standpoint → List PlainAt → Option Wrong
-wrong_before f rule.WrongCount a ws = where_so (has_wrong_count f a ws) w.WrongCount
-wrong_before f x a ws = wrong f x a
+wrong_before facts rule.WrongCount standpoint ws = where_so (has_wrong_count facts standpoint ws) w.WrongCount
+wrong_before facts rule standpoint ws = wrong facts rule standpoint
 
 -- what a name breaks, if it is one of what begins on a line
 abbrev pub name_subject : TextFacts → NameRule → ℕ → Here → List ℕ → List ℕ → ℕ → List PlainAt → Option Subject
-name_subject f x line h ranked n index ws =
-    if not (h.line == line) then None else subject_with n (wrong_before f x (standpoint h ranked n index ws) ws)
+name_subject facts rule line here ranked n index ws =
+    if not (here.line == line) then None
+        else subject_with n (wrong_before facts rule (standpoint here ranked n index ws) ws)
 
 -- what a word breaks
 abbrev pub word_subject : TextFacts → NameRule → ℕ → Here → List ℕ → PlainAt → List PlainAt → Option Subject
-word_subject f x line h ranked w ws = elim w.word [
-  | name n ↦ name_subject f x line h ranked n w.index ws
+word_subject facts rule line here ranked word ws = elim word.word [
+  | name n ↦ name_subject facts rule line here ranked n word.index ws
   | number n ↦ None
   | mark m ↦ None
   | picture ls ↦ None
@@ -125,12 +126,12 @@ word_subject f x line h ranked w ws = elim w.word [
 
 -- the first name of what begins on a line of a text that breaks a rule
 unfoldable pub subject : TextFacts → NameRule → ℕ → Here → List ℕ → List PlainAt → Option Subject
-subject f x line h ranked [] = None
-subject f x line h ranked (w ∷ ws) =
-    let at = here_at h w in
-    elim (word_subject f x line at ranked w ws) [
+subject facts rule line here ranked [] = None
+subject facts rule line here ranked (w ∷ ws) =
+    let at = here_at here w in
+    elim (word_subject facts rule line at ranked w ws) [
       | Some found ↦ Some found
-      | None ↦ subject f x line (behind at w.word w.line ws) (ranked_at f at ranked w) ws
+      | None ↦ subject facts rule line (behind at w.word w.line ws) (ranked_at facts at ranked w) ws
     ]
 
 -- ---- as it is told
@@ -163,40 +164,40 @@ knowledge_or _ a b = a
 
 -- what the language, a set or a class gives a name, or else what it is declared as
 abbrev pub first_known : TextFacts → List ℕ → Knowledge
-first_known f n = let a = knowledge_given f.names n in knowledge_or a.what a (knowledge_of f.names n)
+first_known facts n = let a = knowledge_given facts.names n in knowledge_or a.what a (knowledge_of facts.names n)
 
 -- what is known, with this line, if there is one
 abbrev pub told_place : Knowledge → Option ℕ → Knowledge
-told_place a (Some line) = record a { line = line }
-told_place a None = a
+told_place knowledge (Some line) = record knowledge { line = line }
+told_place knowledge None = knowledge
 
 -- the line of a declaration
 abbrev pub line_in : Option Declaration → Option ℕ
-line_in d = option_map (λ x. x.line) d
+line_in declaration = option_map (λ x. x.line) declaration
 
 -- the first place of a name that stands a second time: behind OWNS, BELONGS TO, PRIORITY, DEFINE, BREAK, EXTERNAL
 abbrev pub first_place : TextFacts → List ℕ → Wrong → Option Declaration
-first_place f n w.OwnedTwice = declared_as f.owned n
-first_place f n w.JoinedTwice = declared_as f.joined n
-first_place f n w.OrderedTwice = declared_as f.ordered n
-first_place f n w.DisciplinedTwice = declared_as f.disciplines n
-first_place f n w.BrokenTwice = declared_as f.ties n
-first_place f n w.ExternalTwice = declared_as f.externals n
-first_place f n _ = None
+first_place facts n w.OwnedTwice = declared_as facts.owned n
+first_place facts n w.JoinedTwice = declared_as facts.joined n
+first_place facts n w.OrderedTwice = declared_as facts.ordered n
+first_place facts n w.DisciplinedTwice = declared_as facts.disciplines n
+first_place facts n w.BrokenTwice = declared_as facts.ties n
+first_place facts n w.ExternalTwice = declared_as facts.externals n
+first_place facts n _ = None
 
 -- what a name is, with the line of that place, if it has one; where its declaration is wrong, what it is first
 abbrev pub told_by : TextFacts → List ℕ → Wrong → Knowledge
-told_by f n w.DeclaredTwice = first_known f n
-told_by f n x = told_place (knowledge_of f.names n) (line_in (first_place f n x))
+told_by facts n w.DeclaredTwice = first_known facts n
+told_by facts n wrong = told_place (knowledge_of facts.names n) (line_in (first_place facts n wrong))
 
 -- what the name of a subject is
 abbrev pub told_as : TextFacts → Subject → Knowledge
-told_as f x = told_by f x.name x.wrong
+told_as facts subject = told_by facts subject.name subject.wrong
 
 -- what is said of a subject, if there is one
 abbrev pub subject_text : TextFacts → Option Subject → List ℕ
-subject_text f (Some x) = x.name ++ codes " is " ++ known_text (told_as f x) ++ wrong_text x.wrong
-subject_text f None = []
+subject_text facts (Some x) = x.name ++ codes " is " ++ known_text (told_as facts x) ++ wrong_text x.wrong
+subject_text facts None = []
 
 -- what a breach of a rule on a line is about, among these words, if the rule is about names
 abbrev pub name_breach : List PlainAt → ℕ → Option NameRule → List ℕ

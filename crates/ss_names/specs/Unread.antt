@@ -39,8 +39,8 @@ use_counts ds role ws = record {
 -- a name that stands more than once in the text, is used in one way alone, stands here first, and is not the
 -- language's; the name by itself, and as it is counted
 abbrev pub is_told : List (List ℕ) → UseCounts → List (List ℕ) → List ℕ → List ℕ → Bool
-is_told names c before n k =
-    nat_lt 1 (count_by (bytes_eq n) names) && is_only c.all c.declared c.used k
+is_told names counts before n k =
+    nat_lt 1 (count_by (bytes_eq n) names) && is_only counts.all counts.declared counts.used k
     && count_by (bytes_eq k) before == 0 && not (is_of_language n)
 
 -- what is said of a name on a line behind others
@@ -56,8 +56,8 @@ section_name said names ds c before section line n = only_name said names c befo
 
 -- what is said of a word behind others
 abbrev pub only_word : List ℕ → List (List ℕ) → List Declaration → UseCounts → List (List ℕ) → ℕ → PlainAt → List ℕ
-only_word said names ds c before section w = elim w.word [
-  | name n ↦ section_name said names ds c before section w.line n
+only_word said names ds counts before section word = elim word.word [
+  | name n ↦ section_name said names ds counts before section word.line n
   | number n ↦ []
   | mark m ↦ []
   | picture ls ↦ []
@@ -65,7 +65,7 @@ only_word said names ds c before section w = elim w.word [
 
 -- the names behind a word, as they are counted
 abbrev pub before_behind : List Declaration → List (List ℕ) → ℕ → PlainAt → List (List ℕ)
-before_behind ds before section w = elim w.word [
+before_behind ds before section word = elim word.word [
   | name n ↦ before ++ key ds section n ∷ []
   | number n ↦ before
   | mark m ↦ before

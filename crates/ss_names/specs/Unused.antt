@@ -38,11 +38,11 @@ schedules_class c _ = false
 
 -- a section files into set number s
 unfoldable pub section_files : ℕ → SectionTable → Bool
-section_files s x = list_any (λ spot. files_into s spot.place) x.places
+section_files s section = list_any (λ spot. files_into s spot.place) section.places
 
 -- a section schedules class number c
 unfoldable pub section_schedules : ℕ → SectionTable → Bool
-section_schedules c x = list_any (λ spot. schedules_class c spot.place) x.places
+section_schedules c section = list_any (λ spot. schedules_class c spot.place) section.places
 
 -- one of these sections files into set number s
 unfoldable pub any_files : ℕ → List SectionTable → Bool
@@ -54,12 +54,12 @@ any_schedules c xs = list_any (section_schedules c) xs
 
 -- nothing is filed into set number s
 abbrev pub is_unfiled : ProgramTable → ℕ → Bool
-is_unfiled p s = not (any_files s p.sections)
+is_unfiled program s = not (any_files s program.sections)
 
 -- a class, number c, is one of events that neither a place nor the data schedule
 abbrev pub is_unscheduled : ProgramTable → ℕ → ClassTable → Bool
-is_unscheduled p c row =
-    is_event row.kind && not (event_of_kind row.kind).external && not (any_schedules c p.sections)
+is_unscheduled program c row =
+    is_event row.kind && not (event_of_kind row.kind).external && not (any_schedules c program.sections)
 
 -- the line on which a name stands first among words, 0 where it does not
 unfoldable pub first_line : List ℕ → List PlainAt → ℕ
@@ -73,23 +73,24 @@ first_line n (w ∷ ws) = elim w.word [
 
 -- each set from number s on into which nothing is filed
 unfoldable pub unfiled_text : ProgramTable → List PlainAt → ℕ → List SetTable → List ℕ
-unfiled_text p ws s [] = []
-unfiled_text p ws s (t ∷ ts) = elim (is_unfiled p s) [
-  | true ↦ warning_line (first_line t.name ws) t.name UNFILED.now ++ unfiled_text p ws (s + 1) ts
-  | false ↦ unfiled_text p ws (s + 1) ts
+unfiled_text program ws s [] = []
+unfiled_text program ws s (t ∷ ts) = elim (is_unfiled program s) [
+  | true ↦ warning_line (first_line t.name ws) t.name UNFILED.now ++ unfiled_text program ws (s + 1) ts
+  | false ↦ unfiled_text program ws (s + 1) ts
 ]
 
 -- each event class from number c on that nothing schedules
 unfoldable pub unscheduled_text : ProgramTable → List PlainAt → ℕ → List ClassTable → List ℕ
-unscheduled_text p ws c [] = []
-unscheduled_text p ws c (t ∷ ts) = elim (is_unscheduled p c t) [
-  | true ↦ warning_line (first_line t.name ws) t.name UNSCHEDULED.now ++ unscheduled_text p ws (c + 1) ts
-  | false ↦ unscheduled_text p ws (c + 1) ts
+unscheduled_text program ws c [] = []
+unscheduled_text program ws c (t ∷ ts) = elim (is_unscheduled program c t) [
+  | true ↦ warning_line (first_line t.name ws) t.name UNSCHEDULED.now ++ unscheduled_text program ws (c + 1) ts
+  | false ↦ unscheduled_text program ws (c + 1) ts
 ]
 
 -- the warnings of a program, with the lines on which its names stand first in a model
 abbrev pub program_warnings : ProgramTable → List ℕ → List ℕ
-program_warnings p model = elim (words_of model) [
-  | Ok ws ↦ unfiled_text p (plain_words_of ws) 0 p.sets ++ unscheduled_text p (plain_words_of ws) 0 p.classes
+program_warnings program model = elim (words_of model) [
+  | Ok ws ↦ unfiled_text program (plain_words_of ws) 0 program.sets
+      ++ unscheduled_text program (plain_words_of ws) 0 program.classes
   | Err f ↦ []
 ]

@@ -40,7 +40,7 @@ is_reserved _ = false
 
 -- one more behind a comma at this depth
 abbrev pub count_behind : ℕ → ℕ → ℕ → Option Mark → ℕ
-count_behind top d n j = if is_comma j && d == top then one_more n else n
+count_behind top d n mark = if is_comma mark && d == top then one_more n else n
 
 -- how many values stand behind an opened parenthesis, before its own is closed, where so many are open
 unfoldable pub within : ℕ → ℕ → List PlainAt → ℕ
@@ -66,8 +66,8 @@ is_yielding _ = false
 
 -- the word behind which a list stands
 abbrev pub begins_list : AList → Option Mark → Bool
-begins_list l.Given j = is_given j
-begins_list l.Yielded j = is_yielding j
+begins_list l.Given mark = is_given mark
+begins_list l.Yielded mark = is_yielding mark
 
 -- GIVEN or CALLED
 abbrev pub passes : AReserved → Bool
@@ -82,9 +82,9 @@ goes_on _ = true
 
 -- how many values a list has among words, 0 where it is not written
 unfoldable pub in_list : AList → List PlainAt → ℕ
-in_list a [] = 0
-in_list a (w ∷ ws) = let j = mark_in w.word in
-    if begins_list a j then list_count 0 1 ws else if not (goes_on j) then 0 else in_list a ws
+in_list list [] = 0
+in_list list (w ∷ ws) = let j = mark_in w.word in
+    if begins_list list j then list_count 0 1 ws else if not (goes_on j) then 0 else in_list list ws
 
 -- how many values stand between parentheses directly behind a name, 0 where none is opened
 abbrev pub arguments : List PlainAt → ℕ

@@ -35,8 +35,8 @@ once_name names line n = elim (is_once names n) [ true ↦ warning_line line n O
 
 -- what is said of a word, where its name may not well stand once
 abbrev pub once_word : List (List ℕ) → Standing → PlainAt → List ℕ
-once_word names s w = elim w.word [
-  | name n ↦ elim (may_stand_once s) [ true ↦ [] | false ↦ once_name names w.line n ]
+once_word names standing word = elim word.word [
+  | name n ↦ elim (may_stand_once standing) [ true ↦ [] | false ↦ once_name names word.line n ]
   | number n ↦ []
   | mark m ↦ []
   | picture ls ↦ []
@@ -44,8 +44,8 @@ once_word names s w = elim w.word [
 
 -- each name of these words, behind others, that stands once among the names, with its line
 unfoldable pub once_text : List (List ℕ) → Standing → List PlainAt → List ℕ
-once_text names s [] = []
-once_text names s (w ∷ ws) = once_word names s w ++ once_text names (behind s (mark_in w.word)) ws
+once_text names standing [] = []
+once_text names standing (w ∷ ws) = once_word names standing w ++ once_text names (behind standing (mark_in w.word)) ws
 
 -- ---- words that are dropped where a name could have stood
 
@@ -67,10 +67,10 @@ is_scheduling (Some k) = is_kind_among scheduling k
 -- A, AN or OUTPUT beside a sign, or THE, THIS or MAY before one, not directly before a name nor behind SCHEDULE: all of
 -- these are dropped, and no name follows to which they could belong
 abbrev pub is_suspect : Option Kind → Kind → Option Kind → Bool
-is_suspect before k behind =
+is_suspect before kind behind =
     not (is_scheduling before) && not (is_plain_name behind)
-    && ((is_kind_among (map (λ row. row.now) ARTICLES) k && (is_sign before || is_sign behind))
-    || (is_kind_among (map (λ row. row.now) FILLERS) k && is_sign behind))
+    && ((is_kind_among (map (λ row. row.now) ARTICLES) kind && (is_sign before || is_sign behind))
+    || (is_kind_among (map (λ row. row.now) FILLERS) kind && is_sign behind))
 
 -- the bytes of a name
 abbrev pub name_bytes : Kind → List ℕ
@@ -91,8 +91,8 @@ first_kind (w ∷ ws) = Some w.kind
 
 -- what is said of a word between two others
 abbrev pub dropped_word : Option Kind → WordAt → Option Kind → List ℕ
-dropped_word before w behind = elim (is_suspect before w.kind behind) [
-  | true ↦ warning_line w.line (name_bytes w.kind) DROPPED_HERE.now
+dropped_word before word behind = elim (is_suspect before word.kind behind) [
+  | true ↦ warning_line word.line (name_bytes word.kind) DROPPED_HERE.now
   | false ↦ []
 ]
 

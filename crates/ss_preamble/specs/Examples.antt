@@ -79,7 +79,7 @@ each_item =
 
 -- an item on a line
 abbrev pub on : ℕ → Item → ItemAt
-on l i = record { line = l; item = i }
+on l item = record { line = l; item = item }
 
 -- its items
 abbrev pub items_of_each : List ItemAt

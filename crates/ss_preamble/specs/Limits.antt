@@ -11,7 +11,7 @@ use Rattle.ss_preamble.specs.Tree.{OfEvery, OfSystem, Defines, Orders, Preamble}
 
 -- some names and one more, if it isn't among them
 abbrev pub with_name : List Name → Name → List Name
-with_name ns n = if list_any (bytes_eq n) ns then ns else ns ++ n ∷ []
+with_name ns name = if list_any (bytes_eq name) ns then ns else ns ++ name ∷ []
 
 -- the names, each once
 abbrev pub distinct : List Name → List Name

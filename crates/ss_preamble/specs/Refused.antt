@@ -110,7 +110,7 @@ word_behind ws n = slice_index (map (λ w. w.index + 1) ws) (n - 1)
 
 -- the words begin with a preamble within the limits, these are its items, and this is the number of the first word
 -- behind its END
-pub record IsPreamble (d : Decls) (number : ℕ) (ws : List PlainAt) : Type 0 where
+pub record IsPreamble (declarations : Decls) (number : ℕ) (ws : List PlainAt) : Type 0 where
   -- the items
   pub items : Preamble
   -- the words behind END
@@ -120,7 +120,7 @@ pub record IsPreamble (d : Decls) (number : ℕ) (ws : List PlainAt) : Type 0 wh
   -- the text is what they spell, and those words
   pub words : plains ws ≡ spell items ++ behind
   -- with their lines they are what is declared
-  pub declared : d ≡ written (lines ws) items
+  pub declared : declarations ≡ written (lines ws) items
   -- the number is that of the first word behind END
   pub number_is : number ≡ word_behind ws (length (spell items))
 
@@ -130,7 +130,8 @@ words_from k ws = filter (λ w. leb k w.index) ws
 
 -- the items of a text, and the number of the first word behind them: none, and 0, where it begins with no preamble
 abbrev pub AreDecls : Decls → ℕ → List PlainAt → Type 0
-AreDecls d number ws = ((HasPreamble (plains ws) → ⊥) × (d ≡ no_decls) × (number ≡ 0)) ⊎ IsPreamble d number ws
+AreDecls declarations number ws =
+    ((HasPreamble (plains ws) → ⊥) × (declarations ≡ no_decls) × (number ≡ 0)) ⊎ IsPreamble declarations number ws
 
 -- the words are refused so, or memory ran out
 abbrev pub IsFault : TextFault → List PlainAt → Type 0

@@ -75,7 +75,7 @@ behind_reserved standing _ ws = standing
 
 -- behind a name: a class is the owner of what HAS gives
 abbrev pub behind_name : Standing → Name → Standing
-behind_name standing n = elim standing.counted [ Classes ↦ record standing { owner = Some n } | _ ↦ standing ]
+behind_name standing name = elim standing.counted [ Classes ↦ record standing { owner = Some name } | _ ↦ standing ]
 
 -- behind a word, which the words ws follow
 abbrev pub behind_word : Standing → Plain → List Plain → Standing
@@ -90,11 +90,11 @@ owned_role (Some c) = AnAttribute c
 
 -- what a name counts to
 abbrev pub name_role : Standing → Name → Role
-name_role standing n = elim standing.counted [
+name_role standing name = elim standing.counted [
   | NoNames ↦ Nothing
-  | Classes ↦ AClass n
+  | Classes ↦ AClass name
   | Owned ↦ owned_role standing.owner
-  | Sets ↦ ASet n
+  | Sets ↦ ASet name
   | Variables ↦ AVariable
   | Keys ↦ AKey standing.keys
 ]

@@ -45,11 +45,11 @@ spell_rank rank.Low = word r.Low
 
 -- a key
 abbrev pub spell_key : Key → List Plain
-spell_key k = word r.By ∷ spell_rank k.rank ∷ name k.name ∷ []
+spell_key key = word r.By ∷ spell_rank key.rank ∷ name key.name ∷ []
 
 -- a key behind THEN
 abbrev pub spell_next_key : Key → List Plain
-spell_next_key k = word r.Then ∷ spell_key k
+spell_next_key key = word r.Then ∷ spell_key key
 
 -- keys, each behind its THEN
 abbrev pub spell_other_keys : List Key → List Plain

@@ -80,17 +80,17 @@ tally_of rs = record {
 
 -- counts and one more name
 abbrev pub with_role : Counts → Role → Counts
-with_role a (AClass n) = record a { classes = with_name a.classes n }
-with_role a (AnAttribute n) = record a { attributes = a.attributes ++ n ∷ [] }
-with_role a AVariable = record a { variables = a.variables + 1 }
-with_role a (ASet n) = record a { sets = with_name a.sets n }
-with_role a _ = a
+with_role counts (AClass n) = record counts { classes = with_name counts.classes n }
+with_role counts (AnAttribute n) = record counts { attributes = counts.attributes ++ n ∷ [] }
+with_role counts AVariable = record counts { variables = counts.variables + 1 }
+with_role counts (ASet n) = record counts { sets = with_name counts.sets n }
+with_role counts _ = counts
 
 -- whether what this name was counted to is within its limit
 abbrev pub is_in_room : Counts → Role → Bool
-is_in_room a (AClass n) = leb (length a.classes) MOST_CLASSES
-is_in_room a (AnAttribute n) = leb (count_by (bytes_eq n) a.attributes) MOST_ATTRIBUTES
-is_in_room a AVariable = leb a.variables MOST_VARIABLES
-is_in_room a (ASet n) = leb (length a.sets) MOST_SETS
-is_in_room a (AKey k) = leb k MOST_KEYS
-is_in_room a Nothing = true
+is_in_room counts (AClass n) = leb (length counts.classes) MOST_CLASSES
+is_in_room counts (AnAttribute n) = leb (count_by (bytes_eq n) counts.attributes) MOST_ATTRIBUTES
+is_in_room counts AVariable = leb counts.variables MOST_VARIABLES
+is_in_room counts (ASet n) = leb (length counts.sets) MOST_SETS
+is_in_room counts (AKey k) = leb k MOST_KEYS
+is_in_room counts Nothing = true

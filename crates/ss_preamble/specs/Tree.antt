@@ -60,4 +60,4 @@ pub record Decls : Type 0 where
 
 -- what the items say
 abbrev pub items_of : Decls → Preamble
-items_of d = map (λ i. i.item) d.items
+items_of declarations = map (λ i. i.item) declarations.items

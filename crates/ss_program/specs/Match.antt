@@ -29,7 +29,7 @@ is_always _ = false
 
 -- what continues or closes an IF
 abbrev pub is_branch_end : Place → Bool
-is_branch_end x = is_else x || is_always x
+is_branch_end place = is_else place || is_always place
 
 -- a LOOP
 abbrev pub is_loop : Place → Bool
@@ -50,7 +50,7 @@ controls_next_place _ = false
 
 -- one deeper behind a place of `up`, one less deep behind one of `down`
 abbrev pub depth_behind : (Place → Bool) → (Place → Bool) → ℕ → Place → ℕ
-depth_behind up down depth x = if up x then depth + 1 else (if down x then depth - 1 else depth)
+depth_behind up down depth place = if up place then depth + 1 else (if down place then depth - 1 else depth)
 
 -- how many places stand before the first wanted one at no depth
 abbrev pub distance : (Place → Bool) → (Place → Bool) → (Place → Bool) → ℕ → List Spot → ℕ

@@ -6,10 +6,10 @@ use Rattle.ss_program.specs.Program.{ProgramTable}
 
 -- its numbers in the tables of the global variables, the classes and the sets
 abbrev pub numbers_of : ProgramTable → List ℕ → Named
-numbers_of p n = record {
-  variable = position (bytes_eq n) p.globals;
-  class = position (λ c. bytes_eq n c.name) p.classes;
-  set = position (λ s. bytes_eq n s.name) p.sets;
+numbers_of program n = record {
+  variable = position (bytes_eq n) program.globals;
+  class = position (λ c. bytes_eq n c.name) program.classes;
+  set = position (λ s. bytes_eq n s.name) program.sets;
 }
 
 -- some number of a name
@@ -18,4 +18,5 @@ is_any m = is_some m.variable || is_some m.class || is_some m.set
 
 -- None where it is none of the three, and for TIME.V
 abbrev pub meaning_of : ProgramTable → List ℕ → Option Named
-meaning_of p n = if is_clock n then None else (if is_any (numbers_of p n) then Some (numbers_of p n) else None)
+meaning_of program n =
+    if is_clock n then None else (if is_any (numbers_of program n) then Some (numbers_of program n) else None)

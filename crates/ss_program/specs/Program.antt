@@ -98,15 +98,15 @@ is_routine_kind _ = false
 
 -- a routine
 abbrev pub is_routine : SectionTable → Bool
-is_routine s = is_routine_kind s.kind
+is_routine section = is_routine_kind section.kind
 
 -- the section MAIN
 abbrev pub is_main : SectionTable → Bool
-is_main s = is_main_kind s.kind
+is_main section = is_main_kind section.kind
 
 -- the number of the section MAIN
 abbrev pub main_number : ProgramTable → ℕ
-main_number p = position_or_len is_main p.sections
+main_number program = position_or_len is_main program.sections
 
 -- the places of section number i
 abbrev pub places_of : Option SectionTable → List Spot
@@ -120,17 +120,19 @@ locals_of None = []
 
 -- place number `place` of section number `section`
 abbrev pub spot_at : ProgramTable → ℕ → ℕ → Option Spot
-spot_at p section place = slice_get (places_of (slice_get p.sections section)) place
+spot_at program section place = slice_get (places_of (slice_get program.sections section)) place
 
 -- ---- rows of the tables by their numbers; no sound program asks for one that isn't there
 
 -- class number c
 abbrev pub class_of : ProgramTable → ℕ → ClassTable
-class_of p c = unwrap_or (slice_get p.classes c) (record { name = []; kind = Temporary; variable = 0; attributes = [] })
+class_of program c =
+    unwrap_or (slice_get program.classes c) (record { name = []; kind = Temporary; variable = 0; attributes = [] })
 
 -- set number s
 abbrev pub set_of : ProgramTable → ℕ → SetTable
-set_of p s = unwrap_or (slice_get p.sets s) (record { name = []; discipline = Fifo; owner = System; member = 0 })
+set_of program s =
+    unwrap_or (slice_get program.sets s) (record { name = []; discipline = Fifo; owner = System; member = 0 })
 
 -- what a class of this kind has besides, if it is an event class
 abbrev pub event_of_kind : ClassKind → EventTable
@@ -154,11 +156,11 @@ no_section = record {
 
 -- section number n
 abbrev pub section_of : ProgramTable → ℕ → SectionTable
-section_of p n = unwrap_or (slice_get p.sections n) no_section
+section_of program n = unwrap_or (slice_get program.sections n) no_section
 
 -- what event class c has besides
 abbrev pub event_of : ProgramTable → ℕ → EventTable
-event_of p c = event_of_kind (class_of p c).kind
+event_of program c = event_of_kind (class_of program c).kind
 
 -- ---- what is read off the rows
 
@@ -174,7 +176,7 @@ is_event _ = false
 
 -- the section of an event
 abbrev pub is_event_section : SectionTable → Bool
-is_event_section s = is_event_kind s.kind
+is_event_section section = is_event_kind section.kind
 
 -- the variable N.c of a permanent class
 abbrev pub count_by_kind : ClassKind → ℕ
@@ -183,15 +185,15 @@ count_by_kind _ = 0
 
 -- the same by the number of the class
 abbrev pub count_variable : ProgramTable → ℕ → ℕ
-count_variable p c = count_by_kind (class_of p c).kind
+count_variable program c = count_by_kind (class_of program c).kind
 
 -- whether some class is external
 abbrev pub has_external : ProgramTable → Bool
-has_external p = list_any (λ c. (event_of_kind c.kind).external) p.classes
+has_external program = list_any (λ c. (event_of_kind c.kind).external) program.classes
 
 -- the place of an event class in the order of priority: those that are named, then the others as they are declared
 abbrev pub priority_of : ProgramTable → ℕ → ℕ
-priority_of p c = unwrap_or (position (λ d. c == d) p.priority) (length p.priority + c)
+priority_of program c = unwrap_or (position (λ d. c == d) program.priority) (length program.priority + c)
 
 -- two owners are the same
 abbrev pub is_same_owner : Owner → Owner → Bool
@@ -205,4 +207,4 @@ owned_among owner sets = count_by (λ t. is_same_owner owner t.owner) sets
 
 -- the number of a set among those of its owner
 abbrev pub list_number : ProgramTable → ℕ → ℕ
-list_number p s = owned_among (set_of p s).owner (take s p.sets)
+list_number program s = owned_among (set_of program s).owner (take s program.sets)

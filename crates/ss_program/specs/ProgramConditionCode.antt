@@ -37,12 +37,12 @@ mark n = (n, (no_value, no_value))
 
 -- a set as a value: an attribute whose subscript is the set's
 abbrev pub set_written : SetRef → Expr
-set_written r = expr None (term (attribute r.set 0 r.owner) no_products) no_sums
+set_written set = expr None (term (attribute set.set 0 set.owner) no_products) no_sums
 
 -- the set of a factor
 abbrev pub set_of_factor : Factor → SetRef
 set_of_factor (attribute c a i) = record { set = c; owner = i }
-set_of_factor f = record { set = 0; owner = of_system }
+set_of_factor factor = record { set = 0; owner = of_system }
 
 -- the set of a term
 abbrev pub set_of_term : Term → SetRef
@@ -125,9 +125,9 @@ nested_read st = st
 
 -- of a token by its number
 abbrev pub token_read : ℕ → Expr → Expr → List Part → List Part
-token_read zero e f st = any_read st
-token_read (suc zero) e f st = some_conjunctions no_conjunctions ∷ st
-token_read (suc (suc zero)) e f st = or_read st
+token_read zero expression f st = any_read st
+token_read (suc zero) expression f st = some_conjunctions no_conjunctions ∷ st
+token_read (suc (suc zero)) expression f st = or_read st
 token_read (suc (suc (suc zero))) e f st = all_read st
 token_read (suc (suc (suc (suc zero)))) e f st = nested_read st
 token_read (suc (suc (suc (suc (suc zero))))) e f st = a_relation (compared e Equal f) ∷ st
@@ -135,13 +135,13 @@ token_read (suc (suc (suc (suc (suc (suc zero)))))) e f st = a_relation (compare
 token_read (suc (suc (suc (suc (suc (suc (suc zero))))))) e f st = a_relation (compared e Less f) ∷ st
 token_read (suc (suc (suc (suc (suc (suc (suc (suc zero)))))))) e f st = a_relation (compared e Greater f) ∷ st
 token_read (suc (suc (suc (suc (suc (suc (suc (suc (suc zero))))))))) e f st = a_relation (compared e AtMost f) ∷ st
-token_read (ten_more zero) e f st = a_relation (compared e AtLeast f) ∷ st
-token_read (ten_more (suc zero)) e f st = some_relations no_relations ∷ st
+token_read (ten_more zero) expression f st = a_relation (compared expression AtLeast f) ∷ st
+token_read (ten_more (suc zero)) expression f st = some_relations no_relations ∷ st
 token_read (ten_more (suc (suc zero))) e f st = and_read st
 token_read (ten_more (suc (suc (suc zero)))) e f st = a_relation (is_empty (set_read f) Is) ∷ st
 token_read (ten_more (suc (suc (suc (suc zero))))) e f st = a_relation (is_empty (set_read f) IsNot) ∷ st
 token_read (ten_more (suc (suc (suc (suc (suc zero)))))) e f st = a_relation (is_in e Is (set_read f)) ∷ st
-token_read n e f st = a_relation (is_in e IsNot (set_read f)) ∷ st
+token_read n expression f st = a_relation (is_in expression IsNot (set_read f)) ∷ st
 
 -- the parts of a list of tokens
 abbrev pub parts : List Token → List Part
@@ -206,7 +206,7 @@ mutual
 
 -- a condition as its tokens
 abbrev pub tokens_of : Condition → List Token
-tokens_of c = condition_tokens c []
+tokens_of condition = condition_tokens condition []
 
 -- and read back from them
 abbrev pub read_back : List Token → Condition
@@ -214,7 +214,7 @@ read_back ws = first_condition (parts ws)
 
 -- a condition comes back from its tokens
 pub read_written : (c : Condition) → read_back (tokens_of c) ≡ c
-read_written c = ap first_condition (condition_again c [])
+read_written condition = ap first_condition (condition_again condition [])
 
 -- how a condition is stored
 abbrev pub condition_code : Coded Condition

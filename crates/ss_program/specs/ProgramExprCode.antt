@@ -332,7 +332,7 @@ mutual
 
 -- an expression as its tokens
 abbrev pub tokens_of : Expr → List (ℕ × ℕ)
-tokens_of e = expr_tokens e []
+tokens_of expression = expr_tokens expression []
 
 -- and read back from them
 abbrev pub read_back : List (ℕ × ℕ) → Expr
@@ -340,7 +340,7 @@ read_back ws = first_expr (parts ws)
 
 -- an expression comes back from its tokens
 pub read_written : (e : Expr) → read_back (tokens_of e) ≡ e
-read_written e = ap first_expr (expr_again e [])
+read_written expression = ap first_expr (expr_again expression [])
 
 -- how an expression is stored
 abbrev pub expr_code : Coded Expr
@@ -348,7 +348,7 @@ expr_code = code_by (List (ℕ × ℕ)) (coded_list (coded× coded_ℕ coded_ℕ
 
 -- a subscript as its tokens
 abbrev pub subscript_written : Subscript → List (ℕ × ℕ)
-subscript_written i = subscript_tokens i []
+subscript_written subscript = subscript_tokens subscript []
 
 -- the subscript that stands first
 abbrev pub first_subscript : List Part → Subscript
@@ -361,7 +361,7 @@ subscript_read_back ws = first_subscript (parts ws)
 
 -- a subscript comes back from its tokens
 pub subscript_read_written : (i : Subscript) → subscript_read_back (subscript_written i) ≡ i
-subscript_read_written i = ap first_subscript (subscript_again i [])
+subscript_read_written subscript = ap first_subscript (subscript_again subscript [])
 
 -- how a subscript is stored
 abbrev pub subscript_code : Coded Subscript

@@ -148,7 +148,7 @@ IsTarget sc (Attribute c a i) = IsClass sc c × IsSoundSubscript sc i
 
 -- a set is one of the table, and its owner's subscript is sound
 abbrev pub IsSoundSetRef : Scope → SetRef → Type 0
-IsSoundSetRef sc r = (r.set < sc.sets) × IsSoundSubscript sc r.owner
+IsSoundSetRef sc set = (set.set < sc.sets) × IsSoundSubscript sc set.owner
 
 -- an assignment has a target and a sound value
 abbrev pub IsSoundAssign : Scope → AnAssign → Type 0
@@ -245,7 +245,7 @@ AreTargets sc (x ∷ xs) = IsTarget sc x × AreTargets sc xs
 
 -- the values and targets of a CALL
 abbrev pub IsSoundCall : Scope → ACall → Type 0
-IsSoundCall sc c = AreSoundExprs sc c.given × AreTargets sc c.targets
+IsSoundCall sc call = AreSoundExprs sc call.given × AreTargets sc call.targets
 
 -- what makes and ends entities: those of permanent classes are made all at once, and not ended
 abbrev pub IsSoundMaking : Scope → AMaking → Type 0
@@ -325,9 +325,9 @@ GoesOn count false next = next < count
 
 -- a routine that takes these values and yields to these targets
 abbrev pub IsCalledBy : ACall → Option SectionTable → Type 0
-IsCalledBy c None = ⊥
-IsCalledBy c (Some t) =
-    (is_routine t ≡ true) × (length c.given ≡ t.given) × (length c.targets ≡ t.yielded)
+IsCalledBy call None = ⊥
+IsCalledBy call (Some t) =
+    (is_routine t ≡ true) × (length call.given ≡ t.given) × (length call.targets ≡ t.yielded)
 
 -- no chain is longer, and so no more loops are open at once in a section
 abbrev pub loop_limit : ℕ
@@ -336,52 +336,53 @@ loop_limit = 16
 -- a place with these ways, in a section with `count` places: where else it may go on is a place, too; FIND closes few
 -- loops; a CALL is one of a routine
 abbrev pub LeadsOn : List SectionTable → ℕ → Ways → Place → Type 0
-LeadsOn ss count w (Branch (If q)) = w.exit < count
-LeadsOn ss count w (Looping (For f)) = w.exit < count
-LeadsOn ss count w (Looping Find) = w.chain ≤ loop_limit
-LeadsOn ss count w (Call c) = IsCalledBy c (slice_get ss c.section)
-LeadsOn ss count w other = Unit {0}
+LeadsOn sections count ways (Branch (If q)) = ways.exit < count
+LeadsOn sections count ways (Looping (For f)) = ways.exit < count
+LeadsOn sections count ways (Looping Find) = ways.chain ≤ loop_limit
+LeadsOn sections count ways (Call c) = IsCalledBy c (slice_get sections c.section)
+LeadsOn sections count ways other = Unit {0}
 
 -- what holds of the place with these ways
-pub record IsLinkedPlace (ss : List SectionTable) (count : ℕ) (w : Ways) (x : Place) : Type 0 where
+pub record IsLinkedPlace (sections : List SectionTable) (count : ℕ) (ways : Ways) (place : Place) : Type 0 where
   -- it goes on to a place
-  pub next : GoesOn count (is_end x) w.next
+  pub next : GoesOn count (is_end place) ways.next
   -- and so where it goes on elsewhere
-  pub leads : LeadsOn ss count w x
+  pub leads : LeadsOn sections count ways place
 
 -- the places of a section from number i on
 abbrev pub AreLinkedPlaces : List SectionTable → List Spot → ℕ → List Spot → Type 0
-AreLinkedPlaces ss places i [] = Unit {0}
-AreLinkedPlaces ss places i (x ∷ xs) =
-    IsLinkedPlace ss (length places) (ways_of places i x.place) x.place × AreLinkedPlaces ss places (i + 1) xs
+AreLinkedPlaces sections places i [] = Unit {0}
+AreLinkedPlaces sections places i (x ∷ xs) =
+    IsLinkedPlace sections (length places) (ways_of places i x.place) x.place
+        × AreLinkedPlaces sections places (i + 1) xs
 
 -- the places of each section
 abbrev pub AreLinkedSections : List SectionTable → List SectionTable → Type 0
-AreLinkedSections ss [] = Unit {0}
-AreLinkedSections ss (s ∷ more) = AreLinkedPlaces ss s.places 0 s.places × AreLinkedSections ss more
+AreLinkedSections sections [] = Unit {0}
+AreLinkedSections sections (s ∷ more) = AreLinkedPlaces sections s.places 0 s.places × AreLinkedSections sections more
 
 -- ---- events
 
 -- class number c is an event class, with this many attributes at least
-pub record IsEventClass (p : ProgramTable) (c n : ℕ) : Type 0 where
+pub record IsEventClass (program : ProgramTable) (c n : ℕ) : Type 0 where
   -- it is a class of the table
-  pub class : c < length p.classes
+  pub class : c < length program.classes
   -- of event notices
-  pub event : is_event (class_of p c).kind ≡ true
+  pub event : is_event (class_of program c).kind ≡ true
   -- its attributes
-  pub attributes : n ≤ length (class_of p c).attributes
+  pub attributes : n ≤ length (class_of program c).attributes
 
 -- notices are of event classes, with no more arguments than attributes; events start in MAIN
 abbrev pub IsTimed : ProgramTable → SectionTable → Place → Type 0
-IsTimed p s (Timing (Schedule x)) = IsEventClass p x.class (length x.arguments)
-IsTimed p s (Timing (Cancel c is_called e)) = IsEventClass p c 0
-IsTimed p s (Timing Start) = is_main s ≡ true
-IsTimed p s other = Unit {0}
+IsTimed program section (Timing (Schedule x)) = IsEventClass program x.class (length x.arguments)
+IsTimed program section (Timing (Cancel c is_called e)) = IsEventClass program c 0
+IsTimed program section (Timing Start) = is_main section ≡ true
+IsTimed program section other = Unit {0}
 
 -- the same of the places of a section
 abbrev pub AreTimed : ProgramTable → SectionTable → List Spot → Type 0
-AreTimed p s [] = Unit {0}
-AreTimed p s (x ∷ xs) = IsTimed p s x.place × AreTimed p s xs
+AreTimed program section [] = Unit {0}
+AreTimed program section (x ∷ xs) = IsTimed program section x.place × AreTimed program section xs
 
 -- no two names of a table are alike
 abbrev pub AreDistinct : List (List ℕ) → Type 0
@@ -393,36 +394,36 @@ parameter_limit = 32
 
 -- what the places of a section may name
 abbrev pub scope_of : ProgramTable → SectionTable → Scope
-scope_of p s = record {
-  globals = length p.globals;
-  locals = length s.locals;
-  permanent = map (λ c. is_permanent c.kind) p.classes;
-  sets = length p.sets;
+scope_of program section = record {
+  globals = length program.globals;
+  locals = length section.locals;
+  permanent = map (λ c. is_permanent c.kind) program.classes;
+  sets = length program.sets;
 }
 
 -- a section of a program
-pub record IsSoundSection (p : ProgramTable) (s : SectionTable) : Type 0 where
+pub record IsSoundSection (program : ProgramTable) (section : SectionTable) : Type 0 where
   -- no two locals have one name
-  pub distinct : AreDistinct s.locals
+  pub distinct : AreDistinct section.locals
   -- the parameters are locals
-  pub parameters : s.given + s.yielded ≤ length s.locals
+  pub parameters : section.given + section.yielded ≤ length section.locals
   -- of which there are not too many
-  pub few_parameters : s.given + s.yielded ≤ parameter_limit
+  pub few_parameters : section.given + section.yielded ≤ parameter_limit
   -- its places name what there is
-  pub places : AreSoundPlaces (scope_of p s) s.places
+  pub places : AreSoundPlaces (scope_of program section) section.places
   -- END is the last place, and no other one
-  pub ended : IsEnded s.places
+  pub ended : IsEnded section.places
   -- each place leads to places where as many loops may be open
-  pub nested : AreNestedPlaces s.places 0 s.places
+  pub nested : AreNestedPlaces section.places 0 section.places
   -- notices are of event classes, and events start in MAIN
-  pub timed : AreTimed p s s.places
+  pub timed : AreTimed program section section.places
   -- its places can be counted
-  pub few : length s.places < 2 ^ 63
+  pub few : length section.places < 2 ^ 63
 
 -- the same of each section of a list
 abbrev pub AreSoundSections : ProgramTable → List SectionTable → Type 0
-AreSoundSections p [] = Unit {0}
-AreSoundSections p (s ∷ ss) = IsSoundSection p s × AreSoundSections p ss
+AreSoundSections program [] = Unit {0}
+AreSoundSections program (s ∷ ss) = IsSoundSection program s × AreSoundSections program ss
 
 -- no two attributes of one class are alike
 abbrev pub HaveDistinctAttributes : List ClassTable → Type 0
@@ -430,17 +431,17 @@ HaveDistinctAttributes [] = Unit {0}
 HaveDistinctAttributes (c ∷ cs) = AreDistinct c.attributes × HaveDistinctAttributes cs
 
 -- each of a program's own tables has distinct names, and each class has the name of a global variable
-pub record HasSoundNames (p : ProgramTable) : Type 0 where
+pub record HasSoundNames (program : ProgramTable) : Type 0 where
   -- the global variables
-  pub globals : AreDistinct p.globals
+  pub globals : AreDistinct program.globals
   -- the classes
-  pub classes : AreDistinct (map (λ c. c.name) p.classes)
+  pub classes : AreDistinct (map (λ c. c.name) program.classes)
   -- the attributes of each class
-  pub attributes : HaveDistinctAttributes p.classes
+  pub attributes : HaveDistinctAttributes program.classes
   -- the sets
-  pub sets : AreDistinct (map (λ s. s.name) p.sets)
+  pub sets : AreDistinct (map (λ s. s.name) program.sets)
   -- each class's name is one of a global variable
-  pub class_variables : list_all (λ c. list_any (bytes_eq c.name) p.globals) p.classes ≡ true
+  pub class_variables : list_all (λ c. list_any (bytes_eq c.name) program.globals) program.classes ≡ true
 
 -- ---- classes and sets
 
@@ -469,32 +470,32 @@ pub record AreSoundKeys (n : ℕ) (keys : List Key) : Type 0 where
 
 -- an event class with n attributes: its section is the section of an event, with at most n parameters, and its ties are
 -- broken by its attributes
-pub record IsSoundEvent (p : ProgramTable) (n : ℕ) (e : EventTable) : Type 0 where
+pub record IsSoundEvent (program : ProgramTable) (n : ℕ) (event : EventTable) : Type 0 where
   -- its section is one of the table
-  pub section : e.section < length p.sections
+  pub section : event.section < length program.sections
   -- the section of an event
-  pub kind : is_event_section (section_of p e.section) ≡ true
+  pub kind : is_event_section (section_of program event.section) ≡ true
   -- each given parameter has an attribute
-  pub given : (section_of p e.section).given ≤ n
+  pub given : (section_of program event.section).given ≤ n
   -- nothing is yielded
-  pub yielded : (section_of p e.section).yielded ≡ 0
+  pub yielded : (section_of program event.section).yielded ≡ 0
   -- its ties
-  pub ties : AreSoundKeys n e.ties
+  pub ties : AreSoundKeys n event.ties
 
 -- a kind of class with n attributes
 abbrev pub IsSoundKind : ProgramTable → ℕ → ClassKind → Type 0
-IsSoundKind p n (Permanent count) = count < length p.globals
-IsSoundKind p n Temporary = Unit {0}
-IsSoundKind p n (Event e) = IsSoundEvent p n e
+IsSoundKind program n (Permanent count) = count < length program.globals
+IsSoundKind program n Temporary = Unit {0}
+IsSoundKind program n (Event e) = IsSoundEvent program n e
 
 -- a class
-pub record IsSoundClass (p : ProgramTable) (c : ClassTable) : Type 0 where
+pub record IsSoundClass (program : ProgramTable) (class : ClassTable) : Type 0 where
   -- the global variable of its name has its name
-  pub variable : slice_get p.globals c.variable ≡ Some c.name
+  pub variable : slice_get program.globals class.variable ≡ Some class.name
   -- its kind
-  pub kind : IsSoundKind p (length c.attributes) c.kind
+  pub kind : IsSoundKind program (length class.attributes) class.kind
   -- its attributes are not too many
-  pub few : length c.attributes ≤ attribute_limit
+  pub few : length class.attributes ≤ attribute_limit
 
 -- the system, or one of n classes
 abbrev pub IsSoundOwner : ℕ → Owner → Type 0
@@ -508,49 +509,49 @@ IsSoundDiscipline n Lifo = Unit {0}
 IsSoundDiscipline n (Ranked keys) = AreSoundKeys n keys
 
 -- a set
-pub record IsSoundSet (p : ProgramTable) (t : SetTable) : Type 0 where
+pub record IsSoundSet (program : ProgramTable) (set : SetTable) : Type 0 where
   -- its owner's class is one of the table
-  pub owner : IsSoundOwner (length p.classes) t.owner
+  pub owner : IsSoundOwner (length program.classes) set.owner
   -- so is the class of its members
-  pub member : t.member < length p.classes
+  pub member : set.member < length program.classes
   -- its keys are attributes of its members
-  pub discipline : IsSoundDiscipline (length (class_of p t.member).attributes) t.discipline
+  pub discipline : IsSoundDiscipline (length (class_of program set.member).attributes) set.discipline
 
 -- a class that PRIORITY names
-pub record IsSoundPriority (p : ProgramTable) (c : ℕ) : Type 0 where
+pub record IsSoundPriority (program : ProgramTable) (c : ℕ) : Type 0 where
   -- it is one of the table
-  pub class : c < length p.classes
+  pub class : c < length program.classes
   -- of event notices
-  pub event : is_event (class_of p c).kind ≡ true
+  pub event : is_event (class_of program c).kind ≡ true
 
 -- the tables of classes and sets, and the priority
-pub record HasSoundTables (p : ProgramTable) : Type 0 where
+pub record HasSoundTables (program : ProgramTable) : Type 0 where
   -- each class
-  pub classes : All (IsSoundClass p) p.classes
+  pub classes : All (IsSoundClass program) program.classes
   -- each set
-  pub sets : All (IsSoundSet p) p.sets
+  pub sets : All (IsSoundSet program) program.sets
   -- each class that PRIORITY names
-  pub priority : All (IsSoundPriority p) p.priority
+  pub priority : All (IsSoundPriority program) program.priority
   -- PRIORITY names no class twice
-  pub once : IsDistinct ◌==◌ p.priority
+  pub once : IsDistinct ◌==◌ program.priority
   -- there are not too many classes
-  pub few_classes : length p.classes ≤ class_limit
+  pub few_classes : length program.classes ≤ class_limit
   -- nor too many sets
-  pub few_sets : length p.sets ≤ set_limit
+  pub few_sets : length program.sets ≤ set_limit
 
 -- a program
-pub record IsSound (p : ProgramTable) : Type 0 where
+pub record IsSound (program : ProgramTable) : Type 0 where
   -- one section is MAIN
-  pub main : count_by is_main p.sections ≡ 1
+  pub main : count_by is_main program.sections ≡ 1
   -- each section
-  pub sections : AreSoundSections p p.sections
+  pub sections : AreSoundSections program program.sections
   -- the sections can be counted
-  pub few : length p.sections < 2 ^ 63
+  pub few : length program.sections < 2 ^ 63
   -- each place goes on to places of its section
-  pub linked : AreLinkedSections p.sections p.sections
+  pub linked : AreLinkedSections program.sections program.sections
   -- its names
-  pub names : HasSoundNames p
+  pub names : HasSoundNames program
   -- its tables
-  pub tables : HasSoundTables p
+  pub tables : HasSoundTables program
   -- 32 bits can number its names
-  pub few_names : length p.globals + length p.classes + length p.sets < 2 ^ 32
+  pub few_names : length program.globals + length program.classes + length program.sets < 2 ^ 32

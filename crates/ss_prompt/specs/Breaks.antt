@@ -15,4 +15,4 @@ breaks_text lines (l ∷ ls) = break_rows lines (l ∷ ls)
 
 -- what BREAKS answers
 abbrev pub breaks_said : PromptState → List ℕ
-breaks_said s = breaks_text s.lines s.debugger.breaks
+breaks_said state = breaks_text state.lines state.debugger.breaks

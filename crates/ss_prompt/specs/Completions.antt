@@ -37,5 +37,6 @@ command_lines =
 -- all words, each on a line: those of the commands, and the names of a program in the order of its tables (the classes
 -- are among its variables)
 abbrev pub completions : ProgramTable → List ℕ
-completions p =
-    command_lines ++ word_lines p.globals ++ attribute_lines p.classes ++ set_lines p.sets ++ section_lines p.sections
+completions program =
+    command_lines ++ word_lines program.globals ++ attribute_lines program.classes ++ set_lines program.sets
+        ++ section_lines program.sections

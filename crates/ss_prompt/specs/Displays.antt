@@ -17,9 +17,9 @@ is_full displays = nat_le MOST_DISPLAYS (length displays)
 
 -- the questions behind DISPLAY
 abbrev pub displays_with : List Question → Question → List Question
-displays_with displays x =
-    if is_among displays (question_text x) then displays else
-    if is_full displays then displays else displays ++ x ∷ []
+displays_with displays question =
+    if is_among displays (question_text question) then displays else
+    if is_full displays then displays else displays ++ question ∷ []
 
 -- that a question is answered at each stop
 abbrev pub display_set : List ℕ → List ℕ
@@ -33,11 +33,11 @@ display_text displays text =
 
 -- the same in a state of the prompt
 abbrev pub display_said : PromptState → Question → List ℕ
-display_said s x = display_text s.displays (question_text x)
+display_said state question = display_text state.displays (question_text question)
 
 -- the state behind it
 abbrev pub display_next : PromptState → Question → PromptState
-display_next s x = with_displays s (displays_with s.displays x)
+display_next state question = with_displays state (displays_with state.displays question)
 
 -- that no question is answered at stops any more, and how many were
 abbrev pub cleared_text : List Question → List ℕ
@@ -45,8 +45,8 @@ cleared_text displays = codes "DISPLAYS CLEARED: " ++ decimal (length displays) 
 
 -- what UNDISPLAY answers
 abbrev pub undisplay_said : PromptState → List ℕ
-undisplay_said s = cleared_text s.displays
+undisplay_said state = cleared_text state.displays
 
 -- the state behind it
 abbrev pub undisplay_next : PromptState → PromptState
-undisplay_next s = with_displays s []
+undisplay_next state = with_displays state []

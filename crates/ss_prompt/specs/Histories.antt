@@ -71,20 +71,22 @@ why_source lines (Some line) = marked_line lines (codes "> ") line
 
 -- what is told of a step, if there is one: its state line, its line of the model, and what it changed
 abbrev pub why_text : PromptState → Question → Option ℕ → List ℕ
-why_text s x step =
-    why_head s.input s.debugger.earliest step ++ why_source s.lines (why_line s.input step)
-    ++ why_change s.input x step
+why_text state question step =
+    why_head state.input state.debugger.earliest step ++ why_source state.lines (why_line state.input step)
+    ++ why_change state.input question step
 
 -- what WHY answers: that of the newest step, of those that are kept, at which the question changes
 abbrev pub why_said : PromptState → Question → List ℕ
-why_said s x = why_text s x (newest_change s.input x s.debugger.earliest s.debugger.position)
+why_said state question =
+    why_text state question (newest_change state.input question state.debugger.earliest state.debugger.position)
 
 -- what HISTORY answers
 abbrev pub history_said : PromptState → Question → ℕ → List ℕ
-history_said s x rows = history_text s.input x rows s.debugger.earliest s.debugger.position
+history_said state question rows =
+    history_text state.input question rows state.debugger.earliest state.debugger.position
 
 -- where memory was refused, the debugger stands between the earliest kept position and its own
 unfoldable pub HasLookedBack : PromptState → PromptState → Type 0
-HasLookedBack s after =
-    IsSameBeside s after × (after.debugger ≡ debugger_state_at s.debugger after.debugger.position)
-    × (s.debugger.earliest ≤ after.debugger.position) × (after.debugger.position ≤ s.debugger.position)
+HasLookedBack state after =
+    IsSameBeside state after × (after.debugger ≡ debugger_state_at state.debugger after.debugger.position)
+    × (state.debugger.earliest ≤ after.debugger.position) × (after.debugger.position ≤ state.debugger.position)

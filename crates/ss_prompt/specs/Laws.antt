@@ -38,10 +38,10 @@ PlainAnswersComeFirst =
 
 -- a text is the answers of docs/DEBUGGER.md to some lines, in order, behind each perhaps something more
 unfoldable pub AnswersFirst : Input → DebuggerState → List (List ℕ) → List ℕ → Type 0
-AnswersFirst t d [] text = text ≡ []
-AnswersFirst t d (line ∷ lines) text =
-    (more rest : List ℕ) × (text ≡ answer t d (command_of line) ++ more ++ rest)
-    × AnswersFirst t (debugger_state_after t d (command_of line)) lines rest
+AnswersFirst input debugger [] text = text ≡ []
+AnswersFirst input debugger (line ∷ lines) text =
+    (more rest : List ℕ) × (text ≡ answer input debugger (command_of line) ++ more ++ rest)
+    × AnswersFirst input (debugger_state_after input debugger (command_of line)) lines rest
 
 -- so it is with what the prompt answers to lines that are all such commands, up to the first QUIT: with the answers of
 -- a transcript

@@ -19,7 +19,7 @@ listed_lines lines present from (suc k) =
 
 -- the line of the present place
 abbrev pub present_line : PromptState → ℕ
-present_line s = line_at s.input s.debugger.position
+present_line state = line_at state.input state.debugger.position
 
 -- the lines from one to another that there are
 abbrev pub listed_to : List (List ℕ) → ℕ → ℕ → ℕ → List ℕ
@@ -33,15 +33,15 @@ listed_about lines present l =
 
 -- what LIST answers, with a line or without
 abbrev pub lines_said : PromptState → Option ℕ → List ℕ
-lines_said s (Some l) = listed_about s.lines (present_line s) l
-lines_said s None = listed_about s.lines (present_line s) (present_line s)
+lines_said state (Some l) = listed_about state.lines (present_line state) l
+lines_said state None = listed_about state.lines (present_line state) (present_line state)
 
 -- the lines of section number n, from its head to its last place
 abbrev pub section_listed : PromptState → List ℕ → Option ℕ → List ℕ
-section_listed s name None = no_section name
-section_listed s name (Some n) =
-    listed_to s.lines (present_line s) (section_of s.input.program n).line (last_line s.input.program n)
+section_listed state name None = no_section name
+section_listed state name (Some n) =
+    listed_to state.lines (present_line state) (section_of state.input.program n).line (last_line state.input.program n)
 
 -- what LIST r answers
 abbrev pub section_lines_said : PromptState → List ℕ → List ℕ
-section_lines_said s name = section_listed s name (section_named s.input.program name)
+section_lines_said state name = section_listed state name (section_named state.input.program name)

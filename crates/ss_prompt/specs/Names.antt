@@ -17,8 +17,8 @@ names_said model (Some name) = name_text model name
 
 -- what a model is warned of: of its words, and of its program
 unfoldable pub warnings_told : ProgramTable → List ℕ → List ℕ
-warnings_told p model = warnings model ++ program_warnings p model
+warnings_told program model = warnings model ++ program_warnings program model
 
 -- what WARNINGS answers
 unfoldable pub warnings_said : ProgramTable → List ℕ → List ℕ
-warnings_said p model = found_or (codes "NO WARNINGS\n") (warnings_told p model)
+warnings_said program model = found_or (codes "NO WARNINGS\n") (warnings_told program model)

@@ -1,4 +1,5 @@
--- What the history tells of a fault where a movement stops: where the entity that is missing ended, or when the list that
+-- What the history tells of a fault where a movement stops: where the entity that is missing ended, or when the list
+-- that
 -- a loop names changed.
 use Rattle.std.specs.Prelude.{ℕ, ◌≡◌, nat_lt, ◌⊎◌, List, [], ◌++◌, codes, decimal, if◌then◌else◌, Option, Some, None}
 use Rattle.ss_machine.specs.Run.{Input, run}
@@ -27,8 +28,8 @@ no_end_text earliest = if nat_lt 0 earliest then no_life_text earliest else code
 
 -- where an entity that is missing ended: in the state whose step was the last at which it changed, if there is one
 abbrev pub end_text : Input → List ℕ → ℕ → Option ℕ → List ℕ
-end_text t words earliest None = words ++ no_end_text earliest
-end_text t words earliest (Some q) = words ++ codes " ended in " ++ state_line t q
+end_text input words earliest None = words ++ no_end_text earliest
+end_text input words earliest (Some q) = words ++ codes " ended in " ++ state_line input q
 
 -- that a list changed in no step that is kept
 unfoldable pub no_list_change_text : ℕ → List ℕ
@@ -36,21 +37,21 @@ no_list_change_text earliest = codes " has not changed since STATE " ++ decimal 
 
 -- when a list changed last
 abbrev pub list_change_text : Input → List ℕ → ℕ → Option ℕ → List ℕ
-list_change_text t words earliest None = words ++ no_list_change_text earliest
-list_change_text t words earliest (Some q) = words ++ codes " changed last in " ++ state_line t q
+list_change_text input words earliest None = words ++ no_list_change_text earliest
+list_change_text input words earliest (Some q) = words ++ codes " changed last in " ++ state_line input q
 
 -- the same of a question that is asked with these words, of the last step at which it changed; of others nothing
 abbrev pub change_text : Input → List ℕ → Question → ℕ → Option ℕ → List ℕ
-change_text t words (Shown (Entity name x)) earliest step = end_text t words earliest step
-change_text t words (Shown (Set name owner)) earliest step = list_change_text t words earliest step
-change_text t words _ earliest step = []
+change_text input words (Shown (Entity name x)) earliest step = end_text input words earliest step
+change_text input words (Shown (Set name owner)) earliest step = list_change_text input words earliest step
+change_text input words _ earliest step = []
 
 -- what is told of a question, if there is one
 abbrev pub question_text : PromptState → List ℕ → Option Question → List ℕ
-question_text s words None = []
-question_text s words (Some x) =
-    change_text s.input words x s.debugger.earliest
-    (newest_change s.input x s.debugger.earliest s.debugger.position)
+question_text state words None = []
+question_text state words (Some x) =
+    change_text state.input words x state.debugger.earliest
+    (newest_change state.input x state.debugger.earliest state.debugger.position)
 
 -- the words with which the history is asked of the state's fault
 abbrev pub words_asked : PromptState → List ℕ
@@ -59,13 +60,13 @@ words_asked s =
 
 -- the question of these words
 abbrev pub question_asked : PromptState → Option Question
-question_asked s = asked_of (command_words (words_asked s))
+question_asked state = asked_of (command_words (words_asked state))
 
 -- what the history tells of the state's fault
 abbrev pub past_told : PromptState → List ℕ
-past_told s = question_text s (words_asked s) (question_asked s)
+past_told state = question_text state (words_asked state) (question_asked state)
 
 -- where memory was refused to that: the history is asked something, and the debugger stands between the earliest kept
 -- position and its own; or it stands where it stood
 unfoldable pub HasSearchedPast : PromptState → PromptState → Type 0
-HasSearchedPast s after = (after ≡ s) ⊎ ((question_asked s ≡ None → ⊥) × HasLookedBack s after)
+HasSearchedPast state after = (after ≡ state) ⊎ ((question_asked state ≡ None → ⊥) × HasLookedBack state after)

@@ -9,22 +9,23 @@ use Rattle.ss_prompt.specs.Stops.{goes_back, stop_text, IsStopRefused}
 
 -- the state behind one
 abbrev pub plain_next : PromptState → Command → PromptState
-plain_next s command = with_debugger s (debugger_state_after s.input s.debugger command)
+plain_next state command = with_debugger state (debugger_state_after state.input state.debugger command)
 
 -- behind the answer of a movement stands what is told where it stops
 abbrev pub plain_stop : PromptState → Command → List ℕ
-plain_stop s (Move m) = stop_text (goes_back m) (plain_next s (Move m))
-plain_stop s command = []
+plain_stop state (Move m) = stop_text (goes_back m) (plain_next state (Move m))
+plain_stop state command = []
 
 -- what it answers
 abbrev pub plain_said : PromptState → Command → List ℕ
-plain_said s command = answer s.input s.debugger command ++ plain_stop s command
+plain_said state command = answer state.input state.debugger command ++ plain_stop state command
 
 -- where memory was refused: a movement was made in part or whole, and then perhaps what is told of its end was refused;
 -- any other command left all as it was
 unfoldable pub IsPlainRefused : PromptState → Command → PromptState → Type 0
-IsPlainRefused s (Move m) after =
-    IsSameBeside s after
-    × (IsStateAfterRefusal s.input s.debugger (Move m) after.debugger ⊎ IsStopRefused (plain_next s (Move m)) after)
-IsPlainRefused s command after =
-    IsSameBeside s after × IsStateAfterRefusal s.input s.debugger command after.debugger
+IsPlainRefused state (Move m) after =
+    IsSameBeside state after
+    × (IsStateAfterRefusal state.input state.debugger (Move m) after.debugger
+    ⊎ IsStopRefused (plain_next state (Move m)) after)
+IsPlainRefused state command after =
+    IsSameBeside state after × IsStateAfterRefusal state.input state.debugger command after.debugger

@@ -14,8 +14,8 @@ is_movement _ = false
 
 -- the line that a command makes a break line, or no break line any more
 abbrev pub point_of : ProgramTable → PromptCommand → Option ℕ
-point_of p (Plain (Break line)) = Some line
-point_of p (Plain (Clear line)) = Some line
-point_of p (BreakSection name) = taken_line (line_of_section p name)
-point_of p (ClearSection name) = taken_line (line_of_section p name)
-point_of p _ = None
+point_of program (Plain (Break line)) = Some line
+point_of program (Plain (Clear line)) = Some line
+point_of program (BreakSection name) = taken_line (line_of_section program name)
+point_of program (ClearSection name) = taken_line (line_of_section program name)
+point_of program _ = None

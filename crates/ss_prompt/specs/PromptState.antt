@@ -26,11 +26,11 @@ pub record PromptState : Type 0 where
 
 -- what a debugger with this model, these lines and these questions stands for
 abbrev pub prompt_state_of : DebuggerView → List ℕ → List (List ℕ) → List Question → PromptState
-prompt_state_of d model lines displays = record {
+prompt_state_of debugger model lines displays = record {
   model = model;
   lines = lines;
-  input = d.machine.input;
-  debugger = debugger_state_of d;
+  input = debugger.machine.input;
+  debugger = debugger_state_of debugger;
   displays = displays;
 }
 
@@ -45,53 +45,57 @@ pub record PromptDeskView : Type 0 where
 
 -- the same desk, with other questions
 abbrev pub with_questions : PromptDeskView → List Question → PromptDeskView
-with_questions k displays = record { model = k.model; lines = k.lines; displays = displays }
+with_questions desk displays = record { model = desk.model; lines = desk.lines; displays = displays }
 
 -- what a debugger and a desk stand for
 abbrev pub state_at : DebuggerView → PromptDeskView → PromptState
-state_at d k = prompt_state_of d k.model k.lines k.displays
+state_at debugger desk = prompt_state_of debugger desk.model desk.lines desk.displays
 
 -- what a debugger that is lent stands for, in the run of a model, with these questions
 abbrev pub lent_state : DebuggerView → List ℕ → List Question → PromptState
-lent_state d model displays = prompt_state_of d model (source_lines model) displays
+lent_state debugger model displays = prompt_state_of debugger model (source_lines model) displays
 
 -- the same, with the debugger in another state
 abbrev pub with_debugger : PromptState → DebuggerState → PromptState
-with_debugger s d =
-    record { model = s.model; lines = s.lines; input = s.input; debugger = d; displays = s.displays }
+with_debugger state debugger =
+    record { model = state.model; lines = state.lines; input = state.input; debugger = debugger;
+        displays = state.displays }
 
 -- the same, with other questions
 abbrev pub with_displays : PromptState → List Question → PromptState
-with_displays s displays =
-    record { model = s.model; lines = s.lines; input = s.input; debugger = s.debugger; displays = displays }
+with_displays state displays =
+    record { model = state.model; lines = state.lines; input = state.input; debugger = state.debugger;
+        displays = displays }
 
 -- all but the state of the debugger is the same
 abbrev pub IsSameBeside : PromptState → PromptState → Type 0
-IsSameBeside s after =
-    (after.model ≡ s.model) × (after.lines ≡ s.lines) × (after.input ≡ s.input) × (after.displays ≡ s.displays)
+IsSameBeside state after =
+    (after.model ≡ state.model) × (after.lines ≡ state.lines) × (after.input ≡ state.input)
+        × (after.displays ≡ state.displays)
 
 -- the line of the place of a state, as it is written in the model
 abbrev pub source_line : PromptState → List ℕ
-source_line s = marked_line s.lines (codes "> ") (line_at s.input s.debugger.position)
+source_line state = marked_line state.lines (codes "> ") (line_at state.input state.debugger.position)
 
 -- the answers to some questions in state p
 abbrev pub answers_to : Input → ℕ → List Question → List ℕ
-answers_to t p [] = []
-answers_to t p (x ∷ xs) = answer_at t x p ++ answers_to t p xs
+answers_to input p [] = []
+answers_to input p (x ∷ xs) = answer_at input x p ++ answers_to input p xs
 
 -- what the fault of a state means, and what it is about, where it is faulted
 abbrev pub fault_told : Input → ℕ → List ℕ
-fault_told t p = fault_text t.program (run t p) (run t p).status
+fault_told input p = fault_text input.program (run input p) (run input p).status
 
 -- what is told of where the debugger stands: what the fault means, where there is one; the line of the model; the
 -- answers to the questions of each stop
 abbrev pub place_text : PromptState → List ℕ
-place_text s =
-    fault_told s.input s.debugger.position ++ source_line s ++ answers_to s.input s.debugger.position s.displays
+place_text state =
+    fault_told state.input state.debugger.position ++ source_line state
+        ++ answers_to state.input state.debugger.position state.displays
 
 -- what is told at a terminal before the first line: that HELP tells the commands, what the model is warned of, and
 -- where the debugger stands
 abbrev pub greeting : PromptState → List ℕ
-greeting s =
-    codes "HELP TELLS THE COMMANDS.\n" ++ warnings_told s.input.program s.model
-    ++ state_line s.input s.debugger.position ++ place_text s
+greeting state =
+    codes "HELP TELLS THE COMMANDS.\n" ++ warnings_told state.input.program state.model
+    ++ state_line state.input state.debugger.position ++ place_text state

@@ -27,53 +27,54 @@ use Rattle.ss_prompt.specs.Refusal.{refusal_at}
 
 -- what a command answers
 unfoldable pub prompt_answer : PromptState → PromptCommand → List ℕ
-prompt_answer s (Plain command) = plain_said s command
-prompt_answer s (Travel m) = travel_said s m
-prompt_answer s (Lines line) = lines_said s line
-prompt_answer s (SectionLines name) = section_lines_said s name
-prompt_answer s (BreakSection name) = on_section_said s Break name
-prompt_answer s (ClearSection name) = on_section_said s Clear name
-prompt_answer s Breaks = breaks_said s
-prompt_answer s (Ask x) = answer_at s.input x s.debugger.position
-prompt_answer s (See sight) = sight_said sight s.input s.debugger.position
-prompt_answer s Changed = changed_said s
-prompt_answer s (Why x) = why_said s x
-prompt_answer s (History x rows) = history_said s x rows
-prompt_answer s (Display q) = display_said s q
-prompt_answer s Undisplay = undisplay_said s
-prompt_answer s (Names name) = names_said s.model name
-prompt_answer s Warnings = warnings_said s.input.program s.model
-prompt_answer s (Help word) = help_said word
+prompt_answer state (Plain command) = plain_said state command
+prompt_answer state (Travel m) = travel_said state m
+prompt_answer state (Lines line) = lines_said state line
+prompt_answer state (SectionLines name) = section_lines_said state name
+prompt_answer state (BreakSection name) = on_section_said state Break name
+prompt_answer state (ClearSection name) = on_section_said state Clear name
+prompt_answer state Breaks = breaks_said state
+prompt_answer state (Ask x) = answer_at state.input x state.debugger.position
+prompt_answer state (See sight) = sight_said sight state.input state.debugger.position
+prompt_answer state Changed = changed_said state
+prompt_answer state (Why x) = why_said state x
+prompt_answer state (History x rows) = history_said state x rows
+prompt_answer state (Display q) = display_said state q
+prompt_answer state Undisplay = undisplay_said state
+prompt_answer state (Names name) = names_said state.model name
+prompt_answer state Warnings = warnings_said state.input.program state.model
+prompt_answer state (Help word) = help_said word
 
 -- the state behind a command
 unfoldable pub prompt_state_after : PromptState → PromptCommand → PromptState
-prompt_state_after s (Plain command) = plain_next s command
-prompt_state_after s (Travel m) = travel_next s m
-prompt_state_after s (BreakSection name) = on_section_next s Break name
-prompt_state_after s (ClearSection name) = on_section_next s Clear name
-prompt_state_after s (Display q) = display_next s q
-prompt_state_after s Undisplay = undisplay_next s
-prompt_state_after s _ = s
+prompt_state_after state (Plain command) = plain_next state command
+prompt_state_after state (Travel m) = travel_next state m
+prompt_state_after state (BreakSection name) = on_section_next state Break name
+prompt_state_after state (ClearSection name) = on_section_next state Clear name
+prompt_state_after state (Display q) = display_next state q
+prompt_state_after state Undisplay = undisplay_next state
+prompt_state_after state _ = state
 
 -- whether a command ends the dialogue: QUIT alone
 abbrev pub is_quit : PromptCommand → Bool
 is_quit (Plain command) = is_plain_quit command
 is_quit _ = false
 
--- where memory was refused: a movement was made in part or whole, and then perhaps a step beside, or, at a fault of which
+-- where memory was refused: a movement was made in part or whole, and then perhaps a step beside, or, at a fault of
+-- which
 -- the history tells, at an earlier state; WHY and HISTORY left the debugger perhaps at an earlier state, SHOW CHANGED a
 -- step beside; any other command left all as it was
 unfoldable pub IsRefused : PromptState → PromptCommand → PromptState → Type 0
-IsRefused s (Plain command) after = IsPlainRefused s command after
-IsRefused s (Travel m) after = IsTravelRefused s m after
-IsRefused s Changed after = HasLookedBeside s after
-IsRefused s (Why x) after = HasLookedBack s after
-IsRefused s (History x rows) after = HasLookedBack s after
-IsRefused s _ after = after ≡ s
+IsRefused state (Plain command) after = IsPlainRefused state command after
+IsRefused state (Travel m) after = IsTravelRefused state m after
+IsRefused state Changed after = HasLookedBeside state after
+IsRefused state (Why x) after = HasLookedBack state after
+IsRefused state (History x rows) after = HasLookedBack state after
+IsRefused state _ after = after ≡ state
 
 -- the answer where memory was refused, in the state in which that left the debugger
 abbrev pub refusal_text : PromptState → List ℕ
-refusal_text s = refusal_at s.input s.debugger.position
+refusal_text state = refusal_at state.input state.debugger.position
 
 -- a dialogue with the debugger
 abbrev pub prompt_meaning : Meaning

@@ -7,7 +7,7 @@ use Rattle.ss_debug.specs.Move.{line_at}
 
 -- in state p: that memory was refused, and the state line
 unfoldable pub refusal_at : Input → ℕ → List ℕ
-refusal_at t p = codes "OUT OF MEMORY\n" ++ state_line t p
+refusal_at input p = codes "OUT OF MEMORY\n" ++ state_line input p
 
 -- its parts, where those of the state line are told: the position, the clock, the word of the status and the number
 -- behind it, the section, the line
@@ -18,5 +18,6 @@ refusal_parts position clock word number section line =
 
 -- in state p, of which the word of the status and the number behind it are told so
 abbrev pub refusal_with : Input → ℕ → List ℕ → List ℕ → List (List ℕ)
-refusal_with t p word number =
-    refusal_parts (decimal p) (signed_decimal (run t p).clock) word number (section_at t p) (decimal (line_at t p))
+refusal_with input p word number =
+    refusal_parts (decimal p) (signed_decimal (run input p).clock) word number (section_at input p)
+        (decimal (line_at input p))

@@ -13,7 +13,7 @@ use Rattle.ss_prompt.specs.Plain.{plain_next}
 
 -- the number of the section of this name
 abbrev pub section_named : ProgramTable → List ℕ → Option ℕ
-section_named p name = position (λ s. bytes_eq name s.name) p.sections
+section_named program name = position (λ s. bytes_eq name s.name) program.sections
 
 -- that there is none
 abbrev pub no_section : List ℕ → List ℕ
@@ -21,11 +21,11 @@ no_section name = codes "NO SECTION " ++ name ++ 10 ∷ []
 
 -- the line of the first place of section number n
 abbrev pub first_line : ProgramTable → ℕ → ℕ
-first_line p n = spot_line (spot_at p n 0)
+first_line program n = spot_line (spot_at program n 0)
 
 -- the line of its last place
 abbrev pub last_line : ProgramTable → ℕ → ℕ
-last_line p n = spot_line (spot_at p n (length (places_of (slice_get p.sections n)) - 1))
+last_line program n = spot_line (spot_at program n (length (places_of (slice_get program.sections n)) - 1))
 
 -- BREAK or CLEAR of a line, or a bad one behind the last line that they take
 abbrev pub command_on : (ℕ → Command) → ℕ → Command
@@ -38,22 +38,22 @@ taken_line (Some line) = if nat_le line LAST_BREAK_LINE then Some line else None
 
 -- the line of the first place of the section of this name
 abbrev pub line_of_section : ProgramTable → List ℕ → Option ℕ
-line_of_section p name = option_map (first_line p) (section_named p name)
+line_of_section program name = option_map (first_line program) (section_named program name)
 
 -- what a command on the line of a section answers, or that there is no such section
 abbrev pub on_line_said : PromptState → (ℕ → Command) → List ℕ → Option ℕ → List ℕ
-on_line_said s make name None = no_section name
-on_line_said s make name (Some line) = answer s.input s.debugger (command_on make line)
+on_line_said state make name None = no_section name
+on_line_said state make name (Some line) = answer state.input state.debugger (command_on make line)
 
 -- the state behind it
 abbrev pub on_line_next : PromptState → (ℕ → Command) → Option ℕ → PromptState
-on_line_next s make None = s
-on_line_next s make (Some line) = plain_next s (command_on make line)
+on_line_next state make None = state
+on_line_next state make (Some line) = plain_next state (command_on make line)
 
 -- what BREAK r or CLEAR r answers: what BREAK or CLEAR answers on the line of the first place of section r
 abbrev pub on_section_said : PromptState → (ℕ → Command) → List ℕ → List ℕ
-on_section_said s make name = on_line_said s make name (line_of_section s.input.program name)
+on_section_said state make name = on_line_said state make name (line_of_section state.input.program name)
 
 -- the state behind it
 abbrev pub on_section_next : PromptState → (ℕ → Command) → List ℕ → PromptState
-on_section_next s make name = on_line_next s make (line_of_section s.input.program name)
+on_section_next state make name = on_line_next state make (line_of_section state.input.program name)

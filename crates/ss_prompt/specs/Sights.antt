@@ -66,12 +66,12 @@ sight_of (what ∷ word ∷ rest) =
 
 -- what is told in state p
 abbrev pub sight_said : Sight → Input → ℕ → List ℕ
-sight_said Calls t p = calls_text t p
-sight_said Locals t p = locals_text t p
-sight_said Globals t p = globals_text t p
-sight_said Classes t p = classes_text t p
-sight_said Sets t p = sets_text t
-sight_said Sections t p = sections_text t
-sight_said (Living name) t p = living_text name t p
-sight_said (ByVariable class variable attribute) t p = by_variable_text class variable attribute t p
-sight_said (Places class x) t p = places_text class x t p
+sight_said Calls input p = calls_text input p
+sight_said Locals input p = locals_text input p
+sight_said Globals input p = globals_text input p
+sight_said Classes input p = classes_text input p
+sight_said Sets input p = sets_text input
+sight_said Sections input p = sections_text input
+sight_said (Living name) input p = living_text name input p
+sight_said (ByVariable class variable attribute) input p = by_variable_text class variable attribute input p
+sight_said (Places class x) input p = places_text class x input p

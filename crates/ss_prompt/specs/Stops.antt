@@ -27,26 +27,26 @@ travels_back _ p = false
 
 -- what the last step changed; where a movement went back, what the next one will change
 abbrev pub changes_told : Bool → PromptState → List ℕ
-changes_told false s = stop_changes s.input s.debugger.earliest s.debugger.position
-changes_told true s = stop_changes_ahead s.input s.debugger.position
+changes_told false state = stop_changes state.input state.debugger.earliest state.debugger.position
+changes_told true state = stop_changes_ahead state.input state.debugger.position
 
 -- what is told where a movement stops, that went back or not: what the fault means, where there is one, and what the
 -- history tells of it; the line of the model; what changed, or will; the answers to the questions of each stop
 abbrev pub stop_text : Bool → PromptState → List ℕ
-stop_text is_back s =
-    fault_told s.input s.debugger.position ++ past_told s ++ source_line s ++ changes_told is_back s
-    ++ answers_to s.input s.debugger.position s.displays
+stop_text is_back state =
+    fault_told state.input state.debugger.position ++ past_told state ++ source_line state ++ changes_told is_back state
+    ++ answers_to state.input state.debugger.position state.displays
 
 -- what SHOW CHANGED answers
 abbrev pub changed_said : PromptState → List ℕ
-changed_said s = changed_text s.input s.debugger.earliest s.debugger.position
+changed_said state = changed_text state.input state.debugger.earliest state.debugger.position
 
 -- where memory was refused to what changed, the debugger stands where it stood, or one step beside
 unfoldable pub HasLookedBeside : PromptState → PromptState → Type 0
-HasLookedBeside s after =
-    IsSameBeside s after × (after.debugger ≡ debugger_state_at s.debugger after.debugger.position)
-    × (s.debugger.position ≤ after.debugger.position + 1) × (after.debugger.position ≤ s.debugger.position + 1)
+HasLookedBeside state after =
+    IsSameBeside state after × (after.debugger ≡ debugger_state_at state.debugger after.debugger.position)
+    × (state.debugger.position ≤ after.debugger.position + 1) × (after.debugger.position ≤ state.debugger.position + 1)
 
 -- where memory was refused to what is told at a stop: to what changed, or to what the history tells
 unfoldable pub IsStopRefused : PromptState → PromptState → Type 0
-IsStopRefused s after = HasLookedBeside s after ⊎ HasSearchedPast s after
+IsStopRefused state after = HasLookedBeside state after ⊎ HasSearchedPast state after

@@ -7,15 +7,17 @@ use Rattle.ss_prompt.specs.Stops.{travels_back, stop_text, IsStopRefused}
 
 -- the state behind one
 abbrev pub travel_next : PromptState → Movement → PromptState
-travel_next s m = with_debugger s (state_after s.input s.debugger m)
+travel_next state movement = with_debugger state (state_after state.input state.debugger movement)
 
 -- what it answers, and what is told where it stops
 abbrev pub travel_said : PromptState → Movement → List ℕ
-travel_said s m =
-    answer s.input s.debugger m ++ stop_text (travels_back m s.debugger.position) (travel_next s m)
+travel_said state movement =
+    answer state.input state.debugger movement
+        ++ stop_text (travels_back movement state.debugger.position) (travel_next state movement)
 
 -- where memory was refused it was made in part or whole, and then perhaps what is told of its end was refused
 unfoldable pub IsTravelRefused : PromptState → Movement → PromptState → Type 0
-IsTravelRefused s m after =
-    IsSameBeside s after
-    × (IsStateAfterRefusal s.input s.debugger m after.debugger ⊎ IsStopRefused (travel_next s m) after)
+IsTravelRefused state movement after =
+    IsSameBeside state after
+    × (IsStateAfterRefusal state.input state.debugger movement after.debugger
+    ⊎ IsStopRefused (travel_next state movement) after)

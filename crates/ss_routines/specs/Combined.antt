@@ -16,11 +16,11 @@ pair p q = p >>= λ a. q >>= λ b. pure (a, b)
 
 -- a mark and then what p reads
 unfoldable pub behind : {A : Type 0} → Mark → Reading A → Reading A
-behind k p = expect k >>= λ u. p
+behind mark p = expect mark >>= λ u. p
 
 -- what p reads and then a mark
 unfoldable pub before : {A : Type 0} → Reading A → Mark → Reading A
-before p k = p >>= λ a. expect k >>= λ u. pure a
+before p mark = p >>= λ a. expect mark >>= λ u. pure a
 
 -- what f makes of what p reads
 unfoldable pub made : {A B : Type 0} → (A → B) → Reading A → Reading B
@@ -28,7 +28,7 @@ made f p = p >>= λ a. pure (f a)
 
 -- a mark and what p reads, if the mark stands here
 unfoldable pub if_mark : {A : Type 0} → Mark → Reading A → Reading (Option A)
-if_mark k p = eat k >>= λ b. elim b [ true ↦ (p >>= λ a. pure (Some a)) | false ↦ pure None ]
+if_mark mark p = eat mark >>= λ b. elim b [ true ↦ (p >>= λ a. pure (Some a)) | false ↦ pure None ]
 
 -- a word of a table and what p reads, if such a word stands here
 unfoldable pub if_word : {W A : Type 0} → Reading (Option W) → Reading A → Reading (Option (W × A))
@@ -60,12 +60,12 @@ if_open n p = eat_open n >>= λ b. elim b [
 
 -- whether a mark stands here, which is then passed; refused where no more of them may be open
 unfoldable pub eat_allowed : ℕ → Mark → Reading Bool
-eat_allowed zero k = look (λ w. elim (is k w) [ true ↦ refuse PastLimit | false ↦ pure false ])
-eat_allowed (suc n) k = eat k
+eat_allowed zero mark = look (λ w. elim (is mark w) [ true ↦ refuse PastLimit | false ↦ pure false ])
+eat_allowed (suc n) mark = eat mark
 
 -- a mark of which so many may be open and what p reads, if the mark stands here
 unfoldable pub if_allowed : {A : Type 0} → ℕ → Mark → Reading A → Reading (Option A)
-if_allowed n k p = eat_allowed n k >>= λ b. elim b [ true ↦ (p >>= λ a. pure (Some a)) | false ↦ pure None ]
+if_allowed n mark p = eat_allowed n mark >>= λ b. elim b [ true ↦ (p >>= λ a. pure (Some a)) | false ↦ pure None ]
 
 -- one or more with commas between
 unfoldable pub several : {A : Type 0} → Reading A → Reading (Several A)

@@ -52,7 +52,7 @@ spell_subscript (Some e) = spell_within (spell_expr e)
 
 -- a name and its subscript
 abbrev pub spell_reference : Reference → List Plain
-spell_reference v = name v.name ∷ spell_subscript v.subscript
+spell_reference reference = name reference.name ∷ spell_subscript reference.subscript
 
 -- the sign of a comparison, or NE
 abbrev pub spell_comparison : Comparison → Plain
@@ -102,7 +102,7 @@ depth_subscript (Some e) = suc (depth_expr e)
 
 -- in a reference
 abbrev pub depth_reference : Reference → ℕ
-depth_reference v = depth_subscript v.subscript
+depth_reference reference = depth_subscript reference.subscript
 
 -- in a condition, and in each part of it
 abbrev mutual

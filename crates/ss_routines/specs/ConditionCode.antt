@@ -86,7 +86,7 @@ abbrev mutual
 
 -- the reference that is held
 abbrev pub held_reference : Held → Reference
-held_reference h = record { name = h.1.0; subscript = h.1.1 }
+held_reference held = record { name = held.1.0; subscript = held.1.1 }
 
 -- a token put before the parts that were read behind it
 abbrev pub condition_read : List Part → List Part
@@ -115,9 +115,9 @@ nested_read st = st
 
 -- the relation of a token by its number, less 5
 abbrev pub relation_of : ℕ → Held → Relation
-relation_of zero h = compared h.0.0 Equal h.0.1
-relation_of (suc zero) h = compared h.0.0 Unequal h.0.1
-relation_of (suc (suc zero)) h = compared h.0.0 Less h.0.1
+relation_of zero held = compared held.0.0 Equal held.0.1
+relation_of (suc zero) held = compared held.0.0 Unequal held.0.1
+relation_of (suc (suc zero)) held = compared held.0.0 Less held.0.1
 relation_of (suc (suc (suc zero))) h = compared h.0.0 Greater h.0.1
 relation_of (suc (suc (suc (suc zero)))) h = compared h.0.0 AtMost h.0.1
 relation_of (suc (suc (suc (suc (suc zero))))) h = compared h.0.0 AtLeast h.0.1
@@ -133,9 +133,9 @@ addition_read (suc n) st = and_read st
 
 -- of a token by its number
 abbrev pub token_read : ℕ → Held → List Part → List Part
-token_read zero h st = condition_read st
-token_read (suc zero) h st = some_alternatives no_alternatives ∷ st
-token_read (suc (suc zero)) h st = or_read st
+token_read zero held st = condition_read st
+token_read (suc zero) held st = some_alternatives no_alternatives ∷ st
+token_read (suc (suc zero)) held st = or_read st
 token_read (suc (suc (suc zero))) h st = conjunction_read st
 token_read (suc (suc (suc (suc zero)))) h st = nested_read st
 token_read (suc (suc (suc (suc (suc (suc (suc (suc (suc (suc (suc (suc (suc (suc (suc n))))))))))))))) h st =
@@ -206,7 +206,7 @@ mutual
 
 -- a condition as its tokens
 abbrev pub tokens_of_condition : Condition → List Token
-tokens_of_condition c = condition_tokens c []
+tokens_of_condition condition = condition_tokens condition []
 
 -- and read back from them
 abbrev pub condition_of_tokens : List Token → Condition

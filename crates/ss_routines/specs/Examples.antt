@@ -22,7 +22,7 @@ use Rattle.ss_routines.specs.Refused.{AreSections}
 
 -- the words spell this tree and no other
 abbrev pub SpellOnly : List Plain → Tree → Type 0
-SpellOnly ws t = (spell t ≡ ws) × ((u : Tree) → spell u ≡ ws → u ≡ t)
+SpellOnly ws tree = (spell tree ≡ ws) × ((u : Tree) → spell u ≡ ws → u ≡ tree)
 
 -- a reserved word
 abbrev pub word : Reserved → Plain
@@ -70,11 +70,11 @@ one_statement o = statement (alone o) no_statements
 
 -- the expression of one factor
 abbrev pub value : Factor → Expr
-value f = expr None (term f no_products) no_sums
+value factor = expr None (term factor no_products) no_sums
 
 -- a factor = 1
 abbrev pub is_one : Factor → Relation
-is_one f = compared (value f) Equal (value (digits 1))
+is_one factor = compared (value factor) Equal (value (digits 1))
 
 -- the condition of one relation
 abbrev pub alone_holds : Relation → Condition
@@ -113,9 +113,9 @@ ForControlsOneStatement =
 
 -- the words of a condition behind IF, and the tree of that IF
 abbrev pub AsksOnly : List Plain → Condition → Type 0
-AsksOnly ws c =
+AsksOnly ws condition =
     SpellOnly (main_words (word r.If ∷ (ws ++ word r.Always ∷ [])))
-    (main_tree (one_statement (branch (Holds c) no_statements no_else)))
+    (main_tree (one_statement (branch (Holds condition) no_statements no_else)))
 
 -- X = 1 OR Y = 1 AND S = 1: AND binds more tightly
 abbrev pub AndBindsMoreTightly : Type 0
@@ -141,7 +141,7 @@ apart k (w ∷ ws) = record { line = k; index = k; word = w } ∷ apart (k + 1) 
 
 -- a place in a line
 abbrev pub at_line : ℕ → Place → Spot
-at_line l p = record { line = l; place = p }
+at_line l place = record { line = l; place = place }
 
 -- X AS SUM
 abbrev pub x_as_sum : Several Computed

@@ -194,7 +194,7 @@ mutual
 
 -- an expression as its tokens
 abbrev pub tokens_of_expr : Expr → List Token
-tokens_of_expr e = expr_tokens e []
+tokens_of_expr expression = expr_tokens expression []
 
 -- and read back from them
 abbrev pub expr_of_tokens : List Token → Expr

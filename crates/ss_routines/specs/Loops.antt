@@ -95,11 +95,11 @@ spell_qualifier_word Until = mark (m.Reserved r.Until)
 
 -- a qualifier
 abbrev pub spell_qualifier : Qualifier → List Plain
-spell_qualifier q = spell_qualifier_word q.word ∷ spell_condition q.condition
+spell_qualifier qualifier = spell_qualifier_word qualifier.word ∷ spell_condition qualifier.condition
 
 -- a FOR phrase
 abbrev pub spell_phrase : Phrase → List Plain
-spell_phrase f = mark (m.Reserved r.For) ∷ (spell_range f.range ++ flat_map spell_qualifier f.qualifiers)
+spell_phrase phrase = mark (m.Reserved r.For) ∷ (spell_range phrase.range ++ flat_map spell_qualifier phrase.qualifiers)
 
 -- NUMBER, SUM, MAXIMUM or MINIMUM
 abbrev pub spell_statistic : Statistic → Plain
@@ -114,8 +114,8 @@ spell_computed t = spell_reference t.target ++ mark (m.Reserved r.As) ∷ spell_
 
 -- COMPUTE, its targets and its expression
 abbrev pub spell_compute : Several Computed → Expr → List Plain
-spell_compute ts e =
-    mark (m.Reserved r.Compute) ∷ (spell_several spell_computed ts ++ mark (m.Reserved r.In) ∷ spell_expr e)
+spell_compute ts expression =
+    mark (m.Reserved r.Compute) ∷ (spell_several spell_computed ts ++ mark (m.Reserved r.In) ∷ spell_expr expression)
 
 -- what stands behind IF
 abbrev pub spell_question : Question → List Plain
@@ -139,11 +139,11 @@ depth_range (Walking d n v b) = max (depth_reference v) (depth_walk_start b)
 
 -- in a qualifier
 abbrev pub depth_qualifier : Qualifier → ℕ
-depth_qualifier q = depth_condition q.condition
+depth_qualifier qualifier = depth_condition qualifier.condition
 
 -- in a FOR phrase
 abbrev pub depth_phrase : Phrase → ℕ
-depth_phrase f = max (depth_range f.range) (greatest depth_qualifier f.qualifiers)
+depth_phrase phrase = max (depth_range phrase.range) (greatest depth_qualifier phrase.qualifiers)
 
 -- in a target of COMPUTE
 abbrev pub depth_computed : Computed → ℕ
@@ -151,7 +151,7 @@ depth_computed t = depth_reference t.target
 
 -- in COMPUTE
 abbrev pub depth_compute : Several Computed → Expr → ℕ
-depth_compute ts e = max (greatest_of depth_computed ts) (depth_expr e)
+depth_compute ts expression = max (greatest_of depth_computed ts) (depth_expr expression)
 
 -- in what IF asks
 abbrev pub depth_question : Question → ℕ

@@ -7,4 +7,4 @@ use Rattle.ss_routines.specs.Refused.{IsWithin}
 
 -- a program within the limits writes them out, with the lines of its words
 abbrev pub AreOfProgram : List Section → Type 0
-AreOfProgram ss = (t : Tree) × (ls : List ℕ) × IsWithin t × (ss ≡ written ls t)
+AreOfProgram sections = (t : Tree) × (ls : List ℕ) × IsWithin t × (sections ≡ written ls t)

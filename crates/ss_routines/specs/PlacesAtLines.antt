@@ -19,7 +19,7 @@ use Rattle.ss_routines.specs.Tree.{is_head}
 
 -- a place and its line
 abbrev pub noted_at : ℕ → Place → Spot
-noted_at l p = record { line = l; place = p }
+noted_at l place = record { line = l; place = place }
 
 -- reads an item, if one stands here, notes its places, and tells whether it did
 abbrev pub NotingItem : Type 0

@@ -27,17 +27,17 @@ abbrev pub lines : List PlainAt → List ℕ
 lines ws = map (λ w. w.line) ws
 
 -- a program within the limits
-pub record IsWithin (t : Tree) : Type 0 where
+pub record IsWithin (tree : Tree) : Type 0 where
   -- open at once
-  pub parentheses : depth t ≤ MOST_PARENTHESES
+  pub parentheses : depth tree ≤ MOST_PARENTHESES
   -- open at once
-  pub ifs : ifs t ≤ MOST_IFS
+  pub ifs : ifs tree ≤ MOST_IFS
   -- open at once
-  pub phrases : phrases t ≤ MOST_PHRASES
+  pub phrases : phrases tree ≤ MOST_PHRASES
   -- of a section, given and yielded
-  pub parameters : parameters t ≤ MOST_PARAMETERS
+  pub parameters : parameters tree ≤ MOST_PARAMETERS
   -- all of them
-  pub sections : length t ≤ MOST_SECTIONS
+  pub sections : length tree ≤ MOST_SECTIONS
 
 -- some program begins with these words
 abbrev pub Begins : List Plain → Type 0
@@ -116,7 +116,7 @@ IsRefused _ l ws = ⊥
 
 -- the words spell a program within the limits, and these are the sections that it writes out
 abbrev pub AreSections : List Section → List PlainAt → Type 0
-AreSections ss ws = (t : Tree) × IsWithin t × (plains ws ≡ spell t) × (ss ≡ written (lines ws) t)
+AreSections sections ws = (t : Tree) × IsWithin t × (plains ws ≡ spell t) × (sections ≡ written (lines ws) t)
 
 -- the words are refused so, or memory ran out
 abbrev pub IsFault : TextFault → List PlainAt → Type 0

@@ -48,9 +48,9 @@ abbrev pub list_of : {A : Type 0} → Option (Several A) → List A
 list_of None = []
 list_of (Some xs) = all_of xs
 
--- [k x {"," x}]
+-- [mark x {"," x}]
 unfoldable pub list_behind : {A : Type 0} → Mark → Reading A → Reading (List A)
-list_behind k p = made list_of (if_mark k (several p))
+list_behind mark p = made list_of (if_mark mark (several p))
 
 -- [GIVEN x {"," x} | "(" x {"," x} ")"], where inner reads in the parentheses
 unfoldable pub listing_with : {A : Type 0} → ℕ → Reading A → Reading A → Reading (Listing A)

@@ -23,12 +23,12 @@ use Rattle.ss_routines.specs.Simple.{Transfers, Times, Exchanges}
 
 -- one or more behind a word, or nothing
 abbrev pub spell_behind : {A : Type 0} → Mark → (A → List Plain) → List A → List Plain
-spell_behind k spell [] = []
+spell_behind mark spell [] = []
 spell_behind k spell (x ∷ xs) = mark k ∷ (spell x ++ spell_others spell xs)
 
 -- one behind a word, or nothing
 abbrev pub spell_option : {A : Type 0} → Mark → (A → List Plain) → Option A → List Plain
-spell_option k spell None = []
+spell_option mark spell None = []
 spell_option k spell (Some x) = mark k ∷ spell x
 
 -- nothing, or behind GIVEN, or in parentheses

@@ -120,8 +120,9 @@ spell_define ns =
 
 -- a section, up to its END
 abbrev pub spell_section : SectionTree → List Plain
-spell_section t =
-    spell_head t.head ++ flat_map spell_define t.locals ++ spell_block t.block ++ mark (m.Reserved r.End) ∷ []
+spell_section section =
+    spell_head section.head ++ flat_map spell_define section.locals ++ spell_block section.block
+        ++ mark (m.Reserved r.End) ∷ []
 
 -- the plain words of a program
 abbrev pub spell : Tree → List Plain
@@ -167,7 +168,7 @@ depth_head (EventHead n ps b) = depth_listing (λ p. 0) ps
 
 -- in a section
 abbrev pub depth_section : SectionTree → ℕ
-depth_section t = max (depth_head t.head) (depth_block t.block)
+depth_section section = max (depth_head section.head) (depth_block section.block)
 
 -- in a program
 abbrev pub depth : Tree → ℕ

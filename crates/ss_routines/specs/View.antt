@@ -289,10 +289,10 @@ spots xs = map spot_view xs
 
 -- a name of the code
 abbrev pub head_view : Name → CodeKind → Head
-head_view n kind.Main = MainHead
-head_view n (kind.Routine given yielded) =
-    RoutineHead n (listing_view (λ n. n) given) yielded.items
-head_view n (kind.Event given saving) = EventHead n (listing_view (λ n. n) given) saving
+head_view name kind.Main = MainHead
+head_view name (kind.Routine given yielded) =
+    RoutineHead name (listing_view (λ name. name) given) yielded.items
+head_view name (kind.Event given saving) = EventHead name (listing_view (λ name. name) given) saving
 
 -- a local DEFINE of the code
 abbrev pub local_view : CodeLocalNames → p.LocalNames

@@ -43,10 +43,10 @@ pub record HasAdvanced (stepped : Stepped) (steps : ℕ) (old new : Moment) : Ty
 
 -- a run is made, and its report written, or what cut it short
 unfoldable pub MakesRun : Result WholeRun RunCut → Input → OutletState → OutletState → Type 0
-MakesRun (Ok whole) t old new =
-    (p : ℕ) × IsRunEnd t p × SaysEnd t p whole.end × TellsEnd whole t p
-    × Appends old.taken new.taken (run t p).report × (new.failures ≡ old.failures)
-MakesRun (Err cut) t old new = RunEnds (Err cut) t old new
+MakesRun (Ok whole) input old new =
+    (p : ℕ) × IsRunEnd input p × SaysEnd input p whole.end × TellsEnd whole input p
+    × Appends old.taken new.taken (run input p).report × (new.failures ≡ old.failures)
+MakesRun (Err cut) input old new = RunEnds (Err cut) input old new
 
 -- what is said of a model whose text the rule with this code refuses
 abbrev pub RefusesText : RunEnd → WholeRun → List ℕ → List ℕ → ℕ → Type 0

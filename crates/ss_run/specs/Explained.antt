@@ -11,7 +11,7 @@ use Rattle.ss_names.specs.Subjects.{breach_text}
 
 -- what is said behind the line of the last state: where it is faulted, the fault's sentence and what it is about
 unfoldable pub end_explanation : ProgramTable → State → List ℕ
-end_explanation p s = fault_text p s s.status
+end_explanation program state = fault_text program state state.status
 
 -- the sentence of a rule behind its code, as a line
 abbrev pub rule_line : List ℕ → List ℕ

@@ -21,19 +21,19 @@ use Rattle.ss_session.specs.Transcript.{refusal_line}
 use Rattle.ss_session.specs.Written.{WritesPart}
 
 -- a run ends at position p: that of the first state that isn't ready, or the last one
-pub record IsRunEnd (t : Input) (p : ℕ) : Type 0 where
+pub record IsRunEnd (input : Input) (p : ℕ) : Type 0 where
   -- it is no further than the last one
   pub within : p ≤ LAST_POSITION
   -- all states before are ready
-  pub ready : (k : ℕ) → k < p → is_ready_at t k ≡ true
+  pub ready : (k : ℕ) → k < p → is_ready_at input k ≡ true
   -- it is not ready, or the last one
-  pub ended : (is_ready_at t p ≡ false) ⊎ (p ≡ LAST_POSITION)
+  pub ended : (is_ready_at input p ≡ false) ⊎ (p ≡ LAST_POSITION)
 
 -- how the run of a program ended at position p: whether that state is faulted, and then its state line
 abbrev pub SaysEnd : Input → ℕ → RunEnd → Type 0
-SaysEnd t p Done = is_faulted (run t p).status ≡ false
-SaysEnd t p (Faulted line) = (is_faulted (run t p).status ≡ true) × (line.items ≡ state_line t p)
-SaysEnd t p (Refused line) = ⊥
+SaysEnd input p Done = is_faulted (run input p).status ≡ false
+SaysEnd input p (Faulted line) = (is_faulted (run input p).status ≡ true) × (line.items ≡ state_line input p)
+SaysEnd input p (Refused line) = ⊥
 
 -- the line of a refused model
 abbrev pub IsRefusalLine : List ℕ → List ℕ → Type 0
@@ -46,12 +46,12 @@ IsRefusalLine model line =
 -- the run of a program is made, by how it ends: the whole report of its last state is written, nothing where memory is
 -- refused, a prefix where a write fails
 unfoldable pub RunEnds : Result RunEnd RunCut → Input → OutletState → OutletState → Type 0
-RunEnds (Ok end) t old new =
-    (p : ℕ) × IsRunEnd t p × SaysEnd t p end × Appends old.taken new.taken (run t p).report
+RunEnds (Ok end) input old new =
+    (p : ℕ) × IsRunEnd input p × SaysEnd input p end × Appends old.taken new.taken (run input p).report
     × (new.failures ≡ old.failures)
-RunEnds (Err Memory) t old new = Appends old.taken new.taken [] × (new.failures ≡ old.failures)
-RunEnds (Err Write) t old new =
-    (p : ℕ) × IsRunEnd t p × WritesPart (run t p).report old.taken new.taken × (new.failures ≡ old.failures + 1)
+RunEnds (Err Memory) input old new = Appends old.taken new.taken [] × (new.failures ≡ old.failures)
+RunEnds (Err Write) input old new =
+    (p : ℕ) × IsRunEnd input p × WritesPart (run input p).report old.taken new.taken × (new.failures ≡ old.failures + 1)
 
 -- the model is a program, whose run over the data is made
 abbrev pub IsRun : Result RunEnd RunCut → List ℕ → List ℕ → OutletState → OutletState → Type 0

@@ -37,33 +37,34 @@ column_names = map (λ name. name.now) COLUMN_NAMES
 -- the row of a question that changes at the step from state q: the state, its clock, section and line, the question as
 -- it is asked, and its value behind the step
 abbrev pub step_fields : Input → Question → ℕ → List (List ℕ)
-step_fields t x q =
-    decimal q ∷ signed_decimal (run t q).clock ∷ section_at t q ∷ decimal (line_at t q) ∷ question_text x
-    ∷ value_at t x (q + 1) ∷ []
+step_fields input question q =
+    decimal q ∷ signed_decimal (run input q).clock ∷ section_at input q ∷ decimal (line_at input q)
+        ∷ question_text question
+    ∷ value_at input question (q + 1) ∷ []
 
 -- that row where the question changes, else nothing
 unfoldable pub change_row : Input → ℕ → Question → List ℕ
-change_row t q x = if changes_at t x q then csv_row (step_fields t x q) else []
+change_row input q question = if changes_at input question q then csv_row (step_fields input question q) else []
 
 -- the rows of the step from state q, in the order of the questions
 abbrev pub step_rows : Input → List Question → ℕ → List ℕ
-step_rows t xs q = flat_map (change_row t q) xs
+step_rows input xs q = flat_map (change_row input q) xs
 
 -- the rows of all steps before state p
 unfoldable pub rows_before : Input → List Question → ℕ → List ℕ
-rows_before t xs zero = []
-rows_before t xs (suc q) = rows_before t xs q ++ step_rows t xs q
+rows_before input xs zero = []
+rows_before input xs (suc q) = rows_before input xs q ++ step_rows input xs q
 
 -- the trace of a run up to state p
 abbrev pub trace_text : Input → List Question → ℕ → List ℕ
-trace_text t xs p = csv_row column_names ++ rows_before t xs p
+trace_text input xs p = csv_row column_names ++ rows_before input xs p
 
 -- a run gets as far as state p
-pub record Reaches (t : Input) (p : ℕ) : Type 0 where
+pub record Reaches (input : Input) (p : ℕ) : Type 0 where
   -- it is no further than the last one
   pub within : p ≤ LAST_POSITION
   -- all states before are ready
-  pub ready : (k : ℕ) → k < p → is_ready_at t k ≡ true
+  pub ready : (k : ℕ) → k < p → is_ready_at input k ≡ true
 
 -- nothing is written, and nothing failed
 abbrev pub WritesNothing : OutletState → OutletState → Type 0
@@ -76,14 +77,14 @@ cut_failures Write = 1
 
 -- the whole trace of a run is written
 abbrev pub IsTraced : Input → List Question → OutletState → OutletState → Type 0
-IsTraced t xs trace traced =
-    (p : ℕ) × IsRunEnd t p × Appends trace.taken traced.taken (trace_text t xs p)
+IsTraced input xs trace traced =
+    (p : ℕ) × IsRunEnd input p × Appends trace.taken traced.taken (trace_text input xs p)
     × (traced.failures ≡ trace.failures)
 
 -- a part of the trace up to a state that the run reaches is written, where it was cut
 abbrev pub IsTracedInPart : RunCut → Input → List Question → OutletState → OutletState → Type 0
-IsTracedInPart cut t xs trace traced =
-    (p : ℕ) × Reaches t p × WritesPart (trace_text t xs p) trace.taken traced.taken
+IsTracedInPart cut input xs trace traced =
+    (p : ℕ) × Reaches input p × WritesPart (trace_text input xs p) trace.taken traced.taken
     × (traced.failures ≡ trace.failures + cut_failures cut)
 
 -- the model is a program, and the trace of its run over the data is written: whole, or in part

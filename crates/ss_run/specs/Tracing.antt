@@ -26,34 +26,35 @@ use Rattle.ss_run.specs.Trace.{csv_row, step_rows, rows_before, Reaches, cut_fai
 use Rattle.ss_run.specs.Trace.{WritesNothing, IsTraced, IsTracedInPart}
 
 -- it tells state q
-pub record IsHere (t : Input) (q : ℕ) (here : Here) : Type 0 where
+pub record IsHere (input : Input) (q : ℕ) (here : Here) : Type 0 where
   -- its number
   pub position : here.position ≡ q
   -- its clock
-  pub clock : here.clock ≡ (run t q).clock
+  pub clock : here.clock ≡ (run input q).clock
   -- the section that runs
-  pub section : here.section ≡ (run t q).frame.section
+  pub section : here.section ≡ (run input q).frame.section
   -- there is such a section
-  pub within : here.section < length t.program.sections
+  pub within : here.section < length input.program.sections
   -- the line of its place
-  pub line : here.line ≡ line_at t q
+  pub line : here.line ≡ line_at input q
 
 -- the row of a question that has this answer behind a step from there
 abbrev pub row_of : ProgramTable → Here → Question → List ℕ → List ℕ
-row_of program here x answer =
+row_of program here question answer =
     csv_row (decimal here.position ∷ signed_decimal here.clock
-    ∷ section_name (slice_get program.sections here.section) ∷ decimal here.line ∷ question_text x ∷ value_in x answer ∷ [])
+    ∷ section_name (slice_get program.sections here.section) ∷ decimal here.line ∷ question_text question
+    ∷ value_in question answer ∷ [])
 
 -- the answers to some questions in state p
 abbrev pub AreAnswers : Input → List Question → ℕ → List (Vec ℕ Global) → Type 0
-AreAnswers t xs p answers = map (λ v. v.items) answers ≡ map (λ x. answer_at t x p) xs
+AreAnswers input xs p answers = map (λ v. v.items) answers ≡ map (λ x. answer_at input x p) xs
 
 -- the rows of the steps from state p to state q are written
-pub record HasTraced (t : Input) (xs : List Question) (p q : ℕ) (old new : OutletState) : Type 0 where
+pub record HasTraced (input : Input) (xs : List Question) (p q : ℕ) (old new : OutletState) : Type 0 where
   -- the rows
   pub rows : List ℕ
   -- they are those
-  pub follow : rows_before t xs q ≡ rows_before t xs p ++ rows
+  pub follow : rows_before input xs q ≡ rows_before input xs p ++ rows
   -- they are put behind what was written
   pub put : Appends old.taken new.taken rows
   -- nothing failed
@@ -77,20 +78,20 @@ CutsText Write text old new = WritesPart text old.taken new.taken × (new.failur
 -- what is written of the rows of the step from state p where the trace is cut: nothing where memory is refused, else a
 -- part, by a call that failed; then the step was made
 abbrev pub CutsStep : RunCut → Input → List Question → ℕ → OutletState → OutletState → Type 0
-CutsStep Memory t xs p old new = Appends old.taken new.taken [] × (new.failures ≡ old.failures)
-CutsStep Write t xs p old new =
-    (is_ready_at t p ≡ true) × (p < LAST_POSITION) × CutsText Write (step_rows t xs p) old new
+CutsStep Memory input xs p old new = Appends old.taken new.taken [] × (new.failures ≡ old.failures)
+CutsStep Write input xs p old new =
+    (is_ready_at input p ≡ true) × (p < LAST_POSITION) × CutsText Write (step_rows input xs p) old new
 
 -- what is written of the rows of a run where the trace is cut
 abbrev pub CutsRows : RunCut → Input → List Question → OutletState → OutletState → Type 0
-CutsRows cut t xs old new =
-    (p : ℕ) × Reaches t p × WritesPart (rows_before t xs p) old.taken new.taken
+CutsRows cut input xs old new =
+    (p : ℕ) × Reaches input p × WritesPart (rows_before input xs p) old.taken new.taken
     × (new.failures ≡ old.failures + cut_failures cut)
 
 -- a run is made and traced: the whole trace is written, and the report as without it, or the trace was cut, and nothing
 -- of the report is written
 unfoldable pub MakesTrace : Result WholeRun RunCut → Input → List Question → OutletState → OutletState →
     OutletState → OutletState → Type 0
-MakesTrace result t xs old new trace traced =
-    (MakesRun result t old new × IsTraced t xs trace traced)
-    ⊎ ((cut : RunCut) × (result ≡ Err cut) × WritesNothing old new × IsTracedInPart cut t xs trace traced)
+MakesTrace result input xs old new trace traced =
+    (MakesRun result input old new × IsTraced input xs trace traced)
+    ⊎ ((cut : RunCut) × (result ≡ Err cut) × WritesNothing old new × IsTracedInPart cut input xs trace traced)

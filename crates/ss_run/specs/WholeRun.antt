@@ -18,8 +18,9 @@ use Rattle.ss_run.specs.Report.{IsRunEnd, ReportSays}
 
 -- of a run that ended at position p: what explains that state, and how many values of its report did not fit
 abbrev pub TellsEnd : WholeRun → Input → ℕ → Type 0
-TellsEnd whole t p =
-    (whole.explanation.items ≡ end_explanation t.program (run t p)) × (whole.unfit ≡ unfit_values (run t p).report)
+TellsEnd whole input p =
+    (whole.explanation.items ≡ end_explanation input.program (run input p))
+        × (whole.unfit ≡ unfit_values (run input p).report)
 
 -- of the run of a model that is a program, over the data
 abbrev pub TellsRun : WholeRun → List ℕ → List ℕ → Type 0

@@ -17,57 +17,60 @@ use Rattle.ss_scopes.specs.Kept.{owner_items, member_items}
 
 -- the name of entity number k of class c
 abbrev pub entity_name : ProgramTable → ℕ → ℕ → List ℕ
-entity_name p c k = (class_of p c).name ++ codes " " ++ decimal k
+entity_name program c k = (class_of program c).name ++ codes " " ++ decimal k
 
 -- the entity behind i others of some, which is number k of class c
 abbrev pub entity_item : ProgramTable → ℕ → ℕ → ℕ → List ℕ
-entity_item p c i k = variable_item (decimal (i + 1)) (entity_name p c k) (class_reference c k)
+entity_item program c i k = variable_item (decimal (i + 1)) (entity_name program c k) (class_reference c k)
 
 -- entities of class c, the first of which stands behind i others
 abbrev pub entity_items : ProgramTable → ℕ → ℕ → List ℕ → List ℕ
-entity_items p c i [] = []
-entity_items p c i (k ∷ ks) = entity_item p c i k ++ entity_items p c (suc i) ks
+entity_items program c i [] = []
+entity_items program c i (k ∷ ks) = entity_item program c i k ++ entity_items program c (suc i) ks
 
 -- a page of the entities of class c that live, the least number first
 abbrev pub living_page : ProgramTable → Store → ℕ → ℕ → ℕ → List ℕ
-living_page p st c start count =
-    entity_items p c start
-    (take (page_size start count (length (living_numbers st c))) (drop start (living_numbers st c)))
+living_page program store c start count =
+    entity_items program c start
+    (take (page_size start count (length (living_numbers store c))) (drop start (living_numbers store c)))
 
 -- the same, if there is such a class
 abbrev pub class_page : ProgramTable → Store → ℕ → ℕ → ℕ → List ℕ
-class_page p st c start count = if nat_lt c (length p.classes) then living_page p st c start count else []
+class_page program store c start count =
+    if nat_lt c (length program.classes) then living_page program store c start count else []
 
 -- attribute number a of entity number k of class c
 abbrev pub attribute_item : ProgramTable → Store → ℕ → ℕ → ℕ → List ℕ
-attribute_item p st c k a =
-    variable_item (name_at (class_of p c).attributes a)
-    (signed_decimal (result_unwrap_or (attribute_of st c a k) (pos 0))) 0
+attribute_item program store c k a =
+    variable_item (name_at (class_of program c).attributes a)
+    (signed_decimal (result_unwrap_or (attribute_of store c a k) (pos 0))) 0
 
 -- the list of set number s for owner number k, under a name: how many members it has
 abbrev pub list_item : ProgramTable → Store → List ℕ → ℕ → ℕ → List ℕ
-list_item p st name s k =
-    paged_item name (decimal (length (members_of (shape_of p s) st k))) (set_reference s k)
-    (length (members_of (shape_of p s) st k))
+list_item program store name s k =
+    paged_item name (decimal (length (members_of (shape_of program s) store k))) (set_reference s k)
+    (length (members_of (shape_of program s) store k))
 
 -- the list of set number s for entity number k of class c, and what is kept of it, if the class owns it
 abbrev pub owned_item : ProgramTable → Store → ℕ → ℕ → ℕ → List ℕ
-owned_item p st c k s =
-    if is_same_owner (OwnedBy c) (set_of p s).owner
-    then list_item p st (set_of p s).name s k ++ owner_items (set_of p s).name (shape_of p s) st k else []
+owned_item program store c k s =
+    if is_same_owner (OwnedBy c) (set_of program s).owner
+    then list_item program store (set_of program s).name s k
+        ++ owner_items (set_of program s).name (shape_of program s) store k else []
 
 -- what is kept of entity number k of class c in set number s, if it may be in it
 abbrev pub joined_item : ProgramTable → Store → ℕ → ℕ → ℕ → List ℕ
-joined_item p st c k s =
-    if (set_of p s).member == c then member_items (set_of p s).name (shape_of p s) st k else []
+joined_item program store c k s =
+    if (set_of program s).member == c then member_items (set_of program s).name (shape_of program s) store k else []
 
 -- the attributes of an entity and the lists that it owns, each in order of declaration
 abbrev pub entity_text : ProgramTable → Store → ℕ → ℕ → List ℕ
-entity_text p st c k =
-    texts_below (attribute_item p st c k) (length (class_of p c).attributes)
-    ++ texts_below (owned_item p st c k) (length p.sets)
-    ++ texts_below (joined_item p st c k) (length p.sets)
+entity_text program store c k =
+    texts_below (attribute_item program store c k) (length (class_of program c).attributes)
+    ++ texts_below (owned_item program store c k) (length program.sets)
+    ++ texts_below (joined_item program store c k) (length program.sets)
 
 -- the same of an entity that lives
 abbrev pub entity_variables : ProgramTable → Store → ℕ → ℕ → List ℕ
-entity_variables p st c k = if nat_lt c (length p.classes) && exists st c k then entity_text p st c k else []
+entity_variables program store c k =
+    if nat_lt c (length program.classes) && exists store c k then entity_text program store c k else []

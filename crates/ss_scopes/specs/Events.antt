@@ -12,15 +12,15 @@ use Rattle.ss_scopes.specs.Entities.{entity_name}
 
 -- a pending notice: its class and its number, and when it is due
 abbrev pub notice_item : ProgramTable → ℕ → Slot → List ℕ
-notice_item p notice slot =
-    variable_item (entity_name p slot.class notice) (codes "AT " ++ signed_decimal slot.time)
+notice_item program notice slot =
+    variable_item (entity_name program slot.class notice) (codes "AT " ++ signed_decimal slot.time)
     (class_reference slot.class notice)
 
 -- some pending notices
 abbrev pub notice_items : ProgramTable → List Pending → List ℕ
-notice_items p [] = []
-notice_items p (n ∷ ns) = notice_item p n.notice (slot_of n) ++ notice_items p ns
+notice_items program [] = []
+notice_items program (n ∷ ns) = notice_item program n.notice (slot_of n) ++ notice_items program ns
 
 -- all of them, the next first
 abbrev pub event_items : ProgramTable → Agenda → List ℕ
-event_items p a = notice_items p (in_order (rules_of p) a)
+event_items program agenda = notice_items program (in_order (rules_of program) agenda)

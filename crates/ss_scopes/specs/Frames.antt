@@ -12,42 +12,43 @@ use Rattle.ss_scopes.specs.Pages.{page}
 
 -- a frame: its number, counted from 1 on, its section, and the line of its place
 abbrev pub placed_frame : ProgramTable → List ℕ → ℕ → Option (ℕ × ℕ) → List ℕ
-placed_frame p path depth None = []
-placed_frame p path depth (Some (section, place)) =
-    frame_item (depth + 1) (section_of p section).name (spot_line (spot_at p section place)) path
+placed_frame program path depth None = []
+placed_frame program path depth (Some (section, place)) =
+    frame_item (depth + 1) (section_of program section).name (spot_line (spot_at program section place)) path
 
 -- the frame on which so many others stand
 abbrev pub frame_text : ProgramTable → State → List ℕ → ℕ → List ℕ
-frame_text p s path depth = placed_frame p path depth (frame_place s depth)
+frame_text program state path depth = placed_frame program path depth (frame_place state depth)
 
 -- how many frames there are
 abbrev pub frame_count : State → ℕ
-frame_count s = 1 + length s.below
+frame_count state = 1 + length state.below
 
 -- a page of the frames, the last one first
 abbrev pub frames_page : ProgramTable → State → List ℕ → ℕ → ℕ → List ℕ
-frames_page p s path start count = page (frame_text p s path) start count (frame_count s)
+frames_page program state path start count = page (frame_text program state path) start count (frame_count state)
 
 -- a local of the frame on which so many others stand, which is of this section
 abbrev pub local_item : ProgramTable → State → ℕ → ℕ → ℕ → List ℕ
-local_item p s depth section i =
-    variable_item (name_at (locals_in p section) i) (signed_decimal (unwrap_or (frame_local s depth i) (pos 0))) 0
+local_item program state depth section i =
+    variable_item (name_at (locals_in program section) i)
+        (signed_decimal (unwrap_or (frame_local state depth i) (pos 0))) 0
 
 -- a page of the locals of a frame that stands at this place
 abbrev pub placed_locals : ProgramTable → State → ℕ → ℕ → ℕ → Option (ℕ × ℕ) → List ℕ
-placed_locals p s depth start count None = []
-placed_locals p s depth start count (Some (section, place)) =
-    page (local_item p s depth section) start count (length (locals_in p section))
+placed_locals program state depth start count None = []
+placed_locals program state depth start count (Some (section, place)) =
+    page (local_item program state depth section) start count (length (locals_in program section))
 
 -- a page of the locals of the frame on which so many others stand
 abbrev pub locals_page : ProgramTable → State → ℕ → ℕ → ℕ → List ℕ
-locals_page p s depth start count = placed_locals p s depth start count (frame_place s depth)
+locals_page program state depth start count = placed_locals program state depth start count (frame_place state depth)
 
 -- global variable number i
 abbrev pub global_item : ProgramTable → State → ℕ → List ℕ
-global_item p s i =
-    variable_item (name_at p.globals i) (signed_decimal (slice_index_or s.variables i (pos 0))) 0
+global_item program state i =
+    variable_item (name_at program.globals i) (signed_decimal (slice_index_or state.variables i (pos 0))) 0
 
 -- a page of the global variables
 abbrev pub globals_page : ProgramTable → State → ℕ → ℕ → List ℕ
-globals_page p s start count = page (global_item p s) start count (length p.globals)
+globals_page program state start count = page (global_item program state) start count (length program.globals)

@@ -25,42 +25,42 @@ use Rattle.ss_scopes.specs.Events.{event_items}
 
 -- the locals of the frame on which so many others stand, if there is one
 abbrev pub locals_scope : State → ℕ → List ℕ
-locals_scope s depth =
-    if nat_lt depth MOST_FRAMES && nat_lt depth (frame_count s)
+locals_scope state depth =
+    if nat_lt depth MOST_FRAMES && nat_lt depth (frame_count state)
     then scope_item (codes "Locals") (FIRST_LOCALS + depth) else []
 
 -- the scopes of the frame with this number: its locals, and those that all frames have
 abbrev pub scopes_text : Input → ℕ → ℕ → List ℕ
-scopes_text t p frame = locals_scope (run t p) (frame - 1) ++ OTHER_SCOPES.now
+scopes_text input p frame = locals_scope (run input p) (frame - 1) ++ OTHER_SCOPES.now
 
 -- ---- variables
 
 -- the answer to a question in state p, under a name
 abbrev pub question_item : List ℕ → Input → ℕ → Question → List ℕ
-question_item name t p q = variable_item name (without_last (show_answer t p q)) 0
+question_item name input p question = variable_item name (without_last (show_answer input p question)) 0
 
 -- the clock, and where the run stands
 abbrev pub run_items : Input → ℕ → List ℕ
-run_items t p = question_item (codes "TIME.V") t p Clock ++ question_item (codes "STATE") t p Where
+run_items input p = question_item (codes "TIME.V") input p Clock ++ question_item (codes "STATE") input p Where
 
 -- how many pieces of the data are taken, and the entry
 abbrev pub data_items : Input → ℕ → List ℕ
-data_items t p = question_item (codes "TAKEN") t p Taken ++ question_item (codes "ENTRY") t p Entry
+data_items input p = question_item (codes "TAKEN") input p Taken ++ question_item (codes "ENTRY") input p Entry
 
 -- what a group holds in state p: a page, where it may be long
 abbrev pub group_text : Input → ℕ → ℕ → ℕ → Group → List ℕ
-group_text t p start count Nothing = []
-group_text t p start count Globals = globals_page t.program (run t p) start count
-group_text t p start count Classes = class_items t.program (run t p).store
-group_text t p start count Sets = set_items t.program (run t p).store
-group_text t p start count Events = event_items t.program (run t p).agenda
-group_text t p start count Data = data_items t p
-group_text t p start count Run = run_items t p
-group_text t p start count (Locals depth) = locals_page t.program (run t p) depth start count
-group_text t p start count (Class c) = class_page t.program (run t p).store c start count
-group_text t p start count (Entity c k) = entity_variables t.program (run t p).store c k
-group_text t p start count (Set s) = set_page t.program (run t p).store s start count
-group_text t p start count (Members s j) = list_page t.program (run t p).store s j start count
+group_text input p start count Nothing = []
+group_text input p start count Globals = globals_page input.program (run input p) start count
+group_text input p start count Classes = class_items input.program (run input p).store
+group_text input p start count Sets = set_items input.program (run input p).store
+group_text input p start count Events = event_items input.program (run input p).agenda
+group_text input p start count Data = data_items input p
+group_text input p start count Run = run_items input p
+group_text input p start count (Locals depth) = locals_page input.program (run input p) depth start count
+group_text input p start count (Class c) = class_page input.program (run input p).store c start count
+group_text input p start count (Entity c k) = entity_variables input.program (run input p).store c k
+group_text input p start count (Set s) = set_page input.program (run input p).store s start count
+group_text input p start count (Members s j) = list_page input.program (run input p).store s j start count
 
 -- whether what a group holds has numbers, not names
 abbrev pub is_indexed : Group → Bool
@@ -77,6 +77,6 @@ passes Indexed indexed = indexed
 
 -- the variables that are wanted in state p
 unfoldable pub variables_text : Input → ℕ → Wanted → List ℕ
-variables_text t p w =
-    if passes w.filter (is_indexed (group_of w.reference))
-    then group_text t p w.start w.count (group_of w.reference) else []
+variables_text input p wanted =
+    if passes wanted.filter (is_indexed (group_of wanted.reference))
+    then group_text input p wanted.start wanted.count (group_of wanted.reference) else []

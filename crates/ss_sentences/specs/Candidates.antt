@@ -25,7 +25,7 @@ candidates = map (λ row. (row.0.now, row.1)) CANDIDATES
 
 -- the candidate that is judged
 abbrev pub candidate_of : Judgement → List ℕ × Tried
-candidate_of j = (j.told.now, j.tried)
+candidate_of judgement = (judgement.told.now, judgement.tried)
 
 -- the words and the candidate behind them, with its number for its line
 abbrev pub with_candidate : List WordAt → List ℕ → Tried → List WordAt

@@ -33,10 +33,10 @@ hint_text is_given hint word = elim is_given [ true ↦ gaps_filled hint word wo
 -- what a refused word hints at: that it is reserved, where a name fits and no statement begins; that it is no unit,
 -- where one fits
 abbrev pub word_hints : List Judgement → Kind → List ℕ → List ℕ
-word_hints js k told =
-    hint_text (is_kind_among reserved k && fits js (codes "a name") && not (fits js (codes "LET"))) RESERVED_HINT.now
+word_hints js kind told =
+    hint_text (is_kind_among reserved kind && fits js (codes "a name") && not (fits js (codes "LET"))) RESERVED_HINT.now
     told
-    ++ hint_text (is_name k && not (is_kind_among reserved k) && fits js (codes "UNITS")) UNIT_HINT.now told
+    ++ hint_text (is_name kind && not (is_kind_among reserved kind) && fits js (codes "UNITS")) UNIT_HINT.now told
 
 -- the lines of the words that open blocks which no word behind them closes, the innermost last
 abbrev pub open_lines : List (List ℕ) → List (List ℕ) → List ℕ → List WordAt → List ℕ

@@ -13,12 +13,12 @@ read_events (Some body) = read body ∷ []
 
 -- the side that is broken behind a reading
 abbrev pub broken_after_read : {T : Type 0} → Result T FrameFault → Option Side → Option Side
-broken_after_read (Ok body) b = b
-broken_after_read (Err Malformed) b = b
-broken_after_read (Err Read) b = Some Input
-broken_after_read (Err Memory) b = b
+broken_after_read (Ok body) side = side
+broken_after_read (Err Malformed) side = side
+broken_after_read (Err Read) side = Some Input
+broken_after_read (Err Memory) side = side
 
 -- the side that is broken behind a writing
 abbrev pub broken_after_send : {T E : Type 0} → Result T E → Option Side → Option Side
-broken_after_send (Ok done) b = b
-broken_after_send (Err fault) b = Some Output
+broken_after_send (Ok done) side = side
+broken_after_send (Err fault) side = Some Output

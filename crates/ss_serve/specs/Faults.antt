@@ -22,9 +22,9 @@ fault_of_request request.Memory = Memory
 
 -- the side that is broken behind a session: the one on which the call failed that ended it
 abbrev pub broken_after : {T : Type 0} → Result T SessionFault → Option Side → Option Side
-broken_after (Ok done) b = b
-broken_after (Err NoRequest) b = b
-broken_after (Err CannotRead) b = Some Input
-broken_after (Err CannotWrite) b = Some Output
-broken_after (Err Memory) b = b
-broken_after (Err Count) b = b
+broken_after (Ok done) side = side
+broken_after (Err NoRequest) side = side
+broken_after (Err CannotRead) side = Some Input
+broken_after (Err CannotWrite) side = Some Output
+broken_after (Err Memory) side = side
+broken_after (Err Count) side = side

@@ -51,17 +51,17 @@ pub record Turn (S : Type 0) : Type 0 where
   pub after : S
 
 -- a turn is made in a state
-pub record IsTurn (m : Meaning) (s : m.State) (turn : Turn m.State) : Type 0 where
+pub record IsTurn (m : Meaning) (state : m.State) (turn : Turn m.State) : Type 0 where
   -- its request is what its body asks for
   pub asks : request_in turn.body ≡ Some turn.request
   -- it is answered with what is sent, and leads to the state behind
-  pub answers : m.Answers s turn.request turn.sent turn.after
+  pub answers : m.Answers state turn.request turn.sent turn.after
 
 -- turns are made one after the other, and none of them ends the session
 unfoldable pub AreTurns : (m : Meaning) → m.State → List (Turn m.State) → Type 0
-AreTurns m s [] = Unit {0}
-AreTurns m s (turn ∷ turns) =
-    IsTurn m s turn × (m.ends turn.request ≡ false) × AreTurns m turn.after turns
+AreTurns m state [] = Unit {0}
+AreTurns m state (turn ∷ turns) =
+    IsTurn m state turn × (m.ends turn.request ≡ false) × AreTurns m turn.after turns
 
 -- the state behind some turns
 unfoldable pub state_after : {S : Type 0} → S → List (Turn S) → S
@@ -91,16 +91,16 @@ sent_after n (turn ∷ turns) = sent_after (messages_of n turn).sent turns
 -- ---- how it ends, behind k turns that lead to state s, when n messages are sent
 
 -- the stream is at its end, and nothing more happened
-pub record EndsByStream (m : Meaning) (s last : m.State) (c : Seen) : Type 0 where
+pub record EndsByStream (m : Meaning) (s last : m.State) (seen : Seen) : Type 0 where
   -- the answerer stays where it is
   pub state : last ≡ s
   -- no byte is left
-  pub input : IsRead None c.before c.after
+  pub input : IsRead None seen.before seen.after
   -- nothing happened
-  pub told : Adds c.old c.new []
+  pub told : Adds seen.old seen.new []
 
 -- a request ends it, which is answered
-pub record EndsByRequest (m : Meaning) (s last : m.State) (n : ℕ) (c : Seen) : Type 0 where
+pub record EndsByRequest (m : Meaning) (s last : m.State) (n : ℕ) (seen : Seen) : Type 0 where
   -- its turn
   pub turn : Turn m.State
   -- it is made
@@ -110,47 +110,47 @@ pub record EndsByRequest (m : Meaning) (s last : m.State) (n : ℕ) (c : Seen) :
   -- the answerer is where it leads
   pub state : last ≡ turn.after
   -- its body was read
-  pub input : IsRead (Some turn.body) c.before c.after
+  pub input : IsRead (Some turn.body) seen.before seen.after
   -- its body was read and its messages written
-  pub told : Adds c.old c.new (turn_events n turn)
+  pub told : Adds seen.old seen.new (turn_events n turn)
 
 -- a message was read, and nothing was written
-pub record EndsAtBody (c : Seen) (P : List ℕ → Type 0) : Type 0 where
+pub record EndsAtBody (seen : Seen) (P : List ℕ → Type 0) : Type 0 where
   -- its body
   pub body : List ℕ
   -- what is said of it
   pub said : P body
   -- it was read
-  pub input : IsRead (Some body) c.before c.after
+  pub input : IsRead (Some body) seen.before seen.after
   -- and that is all
-  pub told : Adds c.old c.new (read body ∷ [])
+  pub told : Adds seen.old seen.new (read body ∷ [])
 
 -- a part of what answers a request was written
-pub record EndsInAnswer (m : Meaning) (s : m.State) (n : ℕ) (c : Seen) : Type 0 where
+pub record EndsInAnswer (m : Meaning) (state : m.State) (n : ℕ) (seen : Seen) : Type 0 where
   -- its turn
   pub turn : Turn m.State
   -- it is made
-  pub made : IsTurn m s turn
+  pub made : IsTurn m state turn
   -- its body was read
-  pub input : IsRead (Some turn.body) c.before c.after
+  pub input : IsRead (Some turn.body) seen.before seen.after
   -- what had happened then
   pub heard : Option (List Event)
   -- that its body was read
-  pub hears : Adds c.old heard (read turn.body ∷ [])
+  pub hears : Adds seen.old heard (read turn.body ∷ [])
   -- a part of its messages was written
-  pub told : AddsPart (messages_of n turn).bytes heard c.new
+  pub told : AddsPart (messages_of n turn).bytes heard seen.new
 
 -- by what it ends: the stream or a request; no message, or one that is no request; a reading that failed, or a stream
 -- that is cut; a writing that failed; memory that was refused, before or behind a reading; the count of messages or of
 -- turns
 abbrev pub EndsBy : (m : Meaning) → m.State → m.State → ℕ → ℕ → Seen → Result (Unit {0}) SessionFault → Type 0
-EndsBy m s last k n c (Ok done) = EndsByStream m s last c ⊎ EndsByRequest m s last n c
-EndsBy m s last k n c (Err NoRequest) =
-    (IsMalformed c.before × Adds c.old c.new []) ⊎ EndsAtBody c IsNoRequest
-EndsBy m s last k n c (Err CannotRead) = Adds c.old c.new []
-EndsBy m s last k n c (Err CannotWrite) = EndsInAnswer m s n c
-EndsBy m s last k n c (Err Memory) = Adds c.old c.new [] ⊎ EndsAtBody c (λ body. Unit {0})
-EndsBy m s last k n c (Err Count) = ((MOST_SENT ≤ n) ⊎ (k ≡ 2 ^ 64 - 1)) × Adds c.old c.new []
+EndsBy m state last k n seen (Ok done) = EndsByStream m state last seen ⊎ EndsByRequest m state last n seen
+EndsBy m state last k n seen (Err NoRequest) =
+    (IsMalformed seen.before × Adds seen.old seen.new []) ⊎ EndsAtBody seen IsNoRequest
+EndsBy m state last k n seen (Err CannotRead) = Adds seen.old seen.new []
+EndsBy m state last k n seen (Err CannotWrite) = EndsInAnswer m state n seen
+EndsBy m state last k n seen (Err Memory) = Adds seen.old seen.new [] ⊎ EndsAtBody seen (λ body. Unit {0})
+EndsBy m state last k n seen (Err Count) = ((MOST_SENT ≤ n) ⊎ (k ≡ 2 ^ 64 - 1)) × Adds seen.old seen.new []
 
 -- a whole session from a state, when n messages are sent, to another: turns, and what ends it behind them
 pub record HasEnded (m : Meaning) (from last : m.State) (n : ℕ) (c : Seen) (result : Result (Unit {0}) SessionFault) :

@@ -18,16 +18,16 @@ use Rattle.ss_serve.specs.declared.session.TheConstants.{MOST_SENT}
 
 -- a request was read, or the stream is at its end
 abbrev pub IsAsked : Option Request → Seen → Type 0
-IsAsked None c = IsRead None c.before c.after × Adds c.old c.new []
-IsAsked (Some request) c = EndsAtBody c (λ body. request_in body ≡ Some request)
+IsAsked None seen = IsRead None seen.before seen.after × Adds seen.old seen.new []
+IsAsked (Some request) seen = EndsAtBody seen (λ body. request_in body ≡ Some request)
 
 -- why no request was read, when n messages were sent
 abbrev pub NoneAsked : ℕ → Seen → SessionFault → Type 0
-NoneAsked n c NoRequest = (IsMalformed c.before × Adds c.old c.new []) ⊎ EndsAtBody c IsNoRequest
-NoneAsked n c CannotRead = Adds c.old c.new []
-NoneAsked n c CannotWrite = ⊥
-NoneAsked n c Memory = Adds c.old c.new [] ⊎ EndsAtBody c (λ body. Unit {0})
-NoneAsked n c Count = (MOST_SENT ≤ n) × Adds c.old c.new []
+NoneAsked n seen NoRequest = (IsMalformed seen.before × Adds seen.old seen.new []) ⊎ EndsAtBody seen IsNoRequest
+NoneAsked n seen CannotRead = Adds seen.old seen.new []
+NoneAsked n seen CannotWrite = ⊥
+NoneAsked n seen Memory = Adds seen.old seen.new [] ⊎ EndsAtBody seen (λ body. Unit {0})
+NoneAsked n seen Count = (MOST_SENT ≤ n) × Adds seen.old seen.new []
 
 -- some messages that answer a request, numbered behind n others
 abbrev pub messages_for : ℕ → Request → List Sent → PostView
@@ -57,7 +57,7 @@ Unanswered m from request n old new Memory = Adds old new []
 Unanswered m from request n old new other = ⊥
 
 -- a turn that goes on
-pub record IsMore (m : Meaning) (from to : m.State) (post after : PostView) (c : Seen) : Type 0 where
+pub record IsMore (m : Meaning) (from to : m.State) (post after : PostView) (seen : Seen) : Type 0 where
   -- the turn
   pub turn : Turn m.State
   -- it is made
@@ -67,14 +67,14 @@ pub record IsMore (m : Meaning) (from to : m.State) (post after : PostView) (c :
   -- it leads to the state
   pub state : to ≡ turn.after
   -- its body was read
-  pub input : IsRead (Some turn.body) c.before c.after
+  pub input : IsRead (Some turn.body) seen.before seen.after
   -- these are its events
-  pub told : Adds c.old c.new (turn_events post.sent turn)
+  pub told : Adds seen.old seen.new (turn_events post.sent turn)
   -- its messages are numbered
   pub count : after ≡ record { sent = (messages_of post.sent turn).sent; bytes = [] }
 
 -- a turn that goes on, or the end
 abbrev pub IsStep : (m : Meaning) → m.State → m.State → PostView → PostView → Seen → Result Go SessionFault → Type 0
-IsStep m from to post after c (Ok On) = IsMore m from to post after c
-IsStep m from to post after c (Ok Quit) = EndsBy m from to 0 post.sent c (Ok tt)
-IsStep m from to post after c (Err fault) = EndsBy m from to 0 post.sent c (Err fault)
+IsStep m from to post after seen (Ok On) = IsMore m from to post after seen
+IsStep m from to post after seen (Ok Quit) = EndsBy m from to 0 post.sent seen (Ok tt)
+IsStep m from to post after seen (Err fault) = EndsBy m from to 0 post.sent seen (Err fault)

@@ -24,11 +24,13 @@ pub data Outcome : Type 0 where
 
 -- plain words are a preamble or none, which declares this, and these sections behind it
 abbrev pub AreProgram : Decls → List Section → List PlainAt → Type 0
-AreProgram d ss ws = (number : ℕ) × AreDecls d number ws × AreSections ss (words_from number ws)
+AreProgram declarations sections ws =
+    (number : ℕ) × AreDecls declarations number ws × AreSections sections (words_from number ws)
 
 -- the words of a model spell a program with these declarations and these sections
 abbrev pub Spells : List ℕ → Decls → List Section → Type 0
-Spells model d ss = (ws : List WordAt) × (words_of model ≡ Ok ws) × AreProgram d ss (plain_words_of ws)
+Spells model declarations sections =
+    (ws : List WordAt) × (words_of model ≡ Ok ws) × AreProgram declarations sections (plain_words_of ws)
 
 -- the refusal of the words if there is one, else that of the plain words, else the first breach of the program that
 -- they spell, else that program with each name replaced by its place

@@ -35,26 +35,26 @@ pub record IsWrittenSoFar (t : Input) (start : DebuggerState) (lines rest : List
 -- one turn over a program, by how it ends
 unfoldable pub TurnEnds : Result Go Cut → Input → DebuggerView → DebuggerView → List ℕ →
     Option (List ℕ) → Option (List ℕ) → ℕ → ℕ → Type 0
-TurnEnds (Ok go) t view next line old new failures failures' =
-    (debugger_state_of next ≡ debugger_state_after t (debugger_state_of view) (command_of line))
-    × (next.machine.input ≡ t) × (go ≡ go_of (command_of line))
-    × Appends old new (answer t (debugger_state_of view) (command_of line)) × (failures' ≡ failures)
-TurnEnds (Err cut.Memory) t view next line old new failures failures' =
+TurnEnds (Ok go) input view next line old new failures failures' =
+    (debugger_state_of next ≡ debugger_state_after input (debugger_state_of view) (command_of line))
+    × (next.machine.input ≡ input) × (go ≡ go_of (command_of line))
+    × Appends old new (answer input (debugger_state_of view) (command_of line)) × (failures' ≡ failures)
+TurnEnds (Err cut.Memory) input view next line old new failures failures' =
     Appends old new [] × (failures' ≡ failures)
-TurnEnds (Err cut.Write) t view next line old new failures failures' =
-    WritesPart (answer t (debugger_state_of view) (command_of line)) old new × (failures' ≡ failures + 1)
+TurnEnds (Err cut.Write) input view next line old new failures failures' =
+    WritesPart (answer input (debugger_state_of view) (command_of line)) old new × (failures' ≡ failures + 1)
 
 -- the turns of some lines, by how they end
 unfoldable pub TurnsEnd : Result (Unit {0}) Cut → Input → DebuggerView → DebuggerView → List (List ℕ) →
     Option (List ℕ) → Option (List ℕ) → ℕ → ℕ → Type 0
-TurnsEnd (Ok done) t view next lines old new failures failures' =
-    (debugger_state_of next ≡ debugger_state_after_lines t (debugger_state_of view) lines)
-    × (next.machine.input ≡ t)
-    × Appends old new (answers t (debugger_state_of view) lines) × (failures' ≡ failures)
-TurnsEnd (Err cut.Memory) t view next lines old new failures failures' =
-    WritesFirst t (debugger_state_of view) lines old new × (failures' ≡ failures)
-TurnsEnd (Err cut.Write) t view next lines old new failures failures' =
-    WritesPart (answers t (debugger_state_of view) lines) old new × (failures' ≡ failures + 1)
+TurnsEnd (Ok done) input view next lines old new failures failures' =
+    (debugger_state_of next ≡ debugger_state_after_lines input (debugger_state_of view) lines)
+    × (next.machine.input ≡ input)
+    × Appends old new (answers input (debugger_state_of view) lines) × (failures' ≡ failures)
+TurnsEnd (Err cut.Memory) input view next lines old new failures failures' =
+    WritesFirst input (debugger_state_of view) lines old new × (failures' ≡ failures)
+TurnsEnd (Err cut.Write) input view next lines old new failures failures' =
+    WritesPart (answers input (debugger_state_of view) lines) old new × (failures' ≡ failures + 1)
 
 -- ---- the whole
 
@@ -72,12 +72,13 @@ LineEnds (Err cut.Write) text old new failures failures' = WritesPart text old n
 -- a session over a program, by how it ends
 unfoldable pub ProgramEnds : Result End Cut → Input → List (List ℕ) →
     Option (List ℕ) → Option (List ℕ) → ℕ → ℕ → Type 0
-ProgramEnds (Ok end) t lines old new failures failures' =
-    (end ≡ end_of (ends_faulted t lines)) × Appends old new (program_transcript t lines) × (failures' ≡ failures)
-ProgramEnds (Err cut.Memory) t lines old new failures failures' =
-    WritesFirst t initial_debugger_state lines old new × (failures' ≡ failures)
-ProgramEnds (Err cut.Write) t lines old new failures failures' =
-    WritesPart (program_transcript t lines) old new × (failures' ≡ failures + 1)
+ProgramEnds (Ok end) input lines old new failures failures' =
+    (end ≡ end_of (ends_faulted input lines)) × Appends old new (program_transcript input lines)
+        × (failures' ≡ failures)
+ProgramEnds (Err cut.Memory) input lines old new failures failures' =
+    WritesFirst input initial_debugger_state lines old new × (failures' ≡ failures)
+ProgramEnds (Err cut.Write) input lines old new failures failures' =
+    WritesPart (program_transcript input lines) old new × (failures' ≡ failures + 1)
 
 -- a session, by how it ends
 unfoldable pub SessionEnds : Result End SessionFault → Texts → Option (List ℕ) → Option (List ℕ) → ℕ → ℕ → Type 0

@@ -17,11 +17,12 @@ refusal_line code line = codes "MODEL REFUSED " ++ code ++ codes " LINE " ++ dec
 
 -- the position at which some lines leave the debugger
 abbrev pub last_position : Input → List (List ℕ) → ℕ
-last_position t lines = (debugger_state_after_lines t initial_debugger_state lines).position
+last_position input lines = (debugger_state_after_lines input initial_debugger_state lines).position
 
 -- the answers to the lines, and the report of the state then held
 unfoldable pub program_transcript : Input → List (List ℕ) → List ℕ
-program_transcript t lines = answers t initial_debugger_state lines ++ report_text t (last_position t lines)
+program_transcript input lines =
+    answers input initial_debugger_state lines ++ report_text input (last_position input lines)
 
 -- the transcript of a session, by what its model is
 abbrev pub transcript : Outcome → Texts → List ℕ
@@ -31,7 +32,7 @@ transcript (accepted program) texts = program_transcript (input_of texts program
 
 -- whether the last state is faulted
 abbrev pub ends_faulted : Input → List (List ℕ) → Bool
-ends_faulted t lines = is_faulted (run t (last_position t lines)).status
+ends_faulted input lines = is_faulted (run input (last_position input lines)).status
 
 -- how a session over an accepted model ends
 abbrev pub end_of : Bool → End

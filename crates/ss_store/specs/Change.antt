@@ -19,12 +19,12 @@ use Rattle.ss_store.specs.Making.{layout_with, but_last, without_last, FitsLast,
 
 -- the state before a change
 abbrev pub unapply_state : StoreChange → Store → Store
-unapply_state (Filed set w n o k) s = with_list_by w n s o (list_without (members_by w n s o) k)
-unapply_state (Removed set w n o k before) s = with_list_by w n s o (put_at (members_by w n s o) before k)
-unapply_state (Created c k heads seats) s = without_last None s
-unapply_state (ClassCreated c n heads seats) s = with_made s c []
-unapply_state (AttributeSet c a k old) s = with_changed (with_value a old) s c k
-unapply_state (Ended c k owned values) s = with_back s k (entity_back c owned values.items)
+unapply_state (Filed set w n o k) store = with_list_by w n store o (list_without (members_by w n store o) k)
+unapply_state (Removed set w n o k before) store = with_list_by w n store o (put_at (members_by w n store o) before k)
+unapply_state (Created c k heads seats) store = without_last None store
+unapply_state (ClassCreated c n heads seats) store = with_made store c []
+unapply_state (AttributeSet c a k old) store = with_changed (with_value a old) store c k
+unapply_state (Ended c k owned values) store = with_back store k (entity_back c owned values.items)
 
 -- what is kept, before a change
 abbrev pub unapply_layout : StoreChange → Layout → Layout
@@ -37,95 +37,96 @@ unapply_layout (Ended c k owned values) kept = kept
 
 -- the store before a change
 abbrev pub unapply_store : StoreChange → StoreValue → StoreValue
-unapply_store c v = record v { state = unapply_state c v.state; kept = unapply_layout c v.kept }
+unapply_store change store =
+    record store { state = unapply_state change store.state; kept = unapply_layout change store.kept }
 
 -- what was filed stands in the list
-pub record FitsFiled (v : StoreValue) (set : ℕ) (w : Owner) (n o k : ℕ) : Type 0 where
+pub record FitsFiled (store : StoreValue) (set : ℕ) (w : Owner) (n o k : ℕ) : Type 0 where
   -- there is such a set
-  pub is_set : set < length v.tables.sets
+  pub is_set : set < length store.tables.sets
   -- its owner
-  pub owner : w ≡ (set_of v.tables set).owner
+  pub owner : w ≡ (set_of store.tables set).owner
   -- the number of its list
-  pub list : n ≡ (set_of v.tables set).list
+  pub list : n ≡ (set_of store.tables set).list
   -- the owner exists
-  pub is_owner : is_owner (set_of v.tables set) v.state o ≡ true
+  pub is_owner : is_owner (set_of store.tables set) store.state o ≡ true
   -- the member is in the list
-  pub stands : has (members_of (set_of v.tables set) v.state o) k ≡ true
+  pub stands : has (members_of (set_of store.tables set) store.state o) k ≡ true
 
 -- what was removed exists and stands in no list of its set, and the member before it stands in the list
-pub record FitsRemoved (v : StoreValue) (set : ℕ) (w : Owner) (n o k : ℕ) (b : Option ℕ) : Type 0 where
+pub record FitsRemoved (store : StoreValue) (set : ℕ) (w : Owner) (n o k : ℕ) (b : Option ℕ) : Type 0 where
   -- there is such a set
-  pub is_set : set < length v.tables.sets
+  pub is_set : set < length store.tables.sets
   -- its owner
-  pub owner : w ≡ (set_of v.tables set).owner
+  pub owner : w ≡ (set_of store.tables set).owner
   -- the number of its list
-  pub list : n ≡ (set_of v.tables set).list
+  pub list : n ≡ (set_of store.tables set).list
   -- the owner exists
-  pub is_owner : is_owner (set_of v.tables set) v.state o ≡ true
+  pub is_owner : is_owner (set_of store.tables set) store.state o ≡ true
   -- the member exists
-  pub member : exists v.state (set_of v.tables set).member k ≡ true
+  pub member : exists store.state (set_of store.tables set).member k ≡ true
   -- it is in no list of the set
-  pub in_no_list : is_filed (set_of v.tables set) v.state k ≡ false
+  pub in_no_list : is_filed (set_of store.tables set) store.state k ≡ false
   -- the one before it, if any, is in the list
-  pub before : ForSome b (λ y. has (members_of (set_of v.tables set) v.state o) y ≡ true)
+  pub before : ForSome b (λ y. has (members_of (set_of store.tables set) store.state o) y ≡ true)
 
 -- the reference was given last
-pub record FitsCreated (v : StoreValue) (c k heads seats : ℕ) : Type 0 where
+pub record FitsCreated (store : StoreValue) (c k heads seats : ℕ) : Type 0 where
   -- the class is not permanent
-  pub not_permanent : (class_of v.tables c).permanent ≡ false
+  pub not_permanent : (class_of store.tables c).permanent ≡ false
   -- the reference is the last
-  pub newest : FitsLast c k heads seats v
+  pub newest : FitsLast c k heads seats store
 
 -- the class's entities can be taken off, last first, and what is left then is the store before
-pub record FitsClassCreated (v : StoreValue) (c n heads seats : ℕ) : Type 0 where
+pub record FitsClassCreated (store : StoreValue) (c n heads seats : ℕ) : Type 0 where
   -- the class is permanent
-  pub permanent : (class_of v.tables c).permanent ≡ true
+  pub permanent : (class_of store.tables c).permanent ≡ true
   -- its entities can be taken off
-  pub takes_off : TakesOff c n v (unapply_store (ClassCreated c n heads seats) v)
+  pub takes_off : TakesOff c n store (unapply_store (ClassCreated c n heads seats) store)
 
 -- the entity whose attribute was set exists
-pub record FitsSet (v : StoreValue) (c k : ℕ) : Type 0 where
+pub record FitsSet (store : StoreValue) (c k : ℕ) : Type 0 where
   -- there is such a class
-  pub is_class : c < length v.tables.classes
+  pub is_class : c < length store.tables.classes
   -- the entity exists
-  pub there : exists v.state c k ≡ true
+  pub there : exists store.state c k ≡ true
 
 -- the reference stands for nothing, and what is kept of it is of the class, with so many lists and attributes
-pub record FitsEnded (v : StoreValue) (c k n : ℕ) (xs : List ℤ) : Type 0 where
+pub record FitsEnded (store : StoreValue) (c k n : ℕ) (xs : List ℤ) : Type 0 where
   -- there is such a class
-  pub is_class : c < length v.tables.classes
+  pub is_class : c < length store.tables.classes
   -- it is not permanent
-  pub not_permanent : (class_of v.tables c).permanent ≡ false
+  pub not_permanent : (class_of store.tables c).permanent ≡ false
   -- the reference is 1 or more
   pub number : 0 < k
   -- it has ended
-  pub gone : slice_get v.state.references (k - 1) ≡ Some None
+  pub gone : slice_get store.state.references (k - 1) ≡ Some None
   -- its row is of the class
-  pub row : option_map (λ (r : Row). r.class) (slice_get v.kept.references (k - 1)) ≡ Some c
+  pub row : option_map (λ (r : Row). r.class) (slice_get store.kept.references (k - 1)) ≡ Some c
   -- the class owns so many sets
-  pub owned_sets : n ≡ (class_of v.tables c).owned
+  pub owned_sets : n ≡ (class_of store.tables c).owned
   -- a value for each attribute of the class
-  pub values : length xs ≡ (class_of v.tables c).attributes
+  pub values : length xs ≡ (class_of store.tables c).attributes
   -- which are in range
   pub values_in_range : AreInRange xs
 
 -- a change that can be taken back
 abbrev pub FitsStore : StoreChange → StoreValue → Type 0
-FitsStore (Filed set w n o k) v = FitsFiled v set w n o k
-FitsStore (Removed set w n o k before) v = FitsRemoved v set w n o k before
-FitsStore (Created c k heads seats) v = FitsCreated v c k heads seats
-FitsStore (ClassCreated c n heads seats) v = FitsClassCreated v c n heads seats
-FitsStore (AttributeSet c a k old) v = FitsSet v c k
-FitsStore (Ended c k owned values) v = FitsEnded v c k owned values.items
+FitsStore (Filed set w n o k) store = FitsFiled store set w n o k
+FitsStore (Removed set w n o k before) store = FitsRemoved store set w n o k before
+FitsStore (Created c k heads seats) store = FitsCreated store c k heads seats
+FitsStore (ClassCreated c n heads seats) store = FitsClassCreated store c n heads seats
+FitsStore (AttributeSet c a k old) store = FitsSet store c k
+FitsStore (Ended c k owned values) store = FitsEnded store c k owned values.items
 
 -- a writing call left this state, and gave a change that fits and takes it back
-pub record Leaves (c : StoreChange) (s : Store) (old new : StoreValue) : Type 0 where
+pub record Leaves (change : StoreChange) (store : Store) (old new : StoreValue) : Type 0 where
   -- the state is this
-  pub state : new.state ≡ s
+  pub state : new.state ≡ store
   -- the change fits it
-  pub fits : FitsStore c new
+  pub fits : FitsStore change new
   -- taken back, it gives the store before
-  pub back : unapply_store c new ≡ old
+  pub back : unapply_store change new ≡ old
 
 -- a writing call that may fault
 abbrev pub IsOutcome : Result StoreChange RunFault → Result Store RunFault → StoreValue → StoreValue → Type 0

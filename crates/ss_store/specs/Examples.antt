@@ -32,7 +32,7 @@ jobs row = record {
 
 -- a set of the system, of this discipline
 abbrev pub set_by : Discipline → SetShape
-set_by d = record { discipline = d; owner = System; list = 0; member = 0; slot = 0 }
+set_by discipline = record { discipline = discipline; owner = System; list = 0; member = 0; slot = 0 }
 
 -- ranked by HIGH size, and then by LOW age
 abbrev pub high_size_low_age : Discipline
@@ -40,13 +40,13 @@ high_size_low_age = Ranked (record { rank = High; attribute = 0 } ∷ record { r
 
 -- the list once these were filed, each where it says, or the fault
 abbrev pub list_after : SetShape → Result Store RunFault → Result (List ℕ) RunFault
-list_after s (Ok st) = Ok (members_of s st 0)
-list_after s (Err f) = Err f
+list_after shape (Ok st) = Ok (members_of shape st 0)
+list_after shape (Err f) = Err f
 
 -- job k filed then, unless there was a fault
 abbrev pub then_filed : SetShape → ℕ → How → Result Store RunFault → Result Store RunFault
-then_filed s k how (Ok st) = after_filing s st 0 k how
-then_filed s k how (Err f) = Err f
+then_filed shape k how (Ok st) = after_filing shape st 0 k how
+then_filed shape k how (Err f) = Err f
 
 -- the store that is left
 abbrev pub store_of : Result (ℕ × Store) RunFault → Result Store RunFault
@@ -55,13 +55,14 @@ store_of (Err f) = Err f
 
 -- a member removed then, unless there was a fault
 abbrev pub then_removed : SetShape → Which → Result Store RunFault → Result Store RunFault
-then_removed s w (Ok st) = store_of (after_removing s st 0 w)
-then_removed s w (Err f) = Err f
+then_removed shape which (Ok st) = store_of (after_removing shape st 0 which)
+then_removed shape which (Err f) = Err f
 
 -- 1, 2, 3 and 4 filed in turn by the discipline
 abbrev pub all_filed : SetShape → Result (List ℕ) RunFault
-all_filed s = list_after s
-    (then_filed s 4 ByRule (then_filed s 3 ByRule (then_filed s 2 ByRule (after_filing s (jobs []) 0 1 ByRule))))
+all_filed shape = list_after shape
+    (then_filed shape 4 ByRule
+        (then_filed shape 3 ByRule (then_filed shape 2 ByRule (after_filing shape (jobs []) 0 1 ByRule))))
 
 -- FIFO files last
 abbrev pub FifoFilesLast : Type 0

@@ -23,31 +23,31 @@ use Rattle.ss_store.specs.Store.{with_list}
 
 -- the key values of entity number k of class c, as its attributes are now
 abbrev pub keys_now : List Key → Store → ℕ → ℕ → List ℤ
-keys_now keys st c k = unwrap_or (option_map (λ e. key_values keys e.attributes) (entity st c k)) []
+keys_now keys store c k = unwrap_or (option_map (λ e. key_values keys e.attributes) (entity store c k)) []
 
 -- whether entity number j ranks strictly behind k
 abbrev pub ranks_behind : List Key → Store → ℕ → ℕ → ℕ → Bool
-ranks_behind keys st c k j = is_gt (by_keys keys (keys_now keys st c j) (keys_now keys st c k))
+ranks_behind keys store c k j = is_gt (by_keys keys (keys_now keys store c j) (keys_now keys store c k))
 
 -- k of class c filed by a discipline; ranked before the first member that ranks strictly behind it
 abbrev pub filed_by : Discipline → Store → ℕ → ℕ → List ℕ → List ℕ
-filed_by Fifo st c k ks = ks ++ k ∷ []
-filed_by Lifo st c k ks = k ∷ ks
-filed_by (Ranked keys) st c k ks = placed_before (ranks_behind keys st c k) k ks
+filed_by Fifo store c k ks = ks ++ k ∷ []
+filed_by Lifo store c k ks = k ∷ ks
+filed_by (Ranked keys) store c k ks = placed_before (ranks_behind keys store c k) k ks
 
 -- k filed in a list of this set
 abbrev pub filed_in : SetShape → Store → How → ℕ → List ℕ → List ℕ
-filed_in s st ByRule k ks = filed_by s.discipline st s.member k ks
-filed_in s st First k ks = k ∷ ks
-filed_in s st Last k ks = ks ++ k ∷ []
-filed_in s st (Before y) k ks = put_before ks (number_of y) k
-filed_in s st (After y) k ks = put_behind ks (number_of y) k
+filed_in shape store ByRule k ks = filed_by shape.discipline store shape.member k ks
+filed_in shape store First k ks = k ∷ ks
+filed_in shape store Last k ks = ks ++ k ∷ []
+filed_in shape store (Before y) k ks = put_before ks (number_of y) k
+filed_in shape store (After y) k ks = put_behind ks (number_of y) k
 
 -- whether the member that BEFORE or AFTER names exists
 abbrev pub names_entity : SetShape → Store → How → Bool
-names_entity s st (Before y) = exists st s.member (number_of y)
-names_entity s st (After y) = exists st s.member (number_of y)
-names_entity s st _ = true
+names_entity shape store (Before y) = exists store shape.member (number_of y)
+names_entity shape store (After y) = exists store shape.member (number_of y)
+names_entity shape store _ = true
 
 -- whether the member that BEFORE or AFTER names is in the list
 abbrev pub names_member : How → List ℕ → Bool
@@ -57,87 +57,91 @@ names_member _ ks = true
 
 -- FILE k in the list of o: F3; F4 where k is in a list of the set; F5 where the member named is not in this one
 abbrev pub after_filing : SetShape → Store → ℕ → ℕ → How → Result Store RunFault
-after_filing s st o k how =
-    unless NoEntity (is_owner s st o)
-    (unless NoEntity (exists st s.member k)
-    (unless NoEntity (names_entity s st how)
-    (unless AlreadyInSet (not (is_filed s st k))
-    (unless NotInList (names_member how (members_of s st o))
-    (Ok (with_list s st o (filed_in s st how k (members_of s st o))))))))
+after_filing shape store o k how =
+    unless NoEntity (is_owner shape store o)
+    (unless NoEntity (exists store shape.member k)
+    (unless NoEntity (names_entity shape store how)
+    (unless AlreadyInSet (not (is_filed shape store k))
+    (unless NotInList (names_member how (members_of shape store o))
+    (Ok (with_list shape store o (filed_in shape store how k (members_of shape store o))))))))
 
 -- ---- removing
 
 -- a member, or a fault where there is none
 abbrev pub or_fault : RunFault → Option ℕ → Result ℕ RunFault
-or_fault f None = Err f
-or_fault f (Some k) = Ok k
+or_fault fault None = Err fault
+or_fault fault (Some k) = Ok k
 
 -- the member of the list that REMOVE names
 abbrev pub member_named : SetShape → Store → List ℕ → Which → Result ℕ RunFault
-member_named s st ks which.First = or_fault EmptySet (first_of ks)
-member_named s st ks which.Last = or_fault EmptySet (last_of ks)
-member_named s st ks (which.Member x) =
-    unless NoEntity (exists st s.member (number_of x)) (unless NotInList (has ks (number_of x)) (Ok (number_of x)))
+member_named shape store ks which.First = or_fault EmptySet (first_of ks)
+member_named shape store ks which.Last = or_fault EmptySet (last_of ks)
+member_named shape store ks (which.Member x) =
+    unless NoEntity (exists store shape.member (number_of x))
+        (unless NotInList (has ks (number_of x)) (Ok (number_of x)))
 
 -- the member, and the store with the list of o without it
 abbrev pub without_member : SetShape → Store → ℕ → Result ℕ RunFault → Result (ℕ × Store) RunFault
-without_member s st o (Ok k) = Ok (k, with_list s st o (list_without (members_of s st o) k))
-without_member s st o (Err f) = Err f
+without_member shape store o (Ok k) = Ok (k, with_list shape store o (list_without (members_of shape store o) k))
+without_member shape store o (Err f) = Err f
 
 -- REMOVE from the list of o: F3; F5 where the member named is not in it, F6 where it is empty
 abbrev pub after_removing : SetShape → Store → ℕ → Which → Result (ℕ × Store) RunFault
-after_removing s st o w = unless NoEntity (is_owner s st o)
-    (without_member s st o (member_named s st (members_of s st o) w))
+after_removing shape store o which = unless NoEntity (is_owner shape store o)
+    (without_member shape store o (member_named shape store (members_of shape store o) which))
 
 -- ---- reading
 
 -- whether k is in the list of o, or F3
 abbrev pub is_in : SetShape → Store → ℕ → ℕ → Result Bool RunFault
-is_in s st o k =
-    unless NoEntity (is_owner s st o) (unless NoEntity (exists st s.member k) (Ok (has (members_of s st o) k)))
+is_in shape store o k =
+    unless NoEntity (is_owner shape store o)
+        (unless NoEntity (exists store shape.member k) (Ok (has (members_of shape store o) k)))
 
 -- how many members the list of o has, or F3
 abbrev pub count : SetShape → Store → ℕ → Result ℕ RunFault
-count s st o = unless NoEntity (is_owner s st o) (Ok (length (members_of s st o)))
+count shape store o = unless NoEntity (is_owner shape store o) (Ok (length (members_of shape store o)))
 
 -- the first member of the list of o, or F3
 abbrev pub walk_first : SetShape → Store → ℕ → Result (Option ℕ) RunFault
-walk_first s st o = unless NoEntity (is_owner s st o) (Ok (first_of (members_of s st o)))
+walk_first shape store o = unless NoEntity (is_owner shape store o) (Ok (first_of (members_of shape store o)))
 
 -- the last member of the list of o, or F3
 abbrev pub walk_last : SetShape → Store → ℕ → Result (Option ℕ) RunFault
-walk_last s st o = unless NoEntity (is_owner s st o) (Ok (last_of (members_of s st o)))
+walk_last shape store o = unless NoEntity (is_owner shape store o) (Ok (last_of (members_of shape store o)))
 
 -- what is read at member k of the list of o: F3, F14 where k isn't in it
 abbrev pub at_member : {A : Type 0} → SetShape → Store → ℕ → ℕ → A → Result A RunFault
-at_member s st o k a =
-    unless NoEntity (is_owner s st o)
-    (unless NoEntity (exists st s.member k) (unless MemberLeft (has (members_of s st o) k) (Ok a)))
+at_member shape store o k a =
+    unless NoEntity (is_owner shape store o)
+    (unless NoEntity (exists store shape.member k) (unless MemberLeft (has (members_of shape store o) k) (Ok a)))
 
 -- the member directly behind k in the list of o, or F3, F14
 abbrev pub walk_next : SetShape → Store → ℕ → ℕ → Result (Option ℕ) RunFault
-walk_next s st o k = at_member s st o k (next_in (members_of s st o) k)
+walk_next shape store o k = at_member shape store o k (next_in (members_of shape store o) k)
 
 -- the member directly before k in the list of o, or F3, F14
 abbrev pub walk_prev : SetShape → Store → ℕ → ℕ → Result (Option ℕ) RunFault
-walk_prev s st o k = at_member s st o k (prev_in (members_of s st o) k)
+walk_prev shape store o k = at_member shape store o k (prev_in (members_of shape store o) k)
 
 -- ---- kept attributes of a member
 
 -- P.s: the member directly before k in the list that holds it, or F3
 abbrev pub predecessor : SetShape → Store → ℕ → Result (Option ℕ) RunFault
-predecessor s st k = unless NoEntity (exists st s.member k) (Ok (prev_in (list_holding s st k) k))
+predecessor shape store k = unless NoEntity (exists store shape.member k) (Ok (prev_in (list_holding shape store k) k))
 
 -- S.s: the member directly behind k in the list that holds it, or F3
 abbrev pub successor : SetShape → Store → ℕ → Result (Option ℕ) RunFault
-successor s st k = unless NoEntity (exists st s.member k) (Ok (next_in (list_holding s st k) k))
+successor shape store k = unless NoEntity (exists store shape.member k) (Ok (next_in (list_holding shape store k) k))
 
 -- M.s: whether k is in a list of the set, or F3
 abbrev pub membership : SetShape → Store → ℕ → Result Bool RunFault
-membership s st k = unless NoEntity (exists st s.member k) (Ok (is_filed s st k))
+membership shape store k = unless NoEntity (exists store shape.member k) (Ok (is_filed shape store k))
 
 -- what was read of k at once is P.s, S.s and M.s of it, or the fault that each of them is
 abbrev pub AreNeighbours : SetShape → Store → ℕ → Result Neighbours RunFault → Type 0
-AreNeighbours s st k (Ok n) =
-    (predecessor s st k ≡ Ok n.before) × (successor s st k ≡ Ok n.behind) × (membership s st k ≡ Ok n.is_filed)
-AreNeighbours s st k (Err f) = (predecessor s st k ≡ Err f) × (successor s st k ≡ Err f) × (membership s st k ≡ Err f)
+AreNeighbours shape store k (Ok n) =
+    (predecessor shape store k ≡ Ok n.before) × (successor shape store k ≡ Ok n.behind)
+        × (membership shape store k ≡ Ok n.is_filed)
+AreNeighbours shape store k (Err f) =
+    (predecessor shape store k ≡ Err f) × (successor shape store k ≡ Err f) × (membership shape store k ≡ Err f)

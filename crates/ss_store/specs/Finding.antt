@@ -44,11 +44,11 @@ spot_after (Some t) = Ok (spot.After t)
 
 -- the place that FILE names, in seats, or F3
 abbrev pub spot_by : EntityTable → SetShape → How → Result Spot RunFault
-spot_by es s ByRule = Ok spot.ByRule
-spot_by es s First = Ok spot.First
-spot_by es s Last = Ok spot.Last
-spot_by es s (Before y) = spot_before (seat_at es s (number_of y))
-spot_by es s (After y) = spot_after (seat_at es s (number_of y))
+spot_by es shape ByRule = Ok spot.ByRule
+spot_by es shape First = Ok spot.First
+spot_by es shape Last = Ok spot.Last
+spot_by es shape (Before y) = spot_before (seat_at es shape (number_of y))
+spot_by es shape (After y) = spot_after (seat_at es shape (number_of y))
 
 -- the key values of entity number k of class c
 abbrev pub keys_in : EntityTable → List Key → ℕ → ℕ → List ℤ
@@ -86,18 +86,18 @@ rule_place es ns c k l (Ranked keys) = rank_before (seat_behind_in es ns keys c 
 -- the seat behind which it is filed, or none where it is filed first; F5 where the member named isn't in the list of
 -- the head
 abbrev pub place_by : EntityTable → List ℕ → List (List ℕ) → SetShape → ℕ → ℕ → Spot → Result (Option ℕ) RunFault
-place_by es ns ls s h k spot.First = Ok None
-place_by es ns ls s h k spot.Last = Ok (last_of (list_at ls h))
-place_by es ns ls s h k spot.ByRule = Ok (rule_place es ns s.member k (list_at ls h) s.discipline)
-place_by es ns ls s h k (spot.Before t) =
+place_by es ns ls shape h k spot.First = Ok None
+place_by es ns ls shape h k spot.Last = Ok (last_of (list_at ls h))
+place_by es ns ls shape h k spot.ByRule = Ok (rule_place es ns shape.member k (list_at ls h) shape.discipline)
+place_by es ns ls shape h k (spot.Before t) =
     if is_at (head_of ls t) h then Ok (prev_in (list_of ls t) t) else Err NotInList
-place_by es ns ls s h k (spot.After t) = if is_at (head_of ls t) h then Ok (Some t) else Err NotInList
+place_by es ns ls shape h k (spot.After t) = if is_at (head_of ls t) h then Ok (Some t) else Err NotInList
 
 -- the seat of the member that is to be removed
 abbrev pub seat_to_remove : EntityTable → List (List ℕ) → SetShape → ℕ → Which → Result ℕ RunFault
-seat_to_remove es ls s h which.First = or_fault EmptySet (first_of (list_at ls h))
-seat_to_remove es ls s h which.Last = or_fault EmptySet (last_of (list_at ls h))
-seat_to_remove es ls s h (which.Member x) = seat_in_list ls h (seat_at es s (number_of x))
+seat_to_remove es ls shape h which.First = or_fault EmptySet (first_of (list_at ls h))
+seat_to_remove es ls shape h which.Last = or_fault EmptySet (last_of (list_at ls h))
+seat_to_remove es ls shape h (which.Member x) = seat_in_list ls h (seat_at es shape (number_of x))
 
 -- a seat that a place names is one of these
 abbrev pub SpotBelow : Spot → ℕ → Type 0
@@ -119,4 +119,4 @@ seat_under ls (Some h) q = seat_among ls h q
 
 -- the seat of member k, where it is in the list of owner o; F3 where one of them does not exist
 abbrev pub seat_in : EntityTable → List (List ℕ) → SetShape → ℕ → ℕ → Result (Option ℕ) RunFault
-seat_in es ls s o k = seat_under ls (head_at es s o) (seat_at es s k)
+seat_in es ls shape o k = seat_under ls (head_at es shape o) (seat_at es shape k)

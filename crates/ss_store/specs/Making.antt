@@ -27,7 +27,7 @@ numbering shape c = numbering_by shape.permanent c
 
 -- a numbering with one more row
 abbrev pub with_row : Row → List ℤ → RowTable → RowTable
-with_row r v t = record { rows = t.rows ++ r ∷ []; values = t.values ++ Some v ∷ [] }
+with_row row v rows = record { rows = rows.rows ++ row ∷ []; values = rows.values ++ Some v ∷ [] }
 
 -- a numbering changed
 abbrev pub with_table : (RowTable → RowTable) → EntityTable → Option ℕ → EntityTable
@@ -36,7 +36,8 @@ with_table change es (Some c) = record es { made = change_at change es.made c }
 
 -- a numbering without its last row
 abbrev pub without_last_row : RowTable → RowTable
-without_last_row t = record { rows = take (length t.rows - 1) t.rows; values = take (length t.rows - 1) t.values }
+without_last_row rows =
+    record { rows = take (length rows.rows - 1) rows.rows; values = take (length rows.rows - 1) rows.values }
 
 -- what n heads of entity number k of class c are of, from its list number i on
 abbrev pub heads_for : ℕ → ℕ → ℕ → ℕ → List HeadEntry
@@ -50,54 +51,54 @@ seats_for c k i (suc n) = record { member = c; slot = i; number = k } ∷ seats_
 
 -- a board with so many heads more, whose lists are empty
 abbrev pub with_heads : ℕ → Board → Board
-with_heads n b = record { lists = b.lists ++ replicate n []; seats = b.seats }
+with_heads n board = record { lists = board.lists ++ replicate n []; seats = board.seats }
 
 -- a board with so many seats more, which are in no list
 abbrev pub with_seats : ℕ → Board → Board
-with_seats n b = record { lists = b.lists; seats = b.seats + n }
+with_seats n board = record { lists = board.lists; seats = board.seats + n }
 
 -- a board with so many heads and seats more
 abbrev pub with_places : ℕ → ℕ → Board → Board
-with_places heads seats b = with_seats seats (with_heads heads b)
+with_places heads seats board = with_seats seats (with_heads heads board)
 
 -- the number that the next entity of a numbering gets
 abbrev pub next_number : StoreParts → Option ℕ → ℕ
-next_number g w = suc (length (rows_in g.rows w).rows)
+next_number parts w = suc (length (rows_in parts.rows w).rows)
 
 -- its row
 abbrev pub next_row : StoreParts → ℕ → Row
-next_row g c = record { class = c; head = length g.board.lists; seat = g.board.seats }
+next_row parts c = record { class = c; head = length parts.board.lists; seat = parts.board.seats }
 
 -- what is held once an entity of class c with these attributes is made
 abbrev pub with_next_entity : StoreParts → Option ℕ → ℕ → ClassShape → List ℤ → StoreParts
-with_next_entity g w c shape v = record g {
-  rows = with_table (with_row (next_row g c) v) g.rows w;
-  numbers = g.numbers ++ replicate shape.joined (next_number g w);
-  owners = g.owners ++ heads_for c (next_number g w) 0 shape.owned;
-  members = g.members ++ seats_for c (next_number g w) 0 shape.joined;
-  board = with_places shape.owned shape.joined g.board;
+with_next_entity parts w c shape v = record parts {
+  rows = with_table (with_row (next_row parts c) v) parts.rows w;
+  numbers = parts.numbers ++ replicate shape.joined (next_number parts w);
+  owners = parts.owners ++ heads_for c (next_number parts w) 0 shape.owned;
+  members = parts.members ++ seats_for c (next_number parts w) 0 shape.joined;
+  board = with_places shape.owned shape.joined parts.board;
 }
 
 -- what is held without the last entity of a numbering, whose heads and seats are these and those behind them
 abbrev pub without_last_entity : StoreParts → Option ℕ → ℕ → ℕ → StoreParts
-without_last_entity g w head seat = record g {
-  rows = with_table without_last_row g.rows w;
-  numbers = take seat g.numbers;
-  owners = take head g.owners;
-  members = take seat g.members;
-  board = record { lists = take head g.board.lists; seats = seat };
+without_last_entity parts w head seat = record parts {
+  rows = with_table without_last_row parts.rows w;
+  numbers = take seat parts.numbers;
+  owners = take head parts.owners;
+  members = take seat parts.members;
+  board = record { lists = take head parts.board.lists; seats = seat };
 }
 
 -- a board whose heads and seats from these on can be taken off
-pub record CanShrink (b : Board) (head seat : ℕ) : Type 0 where
+pub record CanShrink (board : Board) (head seat : ℕ) : Type 0 where
   -- there are these heads
-  pub heads : head ≤ length b.lists
+  pub heads : head ≤ length board.lists
   -- their lists are empty
-  pub empty : (h : ℕ) → head ≤ h → list_at b.lists h ≡ []
+  pub empty : (h : ℕ) → head ≤ h → list_at board.lists h ≡ []
   -- there are these seats
-  pub seats : seat ≤ b.seats
+  pub seats : seat ≤ board.seats
   -- they are in no list
-  pub free : (t : ℕ) → seat ≤ t → head_of b.lists t ≡ None
+  pub free : (t : ℕ) → seat ≤ t → head_of board.lists t ≡ None
 
 -- ---- the store
 
@@ -107,31 +108,32 @@ numbering_limit shape = if shape.permanent then MOST_ENTITIES else MOST_REFERENC
 
 -- the state with one more entity in a numbering
 abbrev pub with_entity : Option ℕ → Store → Entity → Store
-with_entity None st e = with_reference st e
-with_entity (Some c) st e = record st { made = change_at (λ es. es ++ e ∷ []) st.made c }
+with_entity None store entity = with_reference store entity
+with_entity (Some c) store entity = record store { made = change_at (λ es. es ++ entity ∷ []) store.made c }
 
 -- the state with one more entity of class c, which is the last of its numbering
 abbrev pub with_more : Store → ℕ → ClassShape → Store
-with_more st c shape = with_entity (numbering shape c) st (fresh c shape)
+with_more store c shape = with_entity (numbering shape c) store (fresh c shape)
 
 -- the rows of a numbering
 abbrev pub rows_of_numbering : Layout → Option ℕ → List Row
-rows_of_numbering k None = k.references
-rows_of_numbering k (Some c) = slice_index_or k.made c []
+rows_of_numbering layout None = layout.references
+rows_of_numbering layout (Some c) = slice_index_or layout.made c []
 
 -- what is kept, with the rows of a numbering changed, and so many heads and seats
 abbrev pub layout_with : (List Row → List Row) → Layout → Option ℕ → ℕ → ℕ → Layout
-layout_with change k None heads seats = record k { references = change k.references; heads = heads; seats = seats }
-layout_with change k (Some c) heads seats =
-    record k { made = change_at change k.made c; heads = heads; seats = seats }
+layout_with change layout None heads seats =
+    record layout { references = change layout.references; heads = heads; seats = seats }
+layout_with change layout (Some c) heads seats =
+    record layout { made = change_at change layout.made c; heads = heads; seats = seats }
 
 -- the store with one more entity of class c
 abbrev pub one_more : ℕ → StoreValue → StoreValue
-one_more c v = record v {
-  state = with_more v.state c (class_of v.tables c);
-  kept = layout_with (λ rs. rs ++ record { class = c; head = v.kept.heads; seat = v.kept.seats } ∷ [])
-      v.kept (numbering (class_of v.tables c) c)
-      (v.kept.heads + (class_of v.tables c).owned) (v.kept.seats + (class_of v.tables c).joined);
+one_more c store = record store {
+  state = with_more store.state c (class_of store.tables c);
+  kept = layout_with (λ rs. rs ++ record { class = c; head = store.kept.heads; seat = store.kept.seats } ∷ [])
+      store.kept (numbering (class_of store.tables c) c)
+      (store.kept.heads + (class_of store.tables c).owned) (store.kept.seats + (class_of store.tables c).joined);
 }
 
 -- a list without its last item
@@ -140,41 +142,41 @@ but_last xs = take (length xs - 1) xs
 
 -- the state without the last entity of a numbering
 abbrev pub without_last : Option ℕ → Store → Store
-without_last None st = record st { references = but_last st.references }
-without_last (Some c) st = record st { made = change_at but_last st.made c }
+without_last None store = record store { references = but_last store.references }
+without_last (Some c) store = record store { made = change_at but_last store.made c }
 
 -- the store without it, where these were the counts of heads and seats before it was made
 abbrev pub one_less : ℕ → ℕ → ℕ → StoreValue → StoreValue
-one_less c heads seats v = record v {
-  state = without_last (numbering (class_of v.tables c) c) v.state;
-  kept = layout_with but_last v.kept (numbering (class_of v.tables c) c) heads seats;
+one_less c heads seats store = record store {
+  state = without_last (numbering (class_of store.tables c) c) store.state;
+  kept = layout_with but_last store.kept (numbering (class_of store.tables c) c) heads seats;
 }
 
 -- entity number k is the last of the numbering of class c, its heads and seats are the board's last, from these on, it
 -- is in no list and owns no member
-pub record FitsLast (c k heads seats : ℕ) (v : StoreValue) : Type 0 where
+pub record FitsLast (c k heads seats : ℕ) (store : StoreValue) : Type 0 where
   -- there is such a class
-  pub is_class : c < length v.tables.classes
+  pub is_class : c < length store.tables.classes
   -- it is the last
-  pub last : length (rows_of_numbering v.kept (numbering (class_of v.tables c) c)) ≡ k
+  pub last : length (rows_of_numbering store.kept (numbering (class_of store.tables c) c)) ≡ k
   -- its row has these heads and seats
-  pub row : slice_get (rows_of_numbering v.kept (numbering (class_of v.tables c) c)) (k - 1)
+  pub row : slice_get (rows_of_numbering store.kept (numbering (class_of store.tables c) c)) (k - 1)
       ≡ Some (record { class = c; head = heads; seat = seats })
   -- its heads are the last
-  pub last_heads : heads + (class_of v.tables c).owned ≡ v.kept.heads
+  pub last_heads : heads + (class_of store.tables c).owned ≡ store.kept.heads
   -- its seats are the last
-  pub last_seats : seats + (class_of v.tables c).joined ≡ v.kept.seats
+  pub last_seats : seats + (class_of store.tables c).joined ≡ store.kept.seats
   -- it exists
-  pub there : exists v.state c k ≡ true
+  pub there : exists store.state c k ≡ true
   -- it is in no list
-  pub free : is_member v.tables.sets v.state c k ≡ false
+  pub free : is_member store.tables.sets store.state c k ≡ false
   -- it owns no member
-  pub empty : owns_members (entity v.state c k) ≡ false
+  pub empty : owns_members (entity store.state c k) ≡ false
 
 -- there may be one more entity of class c
 abbrev pub HasRoom : ℕ → StoreValue → Type 0
-HasRoom c v = length (rows_of_numbering v.kept (numbering (class_of v.tables c) c))
-    < numbering_limit (class_of v.tables c)
+HasRoom c store = length (rows_of_numbering store.kept (numbering (class_of store.tables c) c))
+    < numbering_limit (class_of store.tables c)
 
 -- an entity of class c was made, and can be taken off again
 pub record Makes (c : ℕ) (old new : StoreValue) : Type 0 where
@@ -188,9 +190,9 @@ pub record Makes (c : ℕ) (old new : StoreValue) : Type 0 where
 
 -- so many entities of class c can be taken off, last first, and this store is what is left
 abbrev pub TakesOff : ℕ → ℕ → StoreValue → StoreValue → Type 0
-TakesOff c zero v rest = v ≡ rest
-TakesOff c (suc n) v rest = (k heads seats : ℕ) × FitsLast c k heads seats v
-    × TakesOff c n (one_less c heads seats v) rest
+TakesOff c zero store rest = store ≡ rest
+TakesOff c (suc n) store rest = (k heads seats : ℕ) × FitsLast c k heads seats store
+    × TakesOff c n (one_less c heads seats store) rest
 
 -- so many entities of permanent class c were made, and can be taken off again
 pub record MakesAll (c n : ℕ) (old new : StoreValue) : Type 0 where

@@ -27,7 +27,8 @@ seat_after es ns keys c x y =
 
 -- the members at the seats of a list are in the order of this set's ranking, if it has one
 abbrev pub InOrder : EntityTable → List ℕ → SetShape → List ℕ → Type 0
-InOrder es ns s l = (keys : List Key) → s.discipline ≡ Ranked keys → Climbs (seat_after es ns keys s.member) l
+InOrder es ns shape l =
+    (keys : List Key) → shape.discipline ≡ Ranked keys → Climbs (seat_after es ns keys shape.member) l
 
 -- the lists found to be in order in this round, by the round in which each was
 abbrev pub known_in : List ℕ → ℕ → List Bool
@@ -42,11 +43,11 @@ abbrev pub known_at : List Bool → ℕ → Bool
 known_at known h = slice_index_or known h false
 
 -- the lists that are known to be in order are
-pub record AreInOrder (g : StoreParts) (known : List Bool) : Type 0 where
+pub record AreInOrder (parts : StoreParts) (known : List Bool) : Type 0 where
   -- each by the ranking of its set
-  pub each : (h : ℕ) (s : SetShape) (o : ℕ) → known_at known h ≡ true → IsSet g.tables.sets s
-      → slice_get g.owners h ≡ Some (record { owner = s.owner; list = s.list; number = o })
-      → InOrder g.rows g.numbers s (list_at g.board.lists h)
+  pub each : (h : ℕ) (s : SetShape) (o : ℕ) → known_at known h ≡ true → IsSet parts.tables.sets s
+      → slice_get parts.owners h ≡ Some (record { owner = s.owner; list = s.list; number = o })
+      → InOrder parts.rows parts.numbers s (list_at parts.board.lists h)
 
 -- whether an attribute is a key of a discipline
 abbrev pub is_key_by : Discipline → ℕ → Bool
@@ -56,4 +57,4 @@ is_key_by Lifo a = false
 
 -- whether it is a key of a set's
 abbrev pub is_key : SetShape → ℕ → Bool
-is_key s a = is_key_by s.discipline a
+is_key shape a = is_key_by shape.discipline a

@@ -51,7 +51,7 @@ number_at ns t = slice_index_or ns t 0
 
 -- the members' numbers in the list of a head
 abbrev pub numbers_under : Board → List ℕ → ℕ → List ℕ
-numbers_under b ns h = map (number_at ns) (list_at b.lists h)
+numbers_under board ns h = map (number_at ns) (list_at board.lists h)
 
 -- ---- the state
 
@@ -62,18 +62,18 @@ owned_from at h (suc n) = at h ∷ owned_from at (suc h) n
 
 -- the entity of a row with these attributes
 abbrev pub entity_with : List ClassShape → (ℕ → List ℕ) → Row → List ℤ → Entity
-entity_with cs at r v =
-    record { class = r.class; attributes = v; owned = owned_from at r.head (class_in cs r.class).owned }
+entity_with cs at row v =
+    record { class = row.class; attributes = v; owned = owned_from at row.head (class_in cs row.class).owned }
 
 -- what a reference stands for
 abbrev pub reference_with : List ClassShape → (ℕ → List ℕ) → Row → Option (List ℤ) → Option Entity
-reference_with cs at r None = None
-reference_with cs at r (Some v) = Some (entity_with cs at r v)
+reference_with cs at row None = None
+reference_with cs at row (Some v) = Some (entity_with cs at row v)
 
 -- an entity that was made
 abbrev pub made_with : List ClassShape → (ℕ → List ℕ) → Row → Option (List ℤ) → Entity
-made_with cs at r None = entity_with cs at r []
-made_with cs at r (Some v) = entity_with cs at r v
+made_with cs at row None = entity_with cs at row []
+made_with cs at row (Some v) = entity_with cs at row v
 
 -- rows and values taken together
 abbrev pub zip_rows : {A : Type 0} → (Row → Option (List ℤ) → A) → List Row → List (Option (List ℤ)) → List A
@@ -83,47 +83,47 @@ zip_rows f (r ∷ rs) (v ∷ vs) = f r v ∷ zip_rows f rs vs
 
 -- the same of a numbering
 abbrev pub zip_table : {A : Type 0} → (Row → Option (List ℤ) → A) → RowTable → List A
-zip_table f t = zip_rows f t.rows t.values
+zip_table f rows = zip_rows f rows.rows rows.values
 
 -- the state of rows, where the lists of heads are these
 abbrev pub state_at : Tables → (ℕ → List ℕ) → EntityTable → Store
-state_at t at es = record {
-  made = map (zip_table (made_with t.classes at)) es.made;
-  references = zip_table (reference_with t.classes at) es.references;
-  system = owned_from at 0 t.system;
+state_at tables at es = record {
+  made = map (zip_table (made_with tables.classes at)) es.made;
+  references = zip_table (reference_with tables.classes at) es.references;
+  system = owned_from at 0 tables.system;
 }
 
 -- the state of what is held
 abbrev pub state_of : StoreParts → Store
-state_of g = state_at g.tables (numbers_under g.board g.numbers) g.rows
+state_of parts = state_at parts.tables (numbers_under parts.board parts.numbers) parts.rows
 
 -- what is kept of it
 abbrev pub layout_of : StoreParts → Layout
-layout_of g = record {
-  made = map (λ t. t.rows) g.rows.made;
-  references = g.rows.references.rows;
-  heads = length g.board.lists;
-  seats = g.board.seats;
+layout_of parts = record {
+  made = map (λ t. t.rows) parts.rows.made;
+  references = parts.rows.references.rows;
+  heads = length parts.board.lists;
+  seats = parts.board.seats;
 }
 
 -- the store that it is
 abbrev pub value_of : StoreParts → StoreValue
-value_of g = record { tables = g.tables; state = state_of g; kept = layout_of g }
+value_of parts = record { tables = parts.tables; state = state_of parts; kept = layout_of parts }
 
 -- ---- where a list and a member are on the board
 
 -- the head of a set's list, by its owner's number, where the owner exists
 abbrev pub head_by : Owner → EntityTable → SetShape → ℕ → Option ℕ
-head_by System es s o = Some s.list
-head_by (OwnedBy c) es s o = option_map (λ r. r.head + s.list) (row_of es c o)
+head_by System es shape o = Some shape.list
+head_by (OwnedBy c) es shape o = option_map (λ r. r.head + shape.list) (row_of es c o)
 
 -- the same of the set's own owner
 abbrev pub head_at : EntityTable → SetShape → ℕ → Option ℕ
-head_at es s o = head_by s.owner es s o
+head_at es shape o = head_by shape.owner es shape o
 
 -- the seat of a member in a set, where the member exists
 abbrev pub seat_at : EntityTable → SetShape → ℕ → Option ℕ
-seat_at es s k = option_map (λ r. r.seat + s.slot) (row_of es s.member k)
+seat_at es shape k = option_map (λ r. r.seat + shape.slot) (row_of es shape.member k)
 
 -- the number by which a head knows its owner; the system's is 0
 abbrev pub owner_number : Owner → ℕ → ℕ

@@ -24,21 +24,21 @@ FirstPasses test (k ∷ ks) = test k ≡ true
 -- what a discipline says of those before k and of those behind it; ranked: none of the former ranks strictly behind k,
 -- and the first of the latter does
 abbrev pub IsRulePlace : Discipline → Store → ℕ → ℕ → List ℕ → List ℕ → Type 0
-IsRulePlace Fifo st c k front rest = rest ≡ []
-IsRulePlace Lifo st c k front rest = front ≡ []
-IsRulePlace (Ranked keys) st c k front rest =
-    NonePasses (ranks_behind keys st c k) front × FirstPasses (ranks_behind keys st c k) rest
+IsRulePlace Fifo store c k front rest = rest ≡ []
+IsRulePlace Lifo store c k front rest = front ≡ []
+IsRulePlace (Ranked keys) store c k front rest =
+    NonePasses (ranks_behind keys store c k) front × FirstPasses (ranks_behind keys store c k) rest
 
 -- what FILE says of them
 abbrev pub IsPlace : SetShape → Store → How → ℕ → List ℕ → List ℕ → Type 0
-IsPlace s st ByRule k front rest = IsRulePlace s.discipline st s.member k front rest
-IsPlace s st First k front rest = front ≡ []
-IsPlace s st Last k front rest = rest ≡ []
-IsPlace s st (Before y) k front rest = first_of rest ≡ Some (number_of y)
-IsPlace s st (After y) k front rest = last_of front ≡ Some (number_of y)
+IsPlace shape store ByRule k front rest = IsRulePlace shape.discipline store shape.member k front rest
+IsPlace shape store First k front rest = front ≡ []
+IsPlace shape store Last k front rest = rest ≡ []
+IsPlace shape store (Before y) k front rest = first_of rest ≡ Some (number_of y)
+IsPlace shape store (After y) k front rest = last_of front ≡ Some (number_of y)
 
 -- the member is filed between two parts of the list
-pub record IsBetween (s : SetShape) (st : Store) (how : How) (k : ℕ) (ks : List ℕ) : Type 0 where
+pub record IsBetween (shape : SetShape) (store : Store) (how : How) (k : ℕ) (ks : List ℕ) : Type 0 where
   -- those before it
   pub front : List ℕ
   -- those behind it
@@ -46,9 +46,9 @@ pub record IsBetween (s : SetShape) (st : Store) (how : How) (k : ℕ) (ks : Lis
   -- they were the list
   pub was : ks ≡ front ++ rest
   -- it is between them
-  pub is : filed_in s st how k ks ≡ front ++ k ∷ rest
+  pub is : filed_in shape store how k ks ≡ front ++ k ∷ rest
   -- they are those that FILE says
-  pub place : IsPlace s st how k front rest
+  pub place : IsPlace shape store how k front rest
 
 -- each way of filing, on every list
 abbrev pub FiledBetween : Type 0

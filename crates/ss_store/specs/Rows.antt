@@ -40,7 +40,7 @@ row_if c None v = None
 
 -- row number i of a numbering, if it is of class c and has not ended
 abbrev pub row_in : RowTable → ℕ → ℕ → Option Row
-row_in t c i = row_if c (slice_get t.rows i) (slice_get t.values i)
+row_in rows c i = row_if c (slice_get rows.rows i) (slice_get rows.values i)
 
 -- the row of entity number k of class c
 abbrev pub row_of : EntityTable → ℕ → ℕ → Option Row
@@ -56,7 +56,7 @@ values_if c None v = None
 
 -- the values of row number i of a numbering, if it is of class c and has not ended
 abbrev pub values_in : RowTable → ℕ → ℕ → Option (List ℤ)
-values_in t c i = values_if c (slice_get t.rows i) (slice_get t.values i)
+values_in rows c i = values_if c (slice_get rows.rows i) (slice_get rows.values i)
 
 -- the values of the attributes of entity number k of class c
 abbrev pub values_of : EntityTable → ℕ → ℕ → Option (List ℤ)

@@ -47,8 +47,8 @@ number_of (negsuc n) = 0
 
 -- a result where the test is true, and else a fault
 abbrev pub unless : {A : Type 0} → RunFault → Bool → Result A RunFault → Result A RunFault
-unless f true r = r
-unless f false r = Err f
+unless fault true r = r
+unless fault false r = Err fault
 
 -- list number n
 abbrev pub list_number : List (List ℕ) → ℕ → List ℕ
@@ -63,24 +63,25 @@ of_class c (Some e) = if e.class == c then Some e else None
 
 -- the entities that were made of permanent class c
 abbrev pub made_of : Store → ℕ → List Entity
-made_of st c = slice_index_or st.made c []
+made_of store c = slice_index_or store.made c []
 
 -- entity number k of class c: of a permanent class one that was made, else one that has a reference
 abbrev pub entity : Store → ℕ → ℕ → Option Entity
-entity st c zero = None
-entity st c (suc k) = option_or (slice_get (made_of st c) k) (option_and_then (of_class c) (slice_get st.references k))
+entity store c zero = None
+entity store c (suc k) =
+    option_or (slice_get (made_of store c) k) (option_and_then (of_class c) (slice_get store.references k))
 
 -- all entities of class c
 abbrev pub entities : Store → ℕ → List Entity
-entities st c = made_of st c ++ filter_map (of_class c) st.references
+entities store c = made_of store c ++ filter_map (of_class c) store.references
 
 -- whether there is entity number k of class c
 abbrev pub exists : Store → ℕ → ℕ → Bool
-exists st c k = is_some (entity st c k)
+exists store c k = is_some (entity store c k)
 
 -- no entity of class c has a greater number
 abbrev pub greatest_number : Store → ℕ → ℕ
-greatest_number st c = max (length (made_of st c)) (length st.references)
+greatest_number store c = max (length (made_of store c)) (length store.references)
 
 -- ---- attributes
 
@@ -96,35 +97,35 @@ attribute_in a (Some e) = Ok (slice_index_or e.attributes a (pos 0))
 
 -- attribute number a of entity number k of class c, or F3
 abbrev pub attribute_of : Store → ℕ → ℕ → ℕ → Result ℤ RunFault
-attribute_of st c a k = attribute_in a (entity st c k)
+attribute_of store c a k = attribute_in a (entity store c k)
 
 -- all attributes of entity number k of class c, if it exists
 abbrev pub attributes_of : Store → ℕ → ℕ → Option (List ℤ)
-attributes_of st c k = option_map (λ e. e.attributes) (entity st c k)
+attributes_of store c k = option_map (λ e. e.attributes) (entity store c k)
 
 -- ---- the lists of sets; n is the number of a set among those of its owner
 
 -- the list of a set for owner number k, if that exists; the system is any number
 abbrev pub list_by : Owner → ℕ → Store → ℕ → Option (List ℕ)
-list_by System n st k = Some (list_number st.system n)
-list_by (OwnedBy c) n st k = option_map (λ e. list_number e.owned n) (entity st c k)
+list_by System n store k = Some (list_number store.system n)
+list_by (OwnedBy c) n store k = option_map (λ e. list_number e.owned n) (entity store c k)
 
 -- the lists of a set, of all its owners
 abbrev pub lists_by : Owner → ℕ → Store → List (List ℕ)
-lists_by System n st = list_number st.system n ∷ []
-lists_by (OwnedBy c) n st = map (λ e. list_number e.owned n) (entities st c)
+lists_by System n store = list_number store.system n ∷ []
+lists_by (OwnedBy c) n store = map (λ e. list_number e.owned n) (entities store c)
 
 -- whether the owner of a list of this set exists
 abbrev pub is_owner : SetShape → Store → ℕ → Bool
-is_owner s st k = is_some (list_by s.owner s.list st k)
+is_owner shape store k = is_some (list_by shape.owner shape.list store k)
 
 -- the members of a set's list for owner number k, none where that does not exist
 abbrev pub members_by : Owner → ℕ → Store → ℕ → List ℕ
-members_by w n st k = unwrap_or (list_by w n st k) []
+members_by owner n store k = unwrap_or (list_by owner n store k) []
 
 -- the members of the list of this set for owner number k
 abbrev pub members_of : SetShape → Store → ℕ → List ℕ
-members_of s st k = members_by s.owner s.list st k
+members_of shape store k = members_by shape.owner shape.list store k
 
 -- whether k is in one of these lists
 abbrev pub stands_in : List (List ℕ) → ℕ → Bool
@@ -132,11 +133,11 @@ stands_in ls k = list_any (λ ks. has ks k) ls
 
 -- whether k is in a list of this set
 abbrev pub is_filed : SetShape → Store → ℕ → Bool
-is_filed s st k = stands_in (lists_by s.owner s.list st) k
+is_filed shape store k = stands_in (lists_by shape.owner shape.list store) k
 
 -- the list of this set that holds member number k, or the empty one
 abbrev pub list_holding : SetShape → Store → ℕ → List ℕ
-list_holding s st k = unwrap_or (find (λ ks. has ks k) (lists_by s.owner s.list st)) []
+list_holding shape store k = unwrap_or (find (λ ks. has ks k) (lists_by shape.owner shape.list store)) []
 
 -- ---- changing
 
@@ -147,32 +148,32 @@ changed_reference change c (Some e) = if e.class == c then Some (change e) else 
 
 -- the store with entity number k of class c changed
 abbrev pub with_changed : (Entity → Entity) → Store → ℕ → ℕ → Store
-with_changed change st c zero = st
-with_changed change st c (suc k) = record st {
-  made = change_at (λ row. change_at change row k) st.made c;
-  references = change_at (changed_reference change c) st.references k;
+with_changed change store c zero = store
+with_changed change store c (suc k) = record store {
+  made = change_at (λ row. change_at change row k) store.made c;
+  references = change_at (changed_reference change c) store.references k;
 }
 
 -- an entity with an attribute changed
 abbrev pub with_value : ℕ → ℤ → Entity → Entity
-with_value a value e = record e { attributes = slice_set e.attributes a value }
+with_value a value entity = record entity { attributes = slice_set entity.attributes a value }
 
 -- the store with attribute number a of entity number k of class c changed, or F3
 abbrev pub with_attribute : Store → ℕ → ℕ → ℕ → ℤ → Result Store RunFault
-with_attribute st c a k value = unless NoEntity (exists st c k) (Ok (with_changed (with_value a value) st c k))
+with_attribute store c a k value = unless NoEntity (exists store c k) (Ok (with_changed (with_value a value) store c k))
 
 -- an entity with one of its lists changed
 abbrev pub with_owned : ℕ → List ℕ → Entity → Entity
-with_owned n ks e = record e { owned = slice_set e.owned n ks }
+with_owned n ks entity = record entity { owned = slice_set entity.owned n ks }
 
 -- the store with the list of a set for owner number k changed
 abbrev pub with_list_by : Owner → ℕ → Store → ℕ → List ℕ → Store
-with_list_by System n st k ks = record st { system = slice_set st.system n ks }
-with_list_by (OwnedBy c) n st k ks = with_changed (with_owned n ks) st c k
+with_list_by System n store k ks = record store { system = slice_set store.system n ks }
+with_list_by (OwnedBy c) n store k ks = with_changed (with_owned n ks) store c k
 
 -- the same of this set
 abbrev pub with_list : SetShape → Store → ℕ → List ℕ → Store
-with_list s st k ks = with_list_by s.owner s.list st k ks
+with_list shape store k ks = with_list_by shape.owner shape.list store k ks
 
 -- ---- making
 
@@ -182,37 +183,39 @@ fresh c shape = record { class = c; attributes = replicate shape.attributes (pos
 
 -- nothing made
 abbrev pub empty_store : Tables → Store
-empty_store t = record { made = replicate (length t.classes) []; references = []; system = replicate t.system [] }
+empty_store tables =
+    record { made = replicate (length tables.classes) []; references = []; system = replicate tables.system [] }
 
 -- the store with one more reference
 abbrev pub with_reference : Store → Entity → Store
-with_reference st e = record st { references = st.references ++ Some e ∷ [] }
+with_reference store entity = record store { references = store.references ++ Some entity ∷ [] }
 
 -- the store with one more entity of class c, which has the last reference; F20 where there are too many
 abbrev pub with_new : Store → ℕ → ClassShape → Result Store RunFault
-with_new st c shape =
-    unless TooManyReferences (nat_lt (length st.references) MOST_REFERENCES) (Ok (with_reference st (fresh c shape)))
+with_new store c shape =
+    unless TooManyReferences (nat_lt (length store.references) MOST_REFERENCES)
+        (Ok (with_reference store (fresh c shape)))
 
 -- the reference that was given last
 abbrev pub last_reference : Store → ℕ
-last_reference st = length st.references
+last_reference store = length store.references
 
 -- the store with these entities of permanent class c
 abbrev pub with_made : Store → ℕ → List Entity → Store
-with_made st c es = record st { made = slice_set st.made c es }
+with_made store c es = record store { made = slice_set store.made c es }
 
 -- the store with n entities of permanent class c; F12 where it was made, F13 where n isn't 1 to 10,000
 abbrev pub with_class : Store → ℕ → ClassShape → ℤ → Result Store RunFault
-with_class st c shape n =
-    unless AlreadyCreated (length (made_of st c) == 0)
+with_class store c shape n =
+    unless AlreadyCreated (length (made_of store c) == 0)
     (unless CountOutOfRange (nat_lt 0 (number_of n) && nat_le (number_of n) MOST_ENTITIES)
-    (Ok (with_made st c (replicate (number_of n) (fresh c shape)))))
+    (Ok (with_made store c (replicate (number_of n) (fresh c shape)))))
 
 -- ---- ending
 
 -- whether entity number k of class c is in a list of any of these sets
 abbrev pub is_member : List SetShape → Store → ℕ → ℕ → Bool
-is_member sets st c k = list_any (λ s. (s.member == c) && is_filed s st k) sets
+is_member sets store c k = list_any (λ s. (s.member == c) && is_filed s store k) sets
 
 -- whether a list has members
 abbrev pub is_filled : List ℕ → Bool
@@ -226,11 +229,11 @@ owns_members (Some e) = list_any is_filled e.owned
 
 -- the store without reference number k
 abbrev pub without_reference : Store → ℕ → Store
-without_reference st k = record st { references = slice_set st.references (k - 1) None }
+without_reference store k = record store { references = slice_set store.references (k - 1) None }
 
 -- the store in which reference number k stands for this entity again
 abbrev pub with_back : Store → ℕ → Entity → Store
-with_back st k e = record st { references = slice_set st.references (k - 1) (Some e) }
+with_back store k entity = record store { references = slice_set store.references (k - 1) (Some entity) }
 
 -- the entity of class c that comes back: it has these attributes, and so many lists, which are empty
 abbrev pub entity_back : ℕ → ℕ → List ℤ → Entity
@@ -238,8 +241,8 @@ entity_back c owned values = record { class = c; attributes = values; owned = re
 
 -- the store without entity number k of class c; F3; F7 where it is a member, F8 where it owns members
 abbrev pub without_entity : Tables → Store → ℕ → ℕ → Result Store RunFault
-without_entity t st c k =
-    unless NoEntity (exists st c k)
-    (unless EndedInUse (not (is_member t.sets st c k))
-    (unless EndedOwner (not (owns_members (entity st c k)))
-    (Ok (without_reference st k))))
+without_entity tables store c k =
+    unless NoEntity (exists store c k)
+    (unless EndedInUse (not (is_member tables.sets store c k))
+    (unless EndedOwner (not (owns_members (entity store c k)))
+    (Ok (without_reference store k))))

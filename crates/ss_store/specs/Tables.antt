@@ -30,7 +30,7 @@ class_in cs c = unwrap_or (slice_get cs c) (record { attributes = 0; owned = 0; 
 
 -- the same of the tables
 abbrev pub class_of : Tables → ℕ → ClassShape
-class_of t c = class_in t.classes c
+class_of tables c = class_in tables.classes c
 
 -- what stands where there is no such set
 abbrev pub no_set : SetShape
@@ -38,7 +38,7 @@ no_set = record { discipline = Fifo; owner = System; list = 0; member = 0; slot 
 
 -- set number s
 abbrev pub set_of : Tables → ℕ → SetShape
-set_of t s = unwrap_or (slice_get t.sets s) no_set
+set_of tables s = unwrap_or (slice_get tables.sets s) no_set
 
 -- ---- the tables of a program
 
@@ -72,38 +72,40 @@ set_shape p s = record {
 
 -- what a store needs of a program
 abbrev pub tables_of : ProgramTable → Tables
-tables_of p = record {
-  classes = map (class_shape p) (range_with_len 0 (length p.classes));
-  sets = map (set_shape p) (range_with_len 0 (length p.sets));
-  system = owned_among System p.sets;
+tables_of program = record {
+  classes = map (class_shape program) (range_with_len 0 (length program.classes));
+  sets = map (set_shape program) (range_with_len 0 (length program.sets));
+  system = owned_among System program.sets;
 }
 
 -- ---- tables that a store can stand on
 
 -- a set of the program
 abbrev pub IsSet : List SetShape → SetShape → Type 0
-IsSet sets s = (i : ℕ) × (slice_get sets i ≡ Some s)
+IsSet sets shape = (i : ℕ) × (slice_get sets i ≡ Some shape)
 
 -- how many sets an owner has
 abbrev pub owned_by : Owner → Tables → ℕ
-owned_by System t = t.system
-owned_by (OwnedBy c) t = (class_of t c).owned
+owned_by System tables = tables.system
+owned_by (OwnedBy c) tables = (class_of tables c).owned
 
 -- each set has a number of its own among those of its owner and among those of its members
-pub record AreTables (t : Tables) : Type 0 where
+pub record AreTables (tables : Tables) : Type 0 where
   -- a set's list is one of its owner's
-  pub lists : (s : SetShape) → IsSet t.sets s → s.list < owned_by s.owner t
+  pub lists : (s : SetShape) → IsSet tables.sets s → s.list < owned_by s.owner tables
   -- a set's slot is one of its members'
-  pub slots : (s : SetShape) → IsSet t.sets s → s.slot < (class_of t s.member).joined
+  pub slots : (s : SetShape) → IsSet tables.sets s → s.slot < (class_of tables s.member).joined
   -- two sets of one owner have two lists
-  pub one_list : (a b : SetShape) → IsSet t.sets a → IsSet t.sets b → a.owner ≡ b.owner → a.list ≡ b.list → a ≡ b
+  pub one_list : (a b : SetShape) → IsSet tables.sets a → IsSet tables.sets b → a.owner ≡ b.owner → a.list ≡ b.list
+      → a ≡ b
   -- two sets of one class of members have two slots
-  pub one_slot : (a b : SetShape) → IsSet t.sets a → IsSet t.sets b → a.member ≡ b.member → a.slot ≡ b.slot → a ≡ b
+  pub one_slot : (a b : SetShape) → IsSet tables.sets a → IsSet tables.sets b → a.member ≡ b.member → a.slot ≡ b.slot
+      → a ≡ b
   -- the classes are few
-  pub few_classes : length t.classes ≤ MOST_CLASSES
+  pub few_classes : length tables.classes ≤ MOST_CLASSES
   -- a class owns few sets
-  pub few_owned : (c : ℕ) → (class_of t c).owned ≤ MOST_SETS
+  pub few_owned : (c : ℕ) → (class_of tables c).owned ≤ MOST_SETS
   -- a class may be in few sets
-  pub few_joined : (c : ℕ) → (class_of t c).joined ≤ MOST_SETS
+  pub few_joined : (c : ℕ) → (class_of tables c).joined ≤ MOST_SETS
   -- the system owns few sets
-  pub few_system : t.system ≤ MOST_SETS
+  pub few_system : tables.system ≤ MOST_SETS

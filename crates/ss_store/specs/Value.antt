@@ -26,8 +26,8 @@ pub record StoreValue : Type 0 where
 
 -- a store with nothing made
 abbrev pub empty_value : Tables → StoreValue
-empty_value t = record {
-  tables = t;
-  state = empty_store t;
-  kept = record { made = replicate (length t.classes) []; references = []; heads = t.system; seats = 0 };
+empty_value tables = record {
+  tables = tables;
+  state = empty_store tables;
+  kept = record { made = replicate (length tables.classes) []; references = []; heads = tables.system; seats = 0 };
 }

@@ -14,44 +14,44 @@ Each P [] = Unit {0}
 Each P (x ∷ xs) = P x × Each P xs
 
 -- an entity of class c
-pub record IsEntity (t : Tables) (c : ℕ) (e : Entity) : Type 0 where
+pub record IsEntity (tables : Tables) (c : ℕ) (entity : Entity) : Type 0 where
   -- it is of the class
-  pub class : e.class ≡ c
+  pub class : entity.class ≡ c
   -- it has a value for each attribute of the class
-  pub attributes : length e.attributes ≡ (class_of t c).attributes
+  pub attributes : length entity.attributes ≡ (class_of tables c).attributes
   -- each value is in range
-  pub values : AreInRange e.attributes
+  pub values : AreInRange entity.attributes
   -- it has a list for each set that the class owns
-  pub owned : length e.owned ≡ (class_of t c).owned
+  pub owned : length entity.owned ≡ (class_of tables c).owned
 
 -- what a reference stands for: nothing, or an entity of a class that is not permanent
 abbrev pub IsReference : Tables → Option Entity → Type 0
-IsReference t None = Unit {0}
-IsReference t (Some e) =
-    (e.class < length t.classes) × ((class_of t e.class).permanent ≡ false) × IsEntity t e.class e
+IsReference tables None = Unit {0}
+IsReference tables (Some e) =
+    (e.class < length tables.classes) × ((class_of tables e.class).permanent ≡ false) × IsEntity tables e.class e
 
 -- the members of a set
-pub record AreMembers (st : Store) (s : SetShape) : Type 0 where
+pub record AreMembers (store : Store) (shape : SetShape) : Type 0 where
   -- each exists
-  pub exist : (k : ℕ) → is_filed s st k ≡ true → exists st s.member k ≡ true
+  pub exist : (k : ℕ) → is_filed shape store k ≡ true → exists store shape.member k ≡ true
   -- each is in one list of the set, and there once
-  pub once : (k : ℕ) → times (lists_by s.owner s.list st) k ≤ 1
+  pub once : (k : ℕ) → times (lists_by shape.owner shape.list store) k ≤ 1
 
 -- what holds of a store of these tables
-pub record IsWellStore (t : Tables) (st : Store) : Type 0 where
+pub record IsWellStore (tables : Tables) (store : Store) : Type 0 where
   -- each class has a numbering
-  pub classes : length st.made ≡ length t.classes
+  pub classes : length store.made ≡ length tables.classes
   -- what is made of a class are entities of it
-  pub made : (c : ℕ) → Each (IsEntity t c) (made_of st c)
+  pub made : (c : ℕ) → Each (IsEntity tables c) (made_of store c)
   -- none is made of a class that is not permanent
-  pub permanent : (c : ℕ) → (class_of t c).permanent ≡ false → made_of st c ≡ []
+  pub permanent : (c : ℕ) → (class_of tables c).permanent ≡ false → made_of store c ≡ []
   -- of each no more than 10,000
-  pub few_made : (c : ℕ) → length (made_of st c) ≤ MOST_ENTITIES
+  pub few_made : (c : ℕ) → length (made_of store c) ≤ MOST_ENTITIES
   -- what the references stand for
-  pub references : Each (IsReference t) st.references
+  pub references : Each (IsReference tables) store.references
   -- no more than 1,000,000 were given
-  pub few_references : length st.references ≤ MOST_REFERENCES
+  pub few_references : length store.references ≤ MOST_REFERENCES
   -- the system has a list for each of its sets
-  pub system : length st.system ≡ t.system
+  pub system : length store.system ≡ tables.system
   -- the members of each set
-  pub members : (s : SetShape) → IsSet t.sets s → AreMembers st s
+  pub members : (s : SetShape) → IsSet tables.sets s → AreMembers store s

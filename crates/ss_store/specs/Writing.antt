@@ -4,4 +4,4 @@ use Rattle.ss_store.specs.Rows.{RowTable}
 
 -- a numbering with other values in row number i, or with none
 abbrev pub with_values : ℕ → Option (List ℤ) → RowTable → RowTable
-with_values i v t = record { rows = t.rows; values = slice_set t.values i v }
+with_values i v rows = record { rows = rows.rows; values = slice_set rows.values i v }

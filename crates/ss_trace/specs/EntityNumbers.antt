@@ -26,38 +26,41 @@ numbers_below numbers (suc n) = numbers_below numbers n ++ numbers n
 
 -- attribute a of entity number k of class c
 abbrev pub attribute_number : Store → ℕ → ℕ → ℕ → ℤ
-attribute_number st c k a = result_unwrap_or (attribute_of st c a k) (pos 0)
+attribute_number store c k a = result_unwrap_or (attribute_of store c a k) (pos 0)
 
 -- the same alone
 abbrev pub attribute_numbers : Store → ℕ → ℕ → ℕ → List ℤ
-attribute_numbers st c k a = attribute_number st c k a ∷ []
+attribute_numbers store c k a = attribute_number store c k a ∷ []
 
 -- a kept attribute of entity number k of class c in set s, 0 where the entities of the class do not have it
 abbrev pub kept_number : ProgramTable → Store → ℕ → ℕ → ℕ → Kept → ℤ
-kept_number p st c k s kept = if has_kept (set_of p s) c kept then pos (kept_value (shape_of p s) st k kept) else pos 0
+kept_number program store c k s kept =
+    if has_kept (set_of program s) c kept then pos (kept_value (shape_of program s) store k kept) else pos 0
 
 -- what was read of its neighbours in set s is P.s, S.s and M.s
 abbrev pub AreKept : ProgramTable → Store → ℕ → ℕ → ℕ → Neighbours → Type 0
-AreKept p st c k s n =
-    (kept_number p st c k s Predecessor ≡ pos (unwrap_or n.before 0))
-    × (kept_number p st c k s Successor ≡ pos (unwrap_or n.behind 0))
-    × (kept_number p st c k s Membership ≡ pos (if n.is_filed then 1 else 0))
+AreKept program store c k s neighbours =
+    (kept_number program store c k s Predecessor ≡ pos (unwrap_or neighbours.before 0))
+    × (kept_number program store c k s Successor ≡ pos (unwrap_or neighbours.behind 0))
+    × (kept_number program store c k s Membership ≡ pos (if neighbours.is_filed then 1 else 0))
 
 -- what set s tells of it, as an owner of its lists and as a member of one: F.s, L.s, N.s, P.s, S.s and M.s
 abbrev pub set_numbers : ProgramTable → Store → ℕ → ℕ → ℕ → List ℤ
-set_numbers p st c k s =
-    kept_number p st c k s First ∷ kept_number p st c k s Last ∷ kept_number p st c k s Number
-    ∷ kept_number p st c k s Predecessor ∷ kept_number p st c k s Successor ∷ kept_number p st c k s Membership ∷ []
+set_numbers program store c k s =
+    kept_number program store c k s First ∷ kept_number program store c k s Last
+        ∷ kept_number program store c k s Number
+    ∷ kept_number program store c k s Predecessor ∷ kept_number program store c k s Successor
+    ∷ kept_number program store c k s Membership ∷ []
 
 -- the numbers of its lines: its attributes, then what each set tells
 abbrev pub entity_numbers : ProgramTable → Store → ℕ → ℕ → List ℤ
-entity_numbers p st c k =
-    numbers_below (attribute_numbers st c k) (length (class_of p c).attributes)
-    ++ numbers_below (set_numbers p st c k) (length p.sets)
+entity_numbers program store c k =
+    numbers_below (attribute_numbers store c k) (length (class_of program c).attributes)
+    ++ numbers_below (set_numbers program store c k) (length program.sets)
 
 -- the same behind a 1, if it exists
 abbrev pub living_numbers : ProgramTable → Store → ℕ → ℕ → List ℤ
-living_numbers p st c k = if exists st c k then pos 1 ∷ entity_numbers p st c k else []
+living_numbers program store c k = if exists store c k then pos 1 ∷ entity_numbers program store c k else []
 
 -- whether the numbers of an entity tell all of an answer, where it is one with these parts and this sight
 abbrev pub is_counted : Part → Sight → Bool
@@ -66,14 +69,15 @@ is_counted _ _ = false
 
 -- the numbers of the entity there, if there is one
 abbrev pub numbers_there : ProgramTable → State → Sight → List ℤ
-numbers_there p s (Entity c x) = living_numbers p s.store c (number_of x)
-numbers_there p s _ = []
+numbers_there program state (Entity c x) = living_numbers program state.store c (number_of x)
+numbers_there program state _ = []
 
 -- the numbers of the entity at which a question with these parts and this sight looks
 abbrev pub numbers_of : Part → ProgramTable → State → Sight → List ℤ
-numbers_of Entities p s sight = numbers_there p s sight
-numbers_of _ p s sight = []
+numbers_of Entities program state sight = numbers_there program state sight
+numbers_of _ program state sight = []
 
 -- the numbers in state p
 abbrev pub numbers_at : Input → Question → ℕ → List ℤ
-numbers_at t x p = numbers_of (part_of x) t.program (run t p) (sight_of t.program x)
+numbers_at input question p =
+    numbers_of (part_of question) input.program (run input p) (sight_of input.program question)

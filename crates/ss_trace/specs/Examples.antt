@@ -166,8 +166,8 @@ walked_set = Shown (shown.Set [] None)
 
 -- where BACK CHANGE from p leads, where the states before another one are forgotten
 abbrev pub back_from : Input → Question → ℕ → ℕ → ℕ
-back_from t x earliest p = search_back_end (changes_at t x) earliest p 20
+back_from input question earliest p = search_back_end (changes_at input question) earliest p 20
 
 -- where RUN CHANGE from p leads
 abbrev pub run_from : Input → Question → ℕ → ℕ
-run_from t x p = ahead_end t [] (has_changed t x) p 20
+run_from input question p = ahead_end input [] (has_changed input question) p 20

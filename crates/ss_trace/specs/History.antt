@@ -20,9 +20,9 @@ positions_where test earliest zero = []
 positions_where test earliest (suc q) =
     if nat_lt q earliest then [] else before_others (test q) q (positions_where test earliest q)
 
--- the steps before state p that are kept, and at which x changes, the newest first
+-- the steps before state p that are kept, and at which question changes, the newest first
 abbrev pub history : Input → Question → ℕ → ℕ → List ℕ
-history t x earliest p = positions_where (changes_at t x) earliest p
+history input question earliest p = positions_where (changes_at input question) earliest p
 
 -- ---- the table
 
@@ -42,17 +42,18 @@ row state time section line value =
 
 -- its head
 abbrev pub head_row : Question → List ℕ
-head_row x = row (codes "STATE") (codes "CLOCK") (codes "IN") (codes "LINE") (question_text x)
+head_row question = row (codes "STATE") (codes "CLOCK") (codes "IN") (codes "LINE") (question_text question)
 
 -- the row of the step from state q
 abbrev pub step_row : Input → Question → ℕ → List ℕ
-step_row t x q =
-    row (decimal q) (signed_decimal (run t q).clock) (section_at t q) (decimal (line_at t q)) (value_at t x (q + 1))
+step_row input question q =
+    row (decimal q) (signed_decimal (run input q).clock) (section_at input q) (decimal (line_at input q))
+        (value_at input question (q + 1))
 
 -- the rows of some steps
 abbrev pub step_rows : Input → Question → List ℕ → List ℕ
-step_rows t x [] = []
-step_rows t x (q ∷ qs) = step_row t x q ++ step_rows t x qs
+step_rows input question [] = []
+step_rows input question (q ∷ qs) = step_row input question q ++ step_rows input question qs
 
 -- what is said where a question did not change
 unfoldable pub no_change_head : List ℕ
@@ -64,12 +65,13 @@ no_change_text earliest = no_change_head ++ decimal earliest ++ 10 ∷ []
 
 -- the table of some steps, or that there is none
 abbrev pub table_or_none : Input → Question → ℕ → List ℕ → List ℕ
-table_or_none t x earliest [] = no_change_text earliest
-table_or_none t x earliest (q ∷ qs) = head_row x ++ step_rows t x (q ∷ qs)
+table_or_none input question earliest [] = no_change_text earliest
+table_or_none input question earliest (q ∷ qs) = head_row question ++ step_rows input question (q ∷ qs)
 
--- the answer to HISTORY x n in state p
+-- the answer to HISTORY question n in state p
 unfoldable pub history_text : Input → Question → ℕ → ℕ → ℕ → List ℕ
-history_text t x n earliest p = table_or_none t x earliest (take n (history t x earliest p))
+history_text input question n earliest p =
+    table_or_none input question earliest (take n (history input question earliest p))
 
 -- ---- why
 
@@ -78,9 +80,9 @@ abbrev pub newest : List ℕ → Option ℕ
 newest [] = None
 newest (q ∷ qs) = Some q
 
--- the step before state p at which x changed last, if it is kept
+-- the step before state p at which question changed last, if it is kept
 abbrev pub newest_change : Input → Question → ℕ → ℕ → Option ℕ
-newest_change t x earliest p = newest (history t x earliest p)
+newest_change input question earliest p = newest (history input question earliest p)
 
 -- a line of a name and its values before and after, behind a word
 abbrev pub change_line : List ℕ → List ℕ → List ℕ → List ℕ → List ℕ
@@ -89,15 +91,16 @@ change_line word name before after =
 
 -- what WHY says of a step before the line of the model: its state line; or that x did not change
 abbrev pub why_head : Input → ℕ → Option ℕ → List ℕ
-why_head t earliest None = no_change_text earliest
-why_head t earliest (Some q) = state_line t q
+why_head input earliest None = no_change_text earliest
+why_head input earliest (Some q) = state_line input q
 
 -- the number of that line
 abbrev pub why_line : Input → Option ℕ → Option ℕ
-why_line t None = None
-why_line t (Some q) = Some (line_at t q)
+why_line input None = None
+why_line input (Some q) = Some (line_at input q)
 
--- and what it says behind the line: the values of x before and after
+-- and what it says behind the line: the values of question before and after
 abbrev pub why_change : Input → Question → Option ℕ → List ℕ
-why_change t x None = []
-why_change t x (Some q) = change_line (codes "CHANGED") (question_text x) (value_at t x q) (value_at t x (q + 1))
+why_change input question None = []
+why_change input question (Some q) =
+    change_line (codes "CHANGED") (question_text question) (value_at input question q) (value_at input question (q + 1))

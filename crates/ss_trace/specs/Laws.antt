@@ -12,7 +12,7 @@ use Rattle.ss_trace.specs.History.{positions_where}
 use Rattle.ss_trace.specs.Turn.{state_after}
 
 -- q is not before p, nor more than n steps on, nor past the last position, nor past a state that isn't ready
-pub record IsAheadWithin (t : Input) (p n q : ℕ) : Type 0 where
+pub record IsAheadWithin (input : Input) (p n q : ℕ) : Type 0 where
   -- it is not before the start
   pub no_earlier : p ≤ q
   -- it is within the bound
@@ -20,7 +20,7 @@ pub record IsAheadWithin (t : Input) (p n q : ℕ) : Type 0 where
   -- it is not past the last position
   pub not_past_the_last : q ≤ LAST_POSITION
   -- no state before it has ended
-  pub not_past_an_end : (k : ℕ) → p ≤ k → k < q → is_ready_at t k ≡ true
+  pub not_past_an_end : (k : ℕ) → p ≤ k → k < q → is_ready_at input k ≡ true
 
 -- q is not behind p, nor more than n steps back, nor before the earliest kept position
 pub record IsBackWithin (earliest p n q : ℕ) : Type 0 where
@@ -46,16 +46,16 @@ BackOverEnds =
 
 -- each state before p is ready
 abbrev pub AreReadyBefore : Input → ℕ → Type 0
-AreReadyBefore t p = (k : ℕ) → k < p → is_ready_at t k ≡ true
+AreReadyBefore input p = (k : ℕ) → k < p → is_ready_at input k ≡ true
 
 -- a debugger stands at a kept position that is not past the last one, behind states that are ready
-pub record StandsBehindReady (t : Input) (d : DebuggerState) : Type 0 where
+pub record StandsBehindReady (input : Input) (debugger : DebuggerState) : Type 0 where
   -- the earliest kept position is not later
-  pub kept : d.earliest ≤ d.position
+  pub kept : debugger.earliest ≤ debugger.position
   -- nor is the last one earlier
-  pub not_past_the_last : d.position ≤ LAST_POSITION
+  pub not_past_the_last : debugger.position ≤ LAST_POSITION
   -- each state before is ready
-  pub ready : AreReadyBefore t d.position
+  pub ready : AreReadyBefore input debugger.position
 
 -- so it stands at the start
 abbrev pub StartIsBehindReady : Type 0

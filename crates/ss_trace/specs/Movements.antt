@@ -15,38 +15,38 @@ use Rattle.ss_trace.specs.Question.{changes_at}
 
 -- how many frames state p has
 abbrev pub frames_at : Input → ℕ → ℕ
-frames_at t p = 1 + length (run t p).below
+frames_at input p = 1 + length (run input p).below
 
 -- OVER, BACK OVER: no more frames than so many
 abbrev pub is_level : Input → ℕ → ℕ → Bool
-is_level t frames q = nat_le (frames_at t q) frames
+is_level input frames q = nat_le (frames_at input q) frames
 
 -- OUT, BACK OUT: fewer frames than so many
 abbrev pub is_outside : Input → ℕ → ℕ → Bool
-is_outside t frames q = nat_lt (frames_at t q) frames
+is_outside input frames q = nat_lt (frames_at input q) frames
 
 -- BACK TO: the clock is before a time
 abbrev pub is_before : Input → ℕ → ℕ → Bool
-is_before t time q = int_lt (run t q).clock (pos time)
+is_before input time q = int_lt (run input q).clock (pos time)
 
--- RUN CHANGE: the step that led to state q changed x
+-- RUN CHANGE: the step that led to state q changed question
 abbrev pub has_changed : Input → Question → ℕ → Bool
-has_changed t x q = nat_lt 0 q && changes_at t x (q - 1)
+has_changed input question q = nat_lt 0 q && changes_at input question (q - 1)
 
 -- ---- forward
 
 -- a movement forward stops where its test holds, and at a break line
 abbrev pub ahead_condition : Input → List ℕ → (ℕ → Bool) → StopCondition
-ahead_condition t breaks test = record {
+ahead_condition input breaks test = record {
   time = None;
-  test = λ q. test q || is_on_break t breaks q;
+  test = λ q. test q || is_on_break input breaks q;
   word = codes "DONE";
   bound_word = codes "BOUND";
 }
 
 -- where it ends, from p within n steps
 abbrev pub ahead_end : Input → List ℕ → (ℕ → Bool) → ℕ → ℕ → ℕ
-ahead_end t breaks test p n = forward_end t (ahead_condition t breaks test) p n
+ahead_end input breaks test p n = forward_end input (ahead_condition input breaks test) p n
 
 -- whether a movement forward from p to q ended where its test holds
 abbrev pub is_met : (ℕ → Bool) → ℕ → ℕ → Bool
@@ -71,20 +71,20 @@ counted_end q k = record { position = q; left = k }
 
 -- OVER, k times within n steps: it ends early where one is not made, and at a break line
 unfoldable pub over : Input → List ℕ → ℕ → ℕ → ℕ → CountedEnd
-over t breaks zero p n = counted_end p 0
-over t breaks (suc k) p n =
-    let level : ℕ → Bool = is_level t (frames_at t p) in
-    let q : ℕ = ahead_end t breaks level p n in
+over input breaks zero p n = counted_end p 0
+over input breaks (suc k) p n =
+    let level : ℕ → Bool = is_level input (frames_at input p) in
+    let q : ℕ = ahead_end input breaks level p n in
     if not (is_met level p q) then counted_end q (suc k) else
-    if is_on_break t breaks q then counted_end q k else over t breaks k q (n - (q - p))
+    if is_on_break input breaks q then counted_end q k else over input breaks k q (n - (q - p))
 
 -- BACK OVER, k times within n steps: it ends early where one is not made
 unfoldable pub back_over : Input → ℕ → ℕ → ℕ → ℕ → CountedEnd
-back_over t earliest zero p n = counted_end p 0
-back_over t earliest (suc k) p n =
-    let level : ℕ → Bool = is_level t (frames_at t p) in
+back_over input earliest zero p n = counted_end p 0
+back_over input earliest (suc k) p n =
+    let level : ℕ → Bool = is_level input (frames_at input p) in
     let q : ℕ = search_back_end level earliest p n in
-    if not (is_met_back level p q) then counted_end q (suc k) else back_over t earliest k q (n - (p - q))
+    if not (is_met_back level p q) then counted_end q (suc k) else back_over input earliest k q (n - (p - q))
 
 -- ---- all of them
 
@@ -104,12 +104,12 @@ go_shape p q = if nat_lt q p then back (p - q) else forward step_condition (q - 
 
 -- what each movement does
 unfoldable pub shape_of : Input → ℕ → Movement → Shape
-shape_of t p (Over k) = over_by k
-shape_of t p Out = ahead (is_outside t (frames_at t p)) (codes "DONE")
-shape_of t p (BackOver k) = back_over_by k
-shape_of t p BackOut = debugger_shape (search_back (is_outside t (frames_at t p)) (codes "DONE"))
-shape_of t p (BackTo time) = debugger_shape (search_back (is_before t time) (codes "TIME"))
-shape_of t p (Go q) = debugger_shape (go_shape p q)
-shape_of t p GoEnd = debugger_shape (forward step_condition (LAST_POSITION + 1))
-shape_of t p (RunChange x) = ahead (has_changed t x) (codes "CHANGE")
-shape_of t p (BackChange x) = seek_back (changes_at t x) (codes "CHANGE")
+shape_of input p (Over k) = over_by k
+shape_of input p Out = ahead (is_outside input (frames_at input p)) (codes "DONE")
+shape_of input p (BackOver k) = back_over_by k
+shape_of input p BackOut = debugger_shape (search_back (is_outside input (frames_at input p)) (codes "DONE"))
+shape_of input p (BackTo time) = debugger_shape (search_back (is_before input time) (codes "TIME"))
+shape_of input p (Go q) = debugger_shape (go_shape p q)
+shape_of input p GoEnd = debugger_shape (forward step_condition (LAST_POSITION + 1))
+shape_of input p (RunChange x) = ahead (has_changed input x) (codes "CHANGE")
+shape_of input p (BackChange x) = seek_back (changes_at input x) (codes "CHANGE")

@@ -45,33 +45,33 @@ has_kept set c kepts.Membership = set.member == c
 
 -- its value for entity number k
 abbrev pub kept_value : SetShape → Store → ℕ → Kept → ℕ
-kept_value shape st k kepts.First = member_read (walk_first shape st k)
-kept_value shape st k kepts.Last = member_read (walk_last shape st k)
-kept_value shape st k kepts.Number = result_unwrap_or (filing.count shape st k) 0
-kept_value shape st k kepts.Predecessor = member_read (predecessor shape st k)
-kept_value shape st k kepts.Successor = member_read (successor shape st k)
-kept_value shape st k kepts.Membership = if result_unwrap_or (membership shape st k) false then 1 else 0
+kept_value shape store k kepts.First = member_read (walk_first shape store k)
+kept_value shape store k kepts.Last = member_read (walk_last shape store k)
+kept_value shape store k kepts.Number = result_unwrap_or (filing.count shape store k) 0
+kept_value shape store k kepts.Predecessor = member_read (predecessor shape store k)
+kept_value shape store k kepts.Successor = member_read (successor shape store k)
+kept_value shape store k kepts.Membership = if result_unwrap_or (membership shape store k) false then 1 else 0
 
 -- the same in the set of this number, if the entities of class c have it there
 abbrev pub kept_in_set : ProgramTable → Store → ℕ → ℕ → Kept → Option ℕ → Option ℤ
-kept_in_set p st c k kept None = None
-kept_in_set p st c k kept (Some s) =
-    if has_kept (set_of p s) c kept then Some (pos (kept_value (shape_of p s) st k kept)) else None
+kept_in_set program store c k kept None = None
+kept_in_set program store c k kept (Some s) =
+    if has_kept (set_of program s) c kept then Some (pos (kept_value (shape_of program s) store k kept)) else None
 
 -- the same in the set of this name
 abbrev pub kept_named : ProgramTable → Store → ℕ → ℕ → List ℕ → Option Kept → Option ℤ
-kept_named p st c k set None = None
-kept_named p st c k set (Some kept) = kept_in_set p st c k kept (set_named p set)
+kept_named program store c k set None = None
+kept_named program store c k set (Some kept) = kept_in_set program store c k kept (set_named program set)
 
 -- the attribute of this number, or else the kept one of this name
 abbrev pub attribute_or_kept : ProgramTable → Store → ℕ → ℕ → List ℕ → Option ℕ → Option ℤ
-attribute_or_kept p st c k name (Some a) = Some (result_unwrap_or (attribute_of st c a k) (pos 0))
-attribute_or_kept p st c k name None = kept_named p st c k (drop 2 name) (kept_of (take 2 name))
+attribute_or_kept program store c k name (Some a) = Some (result_unwrap_or (attribute_of store c a k) (pos 0))
+attribute_or_kept program store c k name None = kept_named program store c k (drop 2 name) (kept_of (take 2 name))
 
 -- the value of the attribute of this name of entity number k of class c, if there is one
 abbrev pub attribute_named : ProgramTable → Store → ℕ → ℕ → List ℕ → Option ℤ
-attribute_named p st c k name =
-    attribute_or_kept p st c k name (position (bytes_eq name) (class_of p c).attributes)
+attribute_named program store c k name =
+    attribute_or_kept program store c k name (position (bytes_eq name) (class_of program c).attributes)
 
 -- an attribute and its value, or that there is none of this name
 abbrev pub attribute_line : List ℕ → Option ℤ → List ℕ
@@ -80,56 +80,57 @@ attribute_line name None = codes "NO ATTRIBUTE " ++ name ++ 10 ∷ []
 
 -- the attribute of the entity of this class that x names, or that there is none
 abbrev pub class_attribute_text : List ℕ → ℤ → List ℕ → ProgramTable → Store → Option ℕ → List ℕ
-class_attribute_text class x name p st None = codes "NO CLASS " ++ class ++ 10 ∷ []
-class_attribute_text class x name p st (Some c) =
-    if exists st c (number_of x) then attribute_line name (attribute_named p st c (number_of x) name)
+class_attribute_text class x name program store None = codes "NO CLASS " ++ class ++ 10 ∷ []
+class_attribute_text class x name program store (Some c) =
+    if exists store c (number_of x) then attribute_line name (attribute_named program store c (number_of x) name)
     else no_entity_text class x
 
 -- the answer to SHOW c k a in state p
 unfoldable pub attribute_text : List ℕ → ℤ → List ℕ → Input → ℕ → List ℕ
-attribute_text class x name t p =
-    class_attribute_text class x name t.program (run t p).store (class_named t.program class)
+attribute_text class x name input p =
+    class_attribute_text class x name input.program (run input p).store (class_named input.program class)
 
 -- ---- how many members
 
 -- how many members the list of set number s has for the owner that x names
 abbrev pub counted_text : ProgramTable → Store → ℕ → ℤ → List ℕ
-counted_text p st s x = codes ": " ++ decimal (length (members_of (shape_of p s) st (number_of x))) ++ 10 ∷ []
+counted_text program store s x =
+    codes ": " ++ decimal (length (members_of (shape_of program s) store (number_of x))) ++ 10 ∷ []
 
 -- the same for the entity of class c that x names, or that there is none
 abbrev pub owned_count_text : List ℕ → ProgramTable → Store → ℕ → ℕ → ℤ → List ℕ
-owned_count_text name p st s c x =
-    if exists st c (number_of x)
-    then codes "COUNT " ++ name ++ codes " " ++ signed_decimal x ++ counted_text p st s x
-    else no_entity_text (class_of p c).name x
+owned_count_text name program store s c x =
+    if exists store c (number_of x)
+    then codes "COUNT " ++ name ++ codes " " ++ signed_decimal x ++ counted_text program store s x
+    else no_entity_text (class_of program c).name x
 
 -- the same of set number s, whose lists are the system's or a class's
 abbrev pub list_count_text : List ℕ → Option ℤ → ProgramTable → State → ℕ → Owner → List ℕ
-list_count_text name None p state s System = codes "COUNT " ++ name ++ counted_text p state.store s (pos 0)
-list_count_text name (Some x) p state s System = no_entity_text (codes "SYSTEM") x
-list_count_text name owner p state s (OwnedBy c) =
-    owned_count_text name p state.store s c (owner_or_variable owner p state c)
+list_count_text name None program state s System = codes "COUNT " ++ name ++ counted_text program state.store s (pos 0)
+list_count_text name (Some x) program state s System = no_entity_text (codes "SYSTEM") x
+list_count_text name owner program state s (OwnedBy c) =
+    owned_count_text name program state.store s c (owner_or_variable owner program state c)
 
 -- the same of the set of this number, or that there is no set of this name
 abbrev pub named_count_text : List ℕ → Option ℤ → ProgramTable → State → Option ℕ → List ℕ
-named_count_text name owner p state None = codes "NO SET " ++ name ++ 10 ∷ []
-named_count_text name owner p state (Some s) = list_count_text name owner p state s (set_of p s).owner
+named_count_text name owner program state None = codes "NO SET " ++ name ++ 10 ∷ []
+named_count_text name owner program state (Some s) = list_count_text name owner program state s (set_of program s).owner
 
 -- the answer to SHOW COUNT in state p
 unfoldable pub count_text : List ℕ → Option ℤ → Input → ℕ → List ℕ
-count_text name owner t p = named_count_text name owner t.program (run t p) (set_named t.program name)
+count_text name owner input p = named_count_text name owner input.program (run input p) (set_named input.program name)
 
 -- ---- all questions
 
 -- the answer to a question in state p
 abbrev pub answer_at : Input → Question → ℕ → List ℕ
-answer_at t (Shown q) p = show_answer t p q
-answer_at t (Attribute class x name) p = attribute_text class x name t p
-answer_at t (Count name owner) p = count_text name owner t p
+answer_at input (Shown q) p = show_answer input p q
+answer_at input (Attribute class x name) p = attribute_text class x name input p
+answer_at input (Count name owner) p = count_text name owner input p
 
 -- whether a question changes at step p: its answers in state p and in the next one differ
 abbrev pub changes_at : Input → Question → ℕ → Bool
-changes_at t x p = not (bytes_eq (answer_at t x p) (answer_at t x (p + 1)))
+changes_at input question p = not (bytes_eq (answer_at input question p) (answer_at input question (p + 1)))
 
 -- ---- as it is asked
 

@@ -9,21 +9,21 @@ use Rattle.ss_trace.specs.Sight.{sight_of, IsInTables, glance_at}
 use Rattle.ss_trace.specs.Touches.{part_of}
 
 -- it looks where the question does
-pub record Looks (t : Input) (x : Question) (r : Reading) : Type 0 where
+pub record Looks (input : Input) (question : Question) (r : Reading) : Type 0 where
   -- in the tables
-  pub sight : r.sight ≡ sight_of t.program x
+  pub sight : r.sight ≡ sight_of input.program question
   -- which have such rows
-  pub within : IsInTables t.program r.sight
+  pub within : IsInTables input.program r.sight
   -- beside what is seen at a glance
-  pub part : r.part ≡ part_of x
+  pub part : r.part ≡ part_of question
 
 -- the same, and it was read in state p
-pub record IsReadAt (t : Input) (x : Question) (p : ℕ) (r : Reading) : Type 0 where
+pub record IsReadAt (input : Input) (question : Question) (p : ℕ) (r : Reading) : Type 0 where
   -- where it looks
-  pub looks : Looks t x r
+  pub looks : Looks input question r
   -- what was seen
-  pub glance : r.glance ≡ glance_at t x p
+  pub glance : r.glance ≡ glance_at input question p
   -- the numbers of the entity
-  pub numbers : r.numbers.items ≡ numbers_at t x p
+  pub numbers : r.numbers.items ≡ numbers_at input question p
   -- the answer
-  pub answer : r.answer.items ≡ answer_at t x p
+  pub answer : r.answer.items ≡ answer_at input question p

@@ -36,37 +36,39 @@ global_or_local None = Local
 
 -- the same by its name
 abbrev pub sight_of_variable : ProgramTable → List ℕ → Sight
-sight_of_variable p name =
-    if bytes_eq name (codes "TIME.V") then Clock else global_or_local (position (bytes_eq name) p.globals)
+sight_of_variable program name =
+    if bytes_eq name (codes "TIME.V") then Clock else global_or_local (position (bytes_eq name) program.globals)
 
 -- c k a: a kept attribute in a set, where the entities of class c have it, and else whether the entity exists
 abbrev pub sight_of_kept : ProgramTable → ℕ → ℤ → Option KeptKind → Option ℕ → Sight
-sight_of_kept p c x (Some kept) (Some s) = if has_kept (set_of p s) c kept then Kept c s kept x else Living c x
-sight_of_kept p c x (Some kept) None = Living c x
-sight_of_kept p c x None s = Living c x
+sight_of_kept program c x (Some kept) (Some s) =
+    if has_kept (set_of program s) c kept then Kept c s kept x else Living c x
+sight_of_kept program c x (Some kept) None = Living c x
+sight_of_kept program c x None s = Living c x
 
 -- an attribute by its number, or else a kept one
 abbrev pub sight_of_attribute : ProgramTable → ℕ → ℤ → List ℕ → Option ℕ → Sight
-sight_of_attribute p c x name (Some a) = Attribute c a x
-sight_of_attribute p c x name None = sight_of_kept p c x (kept_of (take 2 name)) (set_named p (drop 2 name))
+sight_of_attribute program c x name (Some a) = Attribute c a x
+sight_of_attribute program c x name None =
+    sight_of_kept program c x (kept_of (take 2 name)) (set_named program (drop 2 name))
 
 -- the same of a class, if there is one of this name
 abbrev pub sight_of_class : ProgramTable → ℤ → List ℕ → Option ℕ → Sight
-sight_of_class p x name None = Nothing
-sight_of_class p x name (Some c) =
-    sight_of_attribute p c x name (position (bytes_eq name) (class_of p c).attributes)
+sight_of_class program x name None = Nothing
+sight_of_class program x name (Some c) =
+    sight_of_attribute program c x name (position (bytes_eq name) (class_of program c).attributes)
 
 -- SET s [k], COUNT s [k]: the list of a set of the system, or of an owner that is named, or that a variable names
 abbrev pub sight_of_list : ProgramTable → ℕ → Option ℤ → Owner → Sight
-sight_of_list p s None System = Members s (pos 0)
-sight_of_list p s (Some x) System = Nothing
-sight_of_list p s None (OwnedBy c) = MembersNamed s (class_of p c).variable
-sight_of_list p s (Some x) (OwnedBy c) = Members s x
+sight_of_list program s None System = Members s (pos 0)
+sight_of_list program s (Some x) System = Nothing
+sight_of_list program s None (OwnedBy c) = MembersNamed s (class_of program c).variable
+sight_of_list program s (Some x) (OwnedBy c) = Members s x
 
 -- the same of a set, if there is one of this name
 abbrev pub sight_of_set : ProgramTable → Option ℤ → Option ℕ → Sight
-sight_of_set p owner None = Nothing
-sight_of_set p owner (Some s) = sight_of_list p s owner (set_of p s).owner
+sight_of_set program owner None = Nothing
+sight_of_set program owner (Some s) = sight_of_list program s owner (set_of program s).owner
 
 -- c k: the entity of a class, if there is one of this name
 abbrev pub sight_of_entity : ℤ → Option ℕ → Sight
@@ -75,26 +77,26 @@ sight_of_entity x (Some c) = Entity c x
 
 -- where a question looks
 abbrev pub sight_of : ProgramTable → Question → Sight
-sight_of p (Shown shown.Clock) = Clock
-sight_of p (Shown shown.Where) = Nothing
-sight_of p (Shown (shown.Variable name)) = sight_of_variable p name
-sight_of p (Shown (shown.Entity name x)) = sight_of_entity x (class_named p name)
-sight_of p (Shown (shown.Set name owner)) = sight_of_set p owner (set_named p name)
-sight_of p (Shown shown.Events) = Nothing
-sight_of p (Shown shown.Taken) = Taken
-sight_of p (Shown shown.Entry) = EntryHere
-sight_of p (Shown shown.Report) = Report
-sight_of p (AttributeOf class x name) = sight_of_class p x name (class_named p class)
-sight_of p (CountOf name owner) = sight_of_set p owner (set_named p name)
+sight_of program (Shown shown.Clock) = Clock
+sight_of program (Shown shown.Where) = Nothing
+sight_of program (Shown (shown.Variable name)) = sight_of_variable program name
+sight_of program (Shown (shown.Entity name x)) = sight_of_entity x (class_named program name)
+sight_of program (Shown (shown.Set name owner)) = sight_of_set program owner (set_named program name)
+sight_of program (Shown shown.Events) = Nothing
+sight_of program (Shown shown.Taken) = Taken
+sight_of program (Shown shown.Entry) = EntryHere
+sight_of program (Shown shown.Report) = Report
+sight_of program (AttributeOf class x name) = sight_of_class program x name (class_named program class)
+sight_of program (CountOf name owner) = sight_of_set program owner (set_named program name)
 
 -- the rows at which it looks are in the tables
 abbrev pub IsInTables : ProgramTable → Sight → Type 0
-IsInTables p (Global i) = i < length p.globals
-IsInTables p (Entity c x) = c < length p.classes
-IsInTables p (Kept c s kept x) = s < length p.sets
-IsInTables p (Members s x) = s < length p.sets
-IsInTables p (MembersNamed s i) = (s < length p.sets) × (i < length p.globals)
-IsInTables p _ = Unit {0}
+IsInTables program (Global i) = i < length program.globals
+IsInTables program (Entity c x) = c < length program.classes
+IsInTables program (Kept c s kept x) = s < length program.sets
+IsInTables program (Members s x) = s < length program.sets
+IsInTables program (MembersNamed s i) = (s < length program.sets) × (i < length program.globals)
+IsInTables program _ = Unit {0}
 
 -- ---- what is seen
 
@@ -105,45 +107,46 @@ variable_asked _ = []
 
 -- the value of the local of this name, if the section of the last frame has one
 abbrev pub local_value : ProgramTable → State → List ℕ → Option ℤ
-local_value p s name =
-    option_map (λ i. slice_index_or s.frame.locals i (pos 0))
-    (position (bytes_eq name) (locals_of (slice_get p.sections s.frame.section)))
+local_value program state name =
+    option_map (λ i. slice_index_or state.frame.locals i (pos 0))
+    (position (bytes_eq name) (locals_of (slice_get program.sections state.frame.section)))
 
 -- a value of entity number k of class c, if that exists
 abbrev pub value_if_exists : Store → ℕ → ℕ → ℤ → Option ℤ
-value_if_exists st c k value = if exists st c k then Some value else None
+value_if_exists store c k value = if exists store c k then Some value else None
 
 -- how many members the list of a set has for owner number k, if that exists
 abbrev pub members_counted : SetShape → Store → ℕ → Option ℕ
-members_counted shape st k = option_map length (list_by shape.owner shape.list st k)
+members_counted shape store k = option_map length (list_by shape.owner shape.list store k)
 
 -- the same of the owner that x names, and that
 abbrev pub members_seen : ProgramTable → Store → ℕ → ℤ → Glance
-members_seen p st s x = glances.Members x (members_counted (shape_of p s) st (number_of x))
+members_seen program store s x = glances.Members x (members_counted (shape_of program s) store (number_of x))
 
 -- what is seen of a state there; of an entity, whose numbers are many, nothing
 abbrev pub glance_of : ProgramTable → State → Question → Sight → Glance
-glance_of p s x Nothing = glances.Number None
-glance_of p s x Clock = glances.Number (Some s.clock)
-glance_of p s x (Global i) = glances.Number (Some (slice_index_or s.variables i (pos 0)))
-glance_of p s x Local = glances.Number (local_value p s (variable_asked x))
-glance_of p s x Taken = glances.Amount s.feed.taken
-glance_of p s x EntryHere = glances.Entry s.entry
-glance_of p s x Report = glances.Amount (length s.report)
-glance_of p s x (Entity c k) = glances.Number None
-glance_of p s x (Living c k) = glances.Number (value_if_exists s.store c (number_of k) (pos 0))
-glance_of p s x (Attribute c a k) =
-    glances.Number (value_if_exists s.store c (number_of k)
-    (result_unwrap_or (attribute_of s.store c a (number_of k)) (pos 0)))
-glance_of p s x (Kept c n kept k) =
-    glances.Number (value_if_exists s.store c (number_of k)
-    (pos (kept_value (shape_of p n) s.store (number_of k) kept)))
-glance_of p s x (Members n k) = members_seen p s.store n k
-glance_of p s x (MembersNamed n i) = members_seen p s.store n (slice_index_or s.variables i (pos 0))
+glance_of program state question Nothing = glances.Number None
+glance_of program state question Clock = glances.Number (Some state.clock)
+glance_of program state question (Global i) = glances.Number (Some (slice_index_or state.variables i (pos 0)))
+glance_of program state question Local = glances.Number (local_value program state (variable_asked question))
+glance_of program state question Taken = glances.Amount state.feed.taken
+glance_of program state question EntryHere = glances.Entry state.entry
+glance_of program state question Report = glances.Amount (length state.report)
+glance_of program state question (Entity c k) = glances.Number None
+glance_of program state question (Living c k) = glances.Number (value_if_exists state.store c (number_of k) (pos 0))
+glance_of program state question (Attribute c a k) =
+    glances.Number (value_if_exists state.store c (number_of k)
+    (result_unwrap_or (attribute_of state.store c a (number_of k)) (pos 0)))
+glance_of program state question (Kept c n kept k) =
+    glances.Number (value_if_exists state.store c (number_of k)
+    (pos (kept_value (shape_of program n) state.store (number_of k) kept)))
+glance_of program state question (Members n k) = members_seen program state.store n k
+glance_of program state question (MembersNamed n i) =
+    members_seen program state.store n (slice_index_or state.variables i (pos 0))
 
 -- what is seen of state p
 abbrev pub glance_at : Input → Question → ℕ → Glance
-glance_at t x p = glance_of t.program (run t p) x (sight_of t.program x)
+glance_at input question p = glance_of input.program (run input p) question (sight_of input.program question)
 
 -- ---- two of them
 

@@ -27,18 +27,18 @@ tells numbers i x = int_eq (slice_index_or numbers i (pos 0)) x
 
 -- attribute a of entity number k of class c
 abbrev pub tells_attribute : Store → ℕ → ℕ → List ℤ → ℕ → Bool
-tells_attribute st c k numbers a = tells numbers a (attribute_number st c k a)
+tells_attribute store c k numbers a = tells numbers a (attribute_number store c k a)
 
 -- attributes 0 to n - 1
 abbrev pub tells_attributes : Store → ℕ → ℕ → List ℤ → ℕ → Bool
-tells_attributes st c k numbers zero = true
-tells_attributes st c k numbers (suc n) = tells_attributes st c k numbers n && tells_attribute st c k numbers n
+tells_attributes store c k numbers zero = true
+tells_attributes store c k numbers (suc n) = tells_attributes store c k numbers n && tells_attribute store c k numbers n
 
 -- ---- sets, behind the attributes
 
 -- where what set s tells begins
 abbrev pub set_place : ProgramTable → ℕ → ℕ → ℕ
-set_place p c s = length (class_of p c).attributes + NUMBERS_OF_A_SET * s
+set_place program c s = length (class_of program c).attributes + NUMBERS_OF_A_SET * s
 
 -- where a kept attribute stands among what a set tells
 abbrev pub kept_place : Kept → ℕ
@@ -55,9 +55,11 @@ told_none numbers i kept = tells numbers (i + kept_place kept) (pos 0)
 
 -- or the kept attribute of set s
 abbrev pub tells_kept : ProgramTable → Store → ℕ → ℕ → List ℤ → ℕ → ℕ → Kept → Bool
-tells_kept p st c k numbers s i kept = tells numbers (i + kept_place kept) (kept_number p st c k s kept)
+tells_kept program store c k numbers s i kept =
+    tells numbers (i + kept_place kept) (kept_number program store c k s kept)
 
--- what it tells of a member, with P.s, S.s and M.s: one that was in no list is in none; one that was in one has the same
+-- what it tells of a member, with P.s, S.s and M.s: one that was in no list is in none; one that was in one has the
+-- same
 -- neighbours, and where it has none is in one
 abbrev pub tells_beside : List ℤ → ℕ → ℤ → ℤ → ℤ → Bool
 tells_beside numbers i before behind member =
@@ -70,51 +72,55 @@ tells_beside numbers i before behind member =
 
 -- the same of set s
 abbrev pub tells_member : ProgramTable → Store → ℕ → ℕ → List ℤ → ℕ → ℕ → Bool
-tells_member p st c k numbers s i =
-    tells_beside numbers i (kept_number p st c k s Predecessor) (kept_number p st c k s Successor)
-    (kept_number p st c k s Membership)
+tells_member program store c k numbers s i =
+    tells_beside numbers i (kept_number program store c k s Predecessor) (kept_number program store c k s Successor)
+    (kept_number program store c k s Membership)
 
 -- what set s tells: a step makes its list longer or shorter, or leaves it, so of an owner N.s is enough
 abbrev pub tells_set : ProgramTable → Store → ℕ → ℕ → List ℤ → ℕ → ℕ → Bool
-tells_set p st c k numbers s i = tells_kept p st c k numbers s i Number && tells_member p st c k numbers s i
+tells_set program store c k numbers s i =
+    tells_kept program store c k numbers s i Number && tells_member program store c k numbers s i
 
 -- sets 0 to n - 1
 abbrev pub tells_sets : ProgramTable → Store → ℕ → ℕ → List ℤ → ℕ → Bool
-tells_sets p st c k numbers zero = true
-tells_sets p st c k numbers (suc n) =
-    tells_sets p st c k numbers n && tells_set p st c k numbers n (set_place p c n)
+tells_sets program store c k numbers zero = true
+tells_sets program store c k numbers (suc n) =
+    tells_sets program store c k numbers n && tells_set program store c k numbers n (set_place program c n)
 
 -- ---- an entity
 
 -- all of it, where it is still there
 abbrev pub tells_all : ProgramTable → Store → ℕ → ℕ → List ℤ → Bool
-tells_all p st c k numbers =
-    exists st c k && (tells_attributes st c k numbers (length (class_of p c).attributes)
-    && tells_sets p st c k numbers (length p.sets))
+tells_all program store c k numbers =
+    exists store c k && (tells_attributes store c k numbers (length (class_of program c).attributes)
+    && tells_sets program store c k numbers (length program.sets))
 
 -- what a step may have changed of one that was there
 abbrev pub tells_touched : ProgramTable → Store → ℕ → ℕ → List ℤ → Touch → Bool
-tells_touched p st c k numbers Nothing = true
-tells_touched p st c k numbers (Attribute d a) =
-    not (d == c) || (nat_lt a (length (class_of p c).attributes) && tells_attribute st c k numbers a)
-tells_touched p st c k numbers Attributes = tells_attributes st c k numbers (length (class_of p c).attributes)
-tells_touched p st c k numbers (Set s) = nat_lt s (length p.sets) && tells_set p st c k numbers s (set_place p c s)
-tells_touched p st c k numbers Entities = tells_all p st c k numbers
-tells_touched p st c k numbers Anything = false
+tells_touched program store c k numbers Nothing = true
+tells_touched program store c k numbers (Attribute d a) =
+    not (d == c) || (nat_lt a (length (class_of program c).attributes) && tells_attribute store c k numbers a)
+tells_touched program store c k numbers Attributes =
+    tells_attributes store c k numbers (length (class_of program c).attributes)
+tells_touched program store c k numbers (Set s) =
+    nat_lt s (length program.sets) && tells_set program store c k numbers s (set_place program c s)
+tells_touched program store c k numbers Entities = tells_all program store c k numbers
+tells_touched program store c k numbers Anything = false
 
 -- of any, which has no numbers where it was not there
 abbrev pub tells_entity : ProgramTable → Store → ℕ → ℕ → List ℤ → Touch → Bool
-tells_entity p st c k [] Anything = false
-tells_entity p st c k [] Entities = not (exists st c k)
-tells_entity p st c k [] touched = true
-tells_entity p st c k (x ∷ xs) touched = tells_touched p st c k xs touched
+tells_entity program store c k [] Anything = false
+tells_entity program store c k [] Entities = not (exists store c k)
+tells_entity program store c k [] touched = true
+tells_entity program store c k (x ∷ xs) touched = tells_touched program store c k xs touched
 
 -- of the entity at which a question with these parts and this sight looks
 abbrev pub is_told : Part → Sight → ProgramTable → Store → List ℤ → Touch → Bool
-is_told parts.Entities (Entity c x) p st numbers touched = tells_entity p st c (number_of x) numbers touched
-is_told _ _ p st numbers touched = false
+is_told parts.Entities (Entity c x) program store numbers touched =
+    tells_entity program store c (number_of x) numbers touched
+is_told _ _ program store numbers touched = false
 
 -- the same in state p
 abbrev pub is_told_at : Input → Question → List ℤ → Touch → ℕ → Bool
-is_told_at t x numbers touched p =
-    is_told (part_of x) (sight_of t.program x) t.program (run t p).store numbers touched
+is_told_at input question numbers touched p =
+    is_told (part_of question) (sight_of input.program question) input.program (run input p).store numbers touched

@@ -35,7 +35,7 @@ touched_target (targets.Attribute c a i) = Attribute c a
 
 -- the same of an assignment
 abbrev pub touched_assign : Assign → Touch
-touched_assign a = touched_target (target_of a)
+touched_assign statement = touched_target (target_of statement)
 
 -- where the member that is removed from a list of set s goes to a target
 abbrev pub touched_removal : Target → ℕ → Touch
@@ -66,7 +66,7 @@ makes_a_class _ = false
 
 -- what makes or ends entities
 abbrev pub touched_making : Making → Touch
-touched_making m = if makes_a_class m then Anything else Entities
+touched_making making = if makes_a_class making then Anything else Entities
 
 -- each place
 abbrev pub touched_entities : Place → Touch
@@ -86,22 +86,22 @@ touched_entities (places.Read targets) = Attributes
 -- lists, otherwise than by a member more or less
 abbrev pub touched_lists : Place → Touch
 touched_lists (places.Making m) = if makes_a_class m then Anything else Nothing
-touched_lists x = Nothing
+touched_lists place = Nothing
 
 -- the pending notices
 abbrev pub touched_notices : Place → Touch
 touched_notices (places.Timing x) = Anything
-touched_notices x = Nothing
+touched_notices place = Nothing
 
 -- ---- a step
 
 -- how much the step of a place may change of a part
 abbrev pub touched_part : Part → Place → Touch
-touched_part parts.Anything x = Anything
-touched_part parts.Nothing x = Nothing
-touched_part parts.Entities x = touched_entities x
-touched_part parts.Lists x = touched_lists x
-touched_part parts.Notices x = touched_notices x
+touched_part parts.Anything place = Anything
+touched_part parts.Nothing place = Nothing
+touched_part parts.Entities place = touched_entities place
+touched_part parts.Lists place = touched_lists place
+touched_part parts.Notices place = touched_notices place
 
 -- the same of the place that stands there, if one does
 abbrev pub touched_by : Part → Option Spot → Touch
@@ -110,15 +110,15 @@ touched_by part (Some spot) = touched_part part spot.place
 
 -- the same of the place where the last frame stands
 abbrev pub touched_in : ProgramTable → Part → State → Touch
-touched_in p part s = touched_by part (spot_at p s.frame.section s.frame.place)
+touched_in program part state = touched_by part (spot_at program state.frame.section state.frame.place)
 
 -- how much the step from state p may change of a part
 abbrev pub touched_at : Input → Part → ℕ → Touch
-touched_at t parts.Anything p = Anything
-touched_at t parts.Nothing p = Nothing
-touched_at t parts.Entities p = touched_in t.program parts.Entities (run t p)
-touched_at t parts.Lists p = touched_in t.program parts.Lists (run t p)
-touched_at t parts.Notices p = touched_in t.program parts.Notices (run t p)
+touched_at input parts.Anything p = Anything
+touched_at input parts.Nothing p = Nothing
+touched_at input parts.Entities p = touched_in input.program parts.Entities (run input p)
+touched_at input parts.Lists p = touched_in input.program parts.Lists (run input p)
+touched_at input parts.Notices p = touched_in input.program parts.Notices (run input p)
 
 -- the part at which a question looks beside its glance
 abbrev pub part_of : Question → Part

@@ -15,58 +15,59 @@ use Rattle.ss_trace.specs.Movements.{ahead_end, is_met}
 -- the word of a movement forward from p to q: HALTED where the status isn't ready, its own where it met what it looks
 -- for, BREAK at a break line, else BOUND
 abbrev pub forward_word : List ℕ → Input → List ℕ → Bool → ℕ → ℕ → List ℕ
-forward_word word t breaks met p q =
-    if is_ready_at t q then
+forward_word word input breaks met p q =
+    if is_ready_at input q then
     (if met then word else
-    if is_met (is_on_break t breaks) p q then codes "BREAK" else codes "BOUND")
+    if is_met (is_on_break input breaks) p q then codes "BREAK" else codes "BOUND")
     else codes "HALTED"
 
 -- the same, where what it looks for is a state at which a test holds
 abbrev pub ahead_word : List ℕ → Input → List ℕ → (ℕ → Bool) → ℕ → ℕ → List ℕ
-ahead_word word t breaks test p q = forward_word word t breaks (is_met test p q) p q
+ahead_word word input breaks test p q = forward_word word input breaks (is_met test p q) p q
 
 -- the word of OVER from p: HALTED where the status isn't ready, DONE where all were made, BREAK at a break line, else
 -- BOUND
 abbrev pub over_word : Input → List ℕ → ℕ → CountedEnd → List ℕ
-over_word t breaks p c = forward_word (codes "DONE") t breaks (nat_eq c.left 0) p c.position
+over_word input breaks p end = forward_word (codes "DONE") input breaks (nat_eq end.left 0) p end.position
 
 -- the word of BACK OVER: DONE where all were made, else as at the earliest kept position, else BOUND
 abbrev pub back_over_word : ℕ → CountedEnd → List ℕ
-back_over_word earliest c =
-    if nat_eq c.left 0 then codes "DONE" else
-    if nat_eq c.position earliest then earliest_word earliest else codes "BOUND"
+back_over_word earliest end =
+    if nat_eq end.left 0 then codes "DONE" else
+    if nat_eq end.position earliest then earliest_word earliest else codes "BOUND"
 
 -- where OVER leads
 abbrev pub over_from : Input → DebuggerState → ℕ → CountedEnd
-over_from t d k = over t d.breaks k d.position GREATEST_BOUND
+over_from input debugger k = over input debugger.breaks k debugger.position GREATEST_BOUND
 
 -- where BACK OVER leads
 abbrev pub back_over_from : Input → DebuggerState → ℕ → CountedEnd
-back_over_from t d k = back_over t d.earliest k d.position GREATEST_BOUND
+back_over_from input debugger k = back_over input debugger.earliest k debugger.position GREATEST_BOUND
 
 -- the position to which a movement of this shape leads
 abbrev pub end_of : Input → DebuggerState → Shape → ℕ
-end_of t d (debugger_shape shape) = debugger.end_of t d shape
-end_of t d (ahead test word) = ahead_end t d.breaks test d.position GREATEST_BOUND
-end_of t d (seek_back test word) = search_back_end test d.earliest d.position GREATEST_BOUND
-end_of t d (over_by k) = (over_from t d k).position
-end_of t d (back_over_by k) = (back_over_from t d k).position
+end_of input d (debugger_shape shape) = debugger.end_of input d shape
+end_of input debugger (ahead test word) = ahead_end input debugger.breaks test debugger.position GREATEST_BOUND
+end_of input debugger (seek_back test word) = search_back_end test debugger.earliest debugger.position GREATEST_BOUND
+end_of input debugger (over_by k) = (over_from input debugger k).position
+end_of input debugger (back_over_by k) = (back_over_from input debugger k).position
 
 -- its word, where it leads to q
 abbrev pub word_of : Input → DebuggerState → Shape → ℕ → List ℕ
-word_of t d (debugger_shape shape) q = debugger.word_of t d shape q
-word_of t d (ahead test word) q = ahead_word word t d.breaks test d.position q
-word_of t d (seek_back test word) q = search_back_word test word d.earliest d.position q
-word_of t d (over_by k) q = over_word t d.breaks d.position (over_from t d k)
-word_of t d (back_over_by k) q = back_over_word d.earliest (back_over_from t d k)
+word_of input d (debugger_shape shape) q = debugger.word_of input d shape q
+word_of input debugger (ahead test word) q = ahead_word word input debugger.breaks test debugger.position q
+word_of input debugger (seek_back test word) q = search_back_word test word debugger.earliest debugger.position q
+word_of input debugger (over_by k) q = over_word input debugger.breaks debugger.position (over_from input debugger k)
+word_of input debugger (back_over_by k) q = back_over_word debugger.earliest (back_over_from input debugger k)
 
 -- the state of the debugger after it
 abbrev pub state_after_shape : Input → DebuggerState → Shape → DebuggerState
-state_after_shape t d shape = debugger_state_at d (end_of t d shape)
+state_after_shape input debugger shape = debugger_state_at debugger (end_of input debugger shape)
 
 -- what it answers
 abbrev pub shape_answer : Input → DebuggerState → Shape → List ℕ
-shape_answer t d shape = let q = end_of t d shape in movement_text (word_of t d shape q) t q
+shape_answer input debugger shape =
+    let q = end_of input debugger shape in movement_text (word_of input debugger shape q) input q
 
 -- a movement back to q of which some steps were made: all but the position is as before
 abbrev pub IsPartOfMovementBack : DebuggerState → ℕ → DebuggerState → Type 0
@@ -76,22 +77,23 @@ IsPartOfMovementBack old q new =
 -- where it was refused memory: a movement forward was made in part, as one back that makes answers; others back as a
 -- whole
 abbrev pub IsAfterRefusedShape : Input → DebuggerState → Shape → DebuggerState → Type 0
-IsAfterRefusedShape t old (debugger_shape shape) new = IsStateAfterRefusedMovement t old shape new
-IsAfterRefusedShape t old (ahead test word) new = IsPartOfMovement old (end_of t old (ahead test word)) new
-IsAfterRefusedShape t old (seek_back test word) new = IsPartOfMovementBack old (end_of t old (seek_back test word)) new
-IsAfterRefusedShape t old (over_by k) new = IsPartOfMovement old (end_of t old (over_by k)) new
-IsAfterRefusedShape t old (back_over_by k) new = new ≡ debugger_state_at old (end_of t old (back_over_by k))
+IsAfterRefusedShape input old (debugger_shape shape) new = IsStateAfterRefusedMovement input old shape new
+IsAfterRefusedShape input old (ahead test word) new = IsPartOfMovement old (end_of input old (ahead test word)) new
+IsAfterRefusedShape input old (seek_back test word) new =
+    IsPartOfMovementBack old (end_of input old (seek_back test word)) new
+IsAfterRefusedShape input old (over_by k) new = IsPartOfMovement old (end_of input old (over_by k)) new
+IsAfterRefusedShape input old (back_over_by k) new = new ≡ debugger_state_at old (end_of input old (back_over_by k))
 
 -- ---- a movement
 
 -- the state of the debugger after a movement
 abbrev pub state_after : Input → DebuggerState → Movement → DebuggerState
-state_after t d m = state_after_shape t d (shape_of t d.position m)
+state_after input debugger movement = state_after_shape input debugger (shape_of input debugger.position movement)
 
 -- what it answers
 abbrev pub answer : Input → DebuggerState → Movement → List ℕ
-answer t d m = shape_answer t d (shape_of t d.position m)
+answer input debugger movement = shape_answer input debugger (shape_of input debugger.position movement)
 
 -- the state in which a refusal of memory leaves the debugger
 abbrev pub IsStateAfterRefusal : Input → DebuggerState → Movement → DebuggerState → Type 0
-IsStateAfterRefusal t old m new = IsAfterRefusedShape t old (shape_of t old.position m) new
+IsStateAfterRefusal input old movement new = IsAfterRefusedShape input old (shape_of input old.position movement) new

@@ -58,8 +58,8 @@ told_value (Count name owner) answer = drop 1 (behind 58 (without_end answer))
 
 -- the value that an answer tells, or that there is none
 abbrev pub value_in : Question → List ℕ → List ℕ
-value_in x answer = if says_none answer then codes "NONE" else told_value x answer
+value_in question answer = if says_none answer then codes "NONE" else told_value question answer
 
 -- the value of a question in state p
 abbrev pub value_at : Input → Question → ℕ → List ℕ
-value_at t x p = value_in x (answer_at t x p)
+value_at input question p = value_in question (answer_at input question p)

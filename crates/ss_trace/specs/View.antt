@@ -10,9 +10,9 @@ use Rattle.ss_trace.specs.Movements.{is_level, is_outside, is_before}
 
 -- whether a state is what a movement looks for
 abbrev pub sought_test : Input → Sought → ℕ → Bool
-sought_test t (Level frames) = is_level t frames
-sought_test t (Outside frames) = is_outside t frames
-sought_test t (Before time) = is_before t time
+sought_test input (Level frames) = is_level input frames
+sought_test input (Outside frames) = is_outside input frames
+sought_test input (Before time) = is_before input time
 
 -- a debugger stands at position q of the run, and all else is as it was
 pub record IsAt (old : DebuggerView) (q : ℕ) (new : DebuggerView) : Type 0 where

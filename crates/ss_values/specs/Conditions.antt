@@ -43,17 +43,19 @@ truth_by IsNot b = not b
 
 -- the value that names the owner of a list
 abbrev pub owner_value : Readings → SetRef → Result ℤ RunFault
-owner_value v r = subscript_value v r.owner
+owner_value readings set = subscript_value readings set.owner
 
 -- whether a list has no member; its owner exists
 abbrev pub is_empty_list : Readings → SetRef → Result Bool RunFault
-is_empty_list v r = owner_value v r >>= λ o. count (set_of v.tables r.set) v.store (number_of o) >>= λ n. Ok (n == 0)
+is_empty_list readings set =
+    owner_value readings set >>= λ o. count (set_of readings.tables set.set) readings.store (number_of o)
+        >>= λ n. Ok (n == 0)
 
 -- whether a list has a member: both values first, then whether owner and member exist
 abbrev pub is_in_list : Readings → Expr → SetRef → Result Bool RunFault
-is_in_list v e r =
-    value_of v e >>= λ x. owner_value v r
-    >>= λ o. member_stands (set_of v.tables r.set) v.store (number_of o) (number_of x)
+is_in_list readings expression set =
+    value_of readings expression >>= λ x. owner_value readings set
+    >>= λ o. member_stands (set_of readings.tables set.set) readings.store (number_of o) (number_of x)
 
 -- each part from the left; b is the truth of what stands before further conjunctions or relations
 abbrev mutual

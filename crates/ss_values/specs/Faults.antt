@@ -16,5 +16,5 @@ Err e >> r = Err e
 
 -- the fault, where the test is true
 abbrev pub refuse_if : Bool → RunFault → Result (Unit {0}) RunFault
-refuse_if true f = Err f
-refuse_if false f = Ok tt
+refuse_if true fault = Err fault
+refuse_if false fault = Ok tt

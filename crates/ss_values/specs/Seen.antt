@@ -17,11 +17,11 @@ view_readings v = record {
 
 -- what a place may name, by the readings
 abbrev pub scope_of : Readings → Scope
-scope_of v = record {
-  globals = length v.variables;
-  locals = length v.locals;
-  permanent = map (λ c. c.permanent) v.tables.classes;
-  sets = length v.tables.sets;
+scope_of readings = record {
+  globals = length readings.variables;
+  locals = length readings.locals;
+  permanent = map (λ c. c.permanent) readings.tables.classes;
+  sets = length readings.tables.sets;
 }
 
 -- what is said of as much as a view shows

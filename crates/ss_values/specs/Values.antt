@@ -88,21 +88,26 @@ one_if b = Ok (if b then pos 1 else pos 0)
 
 -- F.s, L.s and N.s of the owner that a value names
 abbrev pub owner_kept_value : Readings → OwnerKept → ℕ → ℤ → Result ℤ RunFault
-owner_kept_value v First s x = walk_first (set_of v.tables s) v.store (number_of x) >>= number_or_none
-owner_kept_value v Last s x = walk_last (set_of v.tables s) v.store (number_of x) >>= number_or_none
-owner_kept_value v Count s x = count (set_of v.tables s) v.store (number_of x) >>= number_value
+owner_kept_value readings First s x =
+    walk_first (set_of readings.tables s) readings.store (number_of x) >>= number_or_none
+owner_kept_value readings Last s x =
+    walk_last (set_of readings.tables s) readings.store (number_of x) >>= number_or_none
+owner_kept_value readings Count s x = count (set_of readings.tables s) readings.store (number_of x) >>= number_value
 
 -- P.s, S.s and M.s of the member that a value names
 abbrev pub member_kept_value : Readings → MemberKept → ℕ → ℤ → Result ℤ RunFault
-member_kept_value v Predecessor s x = predecessor (set_of v.tables s) v.store (number_of x) >>= number_or_none
-member_kept_value v Successor s x = successor (set_of v.tables s) v.store (number_of x) >>= number_or_none
-member_kept_value v Membership s x = membership (set_of v.tables s) v.store (number_of x) >>= one_if
+member_kept_value readings Predecessor s x =
+    predecessor (set_of readings.tables s) readings.store (number_of x) >>= number_or_none
+member_kept_value readings Successor s x =
+    successor (set_of readings.tables s) readings.store (number_of x) >>= number_or_none
+member_kept_value readings Membership s x =
+    membership (set_of readings.tables s) readings.store (number_of x) >>= one_if
 
 -- what a variable holds
 abbrev pub variable_value : Readings → AVariable → ℤ
-variable_value v (Global i) = slice_index_or v.variables i (pos 0)
-variable_value v (Local i) = slice_index_or v.locals i (pos 0)
-variable_value v Clock = v.clock
+variable_value readings (Global i) = slice_index_or readings.variables i (pos 0)
+variable_value readings (Local i) = slice_index_or readings.locals i (pos 0)
+variable_value readings Clock = readings.clock
 
 -- each part from the left; x is the value of what stands before further terms or factors, and the greatest or the least
 -- of the arguments before further ones
@@ -160,21 +165,24 @@ abbrev mutual
 
 -- what a target holds
 abbrev pub target_value : Readings → Target → Result ℤ RunFault
-target_value v (Variable x) = Ok (variable_value v x)
-target_value v (Attribute c a i) = subscript_value v i >>= λ x. attribute_of v.store c a (number_of x)
+target_value readings (Variable x) = Ok (variable_value readings x)
+target_value readings (Attribute c a i) =
+    subscript_value readings i >>= λ x. attribute_of readings.store c a (number_of x)
 
 -- what is assigned: the value; of ADD and SUBTRACT the target's old value with it
 abbrev pub assigned_value : Readings → Assign → Result ℤ RunFault
-assigned_value v (Let written t e) = value_of v e
-assigned_value v (Add e t) = value_of v e >>= λ x. target_value v t >>= λ y. result_in_range (y +ℤ x)
-assigned_value v (Subtract e t) = value_of v e >>= λ x. target_value v t >>= λ y. result_in_range (y -ℤ x)
+assigned_value readings (Let written t e) = value_of readings e
+assigned_value readings (Add e t) =
+    value_of readings e >>= λ x. target_value readings t >>= λ y. result_in_range (y +ℤ x)
+assigned_value readings (Subtract e t) =
+    value_of readings e >>= λ x. target_value readings t >>= λ y. result_in_range (y -ℤ x)
 
 -- ---- lists
 
 -- the values of several expressions in order, or the first fault
 abbrev pub values_of : Readings → List Expr → Result (List ℤ) RunFault
-values_of v [] = Ok []
-values_of v (e ∷ es) = value_of v e >>= λ x. values_of v es >>= λ xs. Ok (x ∷ xs)
+values_of readings [] = Ok []
+values_of readings (e ∷ es) = value_of readings e >>= λ x. values_of readings es >>= λ xs. Ok (x ∷ xs)
 
 -- a fault is what was got in place of values; want of memory says nothing of them
 abbrev pub FaultIs : {A : Type 0} → StepFault → Result A RunFault → Type 0

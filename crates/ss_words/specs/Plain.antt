@@ -40,16 +40,16 @@ unreserved_word (w.picture ls) = picture ls
 
 -- the same where the word is this reserved word or sign, if it is one
 abbrev pub mark_or_word : Option Mark → Kind → Plain
-mark_or_word None k = unreserved_word k
-mark_or_word (Some m) k = mark m
+mark_or_word None kind = unreserved_word kind
+mark_or_word (Some m) kind = mark m
 
 -- a plain word of a list of the code
 abbrev pub plain_in : PlainWord → Plain
-plain_in a = mark_or_word a.mark (kind_of a.word.now.kind)
+plain_in word = mark_or_word word.mark (kind_of word.word.now.kind)
 
 -- the same with its line and place
 abbrev pub plain_at : PlainWord → PlainAt
-plain_at a = record { line = a.word.now.line; index = a.index; word = plain_in a }
+plain_at word = record { line = word.word.now.line; index = word.index; word = plain_in word }
 
 -- the plain words of a list of the code
 abbrev pub plains_of : List PlainWord → List Plain

@@ -152,9 +152,9 @@ parting_commas around m = Some m
 
 -- a word under a rule, or nothing: names, numbers and pictures stay, and what stays keeps its line and place
 abbrev pub ruled_word : PlainRule → Surroundings → PlainAt → List PlainAt
-ruled_word rule a w = elim w.word [
-  | mark m ↦ option_to_list (option_map (λ n. record w { word = mark n }) (rule a m))
-  | _ ↦ w ∷ []
+ruled_word rule surroundings word = elim word.word [
+  | mark m ↦ option_to_list (option_map (λ n. record word { word = mark n }) (rule surroundings m))
+  | _ ↦ word ∷ []
 ]
 
 -- a rule over the words of a list that stand behind these, which go backwards
@@ -183,7 +183,7 @@ plain_kind (w.picture ls) = picture ls
 
 -- the same with its line, and with its place in the list of words
 abbrev pub plain_from : ℕ → WordAt → PlainAt
-plain_from i w = record { line = w.line; index = i; word = plain_kind w.kind }
+plain_from i word = record { line = word.line; index = i; word = plain_kind word.kind }
 
 -- each word of the text as a plain word
 abbrev pub unruled_words : List WordAt → List PlainAt

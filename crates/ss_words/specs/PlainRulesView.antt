@@ -8,7 +8,7 @@ use Rattle.ss_words.specs.PlainRules.{parting_commas}
 
 -- what stands round a word, as the code keeps it
 abbrev pub surroundings_of : Around → Surroundings
-surroundings_of a = record { before = a.before; governing = a.governing; behind = a.behind }
+surroundings_of around = record { before = around.before; governing = around.governing; behind = around.behind }
 
 -- the rule that a value of the code names
 abbrev pub rule_of : Rule → PlainRule

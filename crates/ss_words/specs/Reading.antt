@@ -32,7 +32,7 @@ pure a = λ ws. (Ok a, ws)
 
 -- refuses the next word
 unfoldable pub refuse : {A : Type 0} → Refusal → Reading A
-refuse e = λ ws. (Err e, ws)
+refuse refusal = λ ws. (Err refusal, ws)
 
 -- goes by the next word
 unfoldable pub look : {A : Type 0} → (Option Plain → Reading A) → Reading A

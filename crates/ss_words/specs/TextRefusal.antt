@@ -52,18 +52,19 @@ at_place (fs ∷ rest) (suc i) = at_place rest i
 abbrev pub PlacesAreBytes : Type 0
 PlacesAreBytes = (text : List ℕ) → length (breaches_by_place text) ≡ sum_by length (text_lines text)
 
--- rule r is broken at place i of a text, on line n
+-- rule rule is broken at place i of a text, on line n
 abbrev pub IsBroken : List ℕ → ℕ → TextRule → ℕ → Type 0
-IsBroken text i r n = Contains (at_place (breaches_by_place text) i) (Refused r n)
+IsBroken text i rule n = Contains (at_place (breaches_by_place text) i) (Refused rule n)
 
--- a text is refused at place i by rule r on line n: r is broken there, no rule at an earlier place, no lower one there
-pub record IsRefusedAt (text : List ℕ) (i : ℕ) (r : TextRule) (n : ℕ) : Type 0 where
+-- a text is refused at place i by rule rule on line n: rule is broken there, no rule at an earlier place, no lower
+-- one there
+pub record IsRefusedAt (text : List ℕ) (i : ℕ) (rule : TextRule) (n : ℕ) : Type 0 where
   -- the rule is broken there
-  pub broken : IsBroken text i r n
+  pub broken : IsBroken text i rule n
   -- none is broken at an earlier place
   pub none_earlier : (j : ℕ) (q : TextRule) (m : ℕ) → j < i → IsBroken text j q m → ⊥
   -- none with a lower number is broken there
-  pub none_lower : (q : TextRule) (m : ℕ) → IsBroken text i q m → rule_number r ≤ rule_number q
+  pub none_lower : (q : TextRule) (m : ℕ) → IsBroken text i q m → rule_number rule ≤ rule_number q
 
 -- where the answer is a refusal, it has its place
 abbrev pub RefusalHasAPlace : Type 0

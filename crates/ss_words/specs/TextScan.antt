@@ -59,12 +59,12 @@ pub record IsTracked (behind_as behind_print called : Bool) (count : Option ℕ)
 
 -- the words call a picture, once a word joins them
 abbrev pub called_after : Kind → Bool → Bool
-called_after k behind_as = is_name (codes "THUS") k || (is_name (codes "FOLLOWS") k && behind_as)
+called_after kind behind_as = is_name (codes "THUS") kind || (is_name (codes "FOLLOWS") kind && behind_as)
 
 -- the count of lines that is kept, once a word joins the words
 abbrev pub count_after : Kind → Bool → Option ℕ → Option ℕ
-count_after k behind_print count =
-    if is_name (codes "PRINT") k then None else (if behind_print then line_count (Some k) else count)
+count_after kind behind_print count =
+    if is_name (codes "PRINT") kind then None else (if behind_print then line_count (Some kind) else count)
 
 -- what is found below a line: the picture that the words call, if they call one, and the lines from line n on
 abbrev pub found_below : List Kind → ℕ → List (List ℕ) → List Finding

@@ -48,9 +48,9 @@ pub data Opening : Type 0 where
 
 -- the start of the run of the program that a model is, over its data, on a desk on which nothing is set or told
 abbrev pub IsStart : List ℕ → List ℕ → List ℕ → Stops → AdapterState → Type 0
-IsStart path model text stops s =
+IsStart path model text stops state =
     (program : ProgramTable) × IsOutcome model (accepted program)
-    × (s ≡ record {
+    × (state ≡ record {
       input = input_with program text;
       debugger = initial_debugger_state;
       desk = record {
@@ -143,4 +143,5 @@ pub record IsOpened (files : Option (List ℕ → Option (List ℕ))) (request :
 
 -- a session before whose start no run is launched, and no message is sent
 abbrev pub IsServed : Option (List ℕ → Option (List ℕ)) → Seen → Result (Unit {0}) SessionFault → Type 0
-IsServed files c result = (last : EditingState) × HasEnded editor_meaning (editing_state files None) last 0 c result
+IsServed files seen result =
+    (last : EditingState) × HasEnded editor_meaning (editing_state files None) last 0 seen result

@@ -15,13 +15,13 @@ use Rattle.ssdb.specs.Seen.{Seen}
 
 -- all words were written, and no line was read
 abbrev pub TellsWords : List ℕ → Seen → PromptEnd → Type 0
-TellsWords model c end =
+TellsWords model seen end =
     (program : ProgramTable) × IsOutcome model (accepted program)
-    × Adds c.old c.new (write_events (completions program)) × (c.after ≡ c.before) × (end ≡ Done)
+    × Adds seen.old seen.new (write_events (completions program)) × (seen.after ≡ seen.before) × (end ≡ Done)
 
 -- a prefix of them was written; or the model is refused, or memory was
 abbrev pub IsWordsCut : List ℕ → Seen → PromptFault → Type 0
-IsWordsCut model c fault =
-    ((program : ProgramTable) × IsOutcome model (accepted program) × AddsPart (completions program) c.old c.new
-    × (c.after ≡ c.before) × (fault ≡ Cut cut.Write))
-    ⊎ IsRefusalWritten model c fault
+IsWordsCut model seen fault =
+    ((program : ProgramTable) × IsOutcome model (accepted program) × AddsPart (completions program) seen.old seen.new
+    × (seen.after ≡ seen.before) × (fault ≡ Cut cut.Write))
+    ⊎ IsRefusalWritten model seen fault

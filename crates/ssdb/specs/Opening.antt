@@ -22,7 +22,7 @@ use Rattle.ss_prompt.specs.Source.{source_lines}
 
 -- what is told before the first line: at a terminal a greeting
 abbrev pub greeting_at : Bool → PromptState → List ℕ
-greeting_at terminal s = if terminal then greeting s else []
+greeting_at terminal state = if terminal then greeting state else []
 
 -- whether a run is faulted
 abbrev pub end_of_status : Status → PromptEnd
@@ -45,18 +45,19 @@ IsStart model data_text from =
 
 -- how a dialogue ends behind the greeting: by the end of input, or by a line
 abbrev pub EndsWell : PromptState → PromptState → Option (List Event) → Seen → Type 0
-EndsWell from to told c =
-    EndsByInput prompt_meaning c.terminal from to c.before c.after told c.new
-    ⊎ EndsByLine prompt_meaning c.terminal from to c.before c.after told c.new
+EndsWell from to told seen =
+    EndsByInput prompt_meaning seen.terminal from to seen.before seen.after told seen.new
+    ⊎ EndsByLine prompt_meaning seen.terminal from to seen.before seen.after told seen.new
 
 -- what cut it short behind the greeting: a reading, a writing, or the count of lines
 abbrev pub HoldFails : PromptState → PromptState → Option (List Event) → Seen → PromptFault → Type 0
-HoldFails from to told c (Cut Read) = EndsByRead prompt_meaning c.terminal from to c.before told c.new
-HoldFails from to told c (Cut Write) =
-    EndsInPrompt prompt_meaning c.terminal from to c.before c.after told c.new
-    ⊎ EndsInAnswer prompt_meaning c.terminal from to c.before c.after told c.new
-HoldFails from to told c (Cut Count) = EndsByCount prompt_meaning c.terminal from to c.before c.after told c.new
-HoldFails from to told c fault = ⊥
+HoldFails from to told seen (Cut Read) = EndsByRead prompt_meaning seen.terminal from to seen.before told seen.new
+HoldFails from to told seen (Cut Write) =
+    EndsInPrompt prompt_meaning seen.terminal from to seen.before seen.after told seen.new
+    ⊎ EndsInAnswer prompt_meaning seen.terminal from to seen.before seen.after told seen.new
+HoldFails from to told seen (Cut Count) =
+    EndsByCount prompt_meaning seen.terminal from to seen.before seen.after told seen.new
+HoldFails from to told seen fault = ⊥
 
 -- what cut it short within the greeting: a prefix of that is written, or nothing where memory was refused
 abbrev pub GreetingFails : List ℕ → Option (List Event) → Option (List Event) → PromptFault → Type 0
@@ -66,40 +67,41 @@ GreetingFails text old new fault = ⊥
 
 -- a whole dialogue from a state on: the greeting is told, the answers are, and the run is faulted or not where they
 -- lead
-pub record HoldsFrom (from : PromptState) (c : Seen) (end : PromptEnd) : Type 0 where
+pub record HoldsFrom (from : PromptState) (seen : Seen) (end : PromptEnd) : Type 0 where
   -- what had happened behind the greeting
   pub told : Option (List Event)
   -- a terminal is greeted
-  pub greets : Adds c.old told (write_events (greeting_at c.terminal from))
+  pub greets : Adds seen.old told (write_events (greeting_at seen.terminal from))
   -- where the answers led
   pub to : PromptState
   -- the answers, up to the end of input or a line that ends
-  pub answers : EndsWell from to told c
+  pub answers : EndsWell from to told seen
   -- whether the run is faulted there
   pub end_is : end ≡ end_of_status (run to.input to.debugger.position).status
 
 -- one that was cut short behind its greeting
-pub record BreaksFrom (from : PromptState) (c : Seen) (fault : PromptFault) : Type 0 where
+pub record BreaksFrom (from : PromptState) (seen : Seen) (fault : PromptFault) : Type 0 where
   -- what had happened behind the greeting
   pub told : Option (List Event)
   -- a terminal is greeted
-  pub greets : Adds c.old told (write_events (greeting_at c.terminal from))
+  pub greets : Adds seen.old told (write_events (greeting_at seen.terminal from))
   -- where the answers led
   pub to : PromptState
   -- the answers, and the call that failed
-  pub answers : HoldFails from to told c fault
+  pub answers : HoldFails from to told seen fault
 
 -- one that was cut short, there or within its greeting, before which no line was read
 abbrev pub StopsFrom : PromptState → Seen → PromptFault → Type 0
-StopsFrom from c fault =
-    BreaksFrom from c fault
-    ⊎ (GreetingFails (greeting_at c.terminal from) c.old c.new fault × (c.after ≡ c.before))
+StopsFrom from seen fault =
+    BreaksFrom from seen fault
+    ⊎ (GreetingFails (greeting_at seen.terminal from) seen.old seen.new fault × (seen.after ≡ seen.before))
 
 -- a whole dialogue over an accepted model and its data
 abbrev pub IsHeld : List ℕ → List ℕ → Seen → PromptEnd → Type 0
-IsHeld model data_text c end = (from : PromptState) × IsStart model data_text from × HoldsFrom from c end
+IsHeld model data_text seen end = (from : PromptState) × IsStart model data_text from × HoldsFrom from seen end
 
 -- why there was none: it was cut short, or the model is refused, or memory was before anything was written
 abbrev pub IsStopped : List ℕ → List ℕ → Seen → PromptFault → Type 0
-IsStopped model data_text c fault =
-    ((from : PromptState) × IsStart model data_text from × StopsFrom from c fault) ⊎ IsRefusalWritten model c fault
+IsStopped model data_text seen fault =
+    ((from : PromptState) × IsStart model data_text from × StopsFrom from seen fault)
+        ⊎ IsRefusalWritten model seen fault

@@ -50,11 +50,11 @@ IsTold model text =
 -- what was written of a refused model, by what stopped the program: all that is said of it, a prefix of that where
 -- writing failed, nothing where memory was refused
 abbrev pub IsRefusalTold : List ℕ → Seen → PromptFault → Type 0
-IsRefusalTold model c Refused = (text : List ℕ) × IsTold model text × Adds c.old c.new (write_events text)
-IsRefusalTold model c (Cut cut.Write) = (text : List ℕ) × IsTold model text × AddsPart text c.old c.new
-IsRefusalTold model c (Cut other) = ⊥
-IsRefusalTold model c Memory = Adds c.old c.new []
+IsRefusalTold model seen Refused = (text : List ℕ) × IsTold model text × Adds seen.old seen.new (write_events text)
+IsRefusalTold model seen (Cut cut.Write) = (text : List ℕ) × IsTold model text × AddsPart text seen.old seen.new
+IsRefusalTold model seen (Cut other) = ⊥
+IsRefusalTold model seen Memory = Adds seen.old seen.new []
 
 -- the same, where no line was read
 abbrev pub IsRefusalWritten : List ℕ → Seen → PromptFault → Type 0
-IsRefusalWritten model c fault = IsRefusalTold model c fault × (c.after ≡ c.before)
+IsRefusalWritten model seen fault = IsRefusalTold model seen fault × (seen.after ≡ seen.before)

@@ -19,8 +19,10 @@ target_of (Subtract value target) = target
 
 -- the state in which they have assigned it
 abbrev pub state_after_assign : Tables → State → Assign → Result State RunFault
-state_after_assign t s a = assigned_value (readings t s) a >>= state_with_value t s (target_of a)
+state_after_assign tables state statement =
+    assigned_value (readings tables state) statement >>= state_with_value tables state (target_of statement)
 
 -- one step of an assignment
 abbrev pub step_assign : Tables → State → ℕ → Assign → State
-step_assign t s next a = state_after_result s (state_after_assign t s a) (state_at_place next)
+step_assign tables state next statement =
+    state_after_result state (state_after_assign tables state statement) (state_at_place next)

@@ -14,13 +14,14 @@ use Rattle.ss_machine.specs.Statements.{state_after_result, state_at_place}
 
 -- the answer to what an IF asks
 abbrev pub question_answer : Tables → State → Question → Result Bool RunFault
-question_answer t s (Whether c) = holds (readings t s) c
-question_answer t s WasFound = Ok s.frame.found
-question_answer t s WasNone = Ok (not s.frame.found)
+question_answer tables state (Whether c) = holds (readings tables state) c
+question_answer tables state WasFound = Ok state.frame.found
+question_answer tables state WasNone = Ok (not state.frame.found)
 
 -- a true IF goes on to the next place, a false one behind its ELSE, or to its ALWAYS; ELSE goes on to its ALWAYS
 abbrev pub step_branch : Tables → State → Ways → Branch → State
-step_branch t s w (If q) =
-    state_after_result s (question_answer t s q) (λ b. state_at_place (if b then w.next else w.exit) s)
-step_branch t s w Else = state_at_place w.next s
-step_branch t s w Always = state_at_place w.next s
+step_branch tables state ways (If q) =
+    state_after_result state (question_answer tables state q)
+        (λ b. state_at_place (if b then ways.next else ways.exit) state)
+step_branch tables state ways Else = state_at_place ways.next state
+step_branch tables state ways Always = state_at_place ways.next state

@@ -30,58 +30,59 @@ room_for_frame below xs = if nat_lt (length below) MOST_BELOW then Ok xs else Er
 
 -- one step of a CALL, which opens a frame
 abbrev pub step_call : ProgramTable → State → Call → State
-step_call p s c =
-    state_after_result s (values_of (readings (tables_of p) s) c.given >>= room_for_frame s.below)
-    (state_with_frame p s c.section)
+step_call program state call =
+    state_after_result state (values_of (readings (tables_of program) state) call.given >>= room_for_frame state.below)
+    (state_with_frame program state call.section)
 
 -- the state behind a CALL, which goes on at `next`, to which these locals came back
 abbrev pub state_behind_call : Tables → List ℤ → ℕ → ℕ → State → Place → Result State RunFault
-state_behind_call t vs k next s (places.Call c) =
-    state_with_values t vs s k c.targets >>= λ r. Ok (state_at_place next r)
+state_behind_call tables vs k next state (places.Call c) =
+    state_with_values tables vs state k c.targets >>= λ r. Ok (state_at_place next r)
 -- never met: a routine's frame stands on a CALL
-state_behind_call t vs k next s other = Ok s
+state_behind_call tables vs k next state other = Ok state
 
 -- the same by the place where the frame stands
 abbrev pub state_behind_place : ProgramTable → List ℤ → ℕ → State → Option Spot → Result State RunFault
-state_behind_place p vs k s (Some spot) =
-    state_behind_call (tables_of p) vs k (ways_here p s spot.place).next s spot.place
+state_behind_place program vs k state (Some spot) =
+    state_behind_call (tables_of program) vs k (ways_here program state spot.place).next state spot.place
 -- never met: each frame stands at a place
-state_behind_place p vs k s None = Ok s
+state_behind_place program vs k state None = Ok state
 
 -- the state after a routine's frame is dropped and what it yields is assigned: its locals behind those that were given
 abbrev pub state_after_return : ProgramTable → State → List FrameState → State
 -- never met: a routine's frame stands on another
-state_after_return p s [] = s
-state_after_return p s (f ∷ fs) =
-    state_after_result s (state_behind_place p s.frame.locals (section_of p s.frame.section).given
-    (record s { frame = f; below = fs }) (spot_at p f.section f.place)) (λ r. r)
+state_after_return program state [] = state
+state_after_return program state (f ∷ fs) =
+    state_after_result state
+        (state_behind_place program state.frame.locals (section_of program state.frame.section).given
+    (record state { frame = f; below = fs }) (spot_at program f.section f.place)) (λ r. r)
 
 -- the state in which an entry is over that ran: the data is passed up to and with the next mark; F22 where none is left
 abbrev pub state_behind_mark : State → Option ℕ → Result State RunFault
-state_behind_mark s None = Err OutsideEntry
-state_behind_mark s (Some n) = Ok (record (state_with_taken s n) { entry = Absent })
+state_behind_mark state None = Err OutsideEntry
+state_behind_mark state (Some n) = Ok (record (state_with_taken state n) { entry = Absent })
 
 -- the same of an entry that may run
 abbrev pub state_without_entry : State → Entry → Result State RunFault
-state_without_entry s Absent = Ok s
-state_without_entry s (Waiting c k) = Ok s
-state_without_entry s (Running c k) = state_behind_mark s (place_behind_mark s.feed)
+state_without_entry state Absent = Ok state
+state_without_entry state (Waiting c k) = Ok state
+state_without_entry state (Running c k) = state_behind_mark state (place_behind_mark state.feed)
 
 -- the state after an event's frame is dropped; MAIN stands where it stood
 abbrev pub state_after_event : State → List FrameState → State
 -- never met: an event's frame stands on MAIN's
-state_after_event s [] = s
-state_after_event s (f ∷ fs) =
-    state_after_result s (state_without_entry s s.entry) (λ r. record r { frame = f; below = fs })
+state_after_event state [] = state
+state_after_event state (f ∷ fs) =
+    state_after_result state (state_without_entry state state.entry) (λ r. record r { frame = f; below = fs })
 
 -- RETURN and END, by the kind of the section: the run ends in MAIN; the place stays
 abbrev pub state_after_section : ProgramTable → State → SectionKind → State
-state_after_section p s kinds.Main = record s { status = Finished }
-state_after_section p s kinds.Routine = state_after_return p s s.below
-state_after_section p s kinds.Event = state_after_event s s.below
+state_after_section program state kinds.Main = record state { status = Finished }
+state_after_section program state kinds.Routine = state_after_return program state state.below
+state_after_section program state kinds.Event = state_after_event state state.below
 
 -- one step of STOP, RETURN and END
 abbrev pub step_control : ProgramTable → State → Control → State
-step_control p s Stop = record s { status = Stopped }
-step_control p s Return = state_after_section p s (section_of p s.frame.section).kind
-step_control p s End = state_after_section p s (section_of p s.frame.section).kind
+step_control program state Stop = record state { status = Stopped }
+step_control program state Return = state_after_section program state (section_of program state.frame.section).kind
+step_control program state End = state_after_section program state (section_of program state.frame.section).kind

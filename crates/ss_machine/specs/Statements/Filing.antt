@@ -34,38 +34,44 @@ which_at ends.Last = which.Last
 
 -- where FILE puts a member, with the value that names another one
 abbrev pub how_asked : Readings → Position → Result How RunFault
-how_asked v ByRule = Ok how.ByRule
-how_asked v (AtEnd end) = Ok (how_at end)
-how_asked v (Before e) = value_of v e >>= λ y. Ok (how.Before y)
-how_asked v (After e) = value_of v e >>= λ y. Ok (how.After y)
+how_asked readings ByRule = Ok how.ByRule
+how_asked readings (AtEnd end) = Ok (how_at end)
+how_asked readings (Before e) = value_of readings e >>= λ y. Ok (how.Before y)
+how_asked readings (After e) = value_of readings e >>= λ y. Ok (how.After y)
 
 -- the state after FILE of a member
 abbrev pub state_after_file : Tables → State → SetRef → ℤ → How → Result State RunFault
-state_after_file t s r x h =
-    subscript_value (readings t s) r.owner
-    >>= λ o. after_filing (set_of t r.set) s.store (number_of o) (number_of x) h >>= λ st. Ok (state_with_store s st)
+state_after_file tables state set x how =
+    subscript_value (readings tables state) set.owner
+    >>= λ o. after_filing (set_of tables set.set) state.store (number_of o) (number_of x) how
+    >>= λ st. Ok (state_with_store state st)
 
 -- the state after REMOVE of an end, whose member's number is assigned
 abbrev pub state_after_remove_end : Tables → State → SetRef → SetEnd → Target → Result State RunFault
-state_after_remove_end t s r end target =
-    subscript_value (readings t s) r.owner
-    >>= λ o. after_removing (set_of t r.set) s.store (number_of o) (which_at end)
-    >>= λ k. number_value k.0 >>= state_with_value t (state_with_store s k.1) target
+state_after_remove_end tables state set end target =
+    subscript_value (readings tables state) set.owner
+    >>= λ o. after_removing (set_of tables set.set) state.store (number_of o) (which_at end)
+    >>= λ k. number_value k.0 >>= state_with_value tables (state_with_store state k.1) target
 
 -- the state after REMOVE of a member
 abbrev pub state_after_remove : Tables → State → SetRef → ℤ → Result State RunFault
-state_after_remove t s r x =
-    subscript_value (readings t s) r.owner
-    >>= λ o. after_removing (set_of t r.set) s.store (number_of o) (which.Member x) >>= λ k. Ok (state_with_store s k.1)
+state_after_remove tables state set x =
+    subscript_value (readings tables state) set.owner
+    >>= λ o. after_removing (set_of tables set.set) state.store (number_of o) (which.Member x)
+    >>= λ k. Ok (state_with_store state k.1)
 
 -- what a statement makes of the state that files or removes: its values from the left, then the deed
 abbrev pub state_after_filing : Tables → State → Filing → Result State RunFault
-state_after_filing t s (File e position r) =
-    value_of (readings t s) e >>= λ x. how_asked (readings t s) position >>= λ h. state_after_file t s r x h
-state_after_filing t s (FileAt end e r) = value_of (readings t s) e >>= λ x. state_after_file t s r x (how_at end)
-state_after_filing t s (RemoveAt end target r) = state_after_remove_end t s r end target
-state_after_filing t s (Remove e r) = value_of (readings t s) e >>= λ x. state_after_remove t s r x
+state_after_filing tables state (File e position r) =
+    value_of (readings tables state) e >>= λ x. how_asked (readings tables state) position
+        >>= λ h. state_after_file tables state r x h
+state_after_filing tables state (FileAt end e r) =
+    value_of (readings tables state) e >>= λ x. state_after_file tables state r x (how_at end)
+state_after_filing tables state (RemoveAt end target r) = state_after_remove_end tables state r end target
+state_after_filing tables state (Remove e r) =
+    value_of (readings tables state) e >>= λ x. state_after_remove tables state r x
 
 -- one step of it
 abbrev pub step_filing : Tables → State → ℕ → Filing → State
-step_filing t s next f = state_after_result s (state_after_filing t s f) (state_at_place next)
+step_filing tables state next filing =
+    state_after_result state (state_after_filing tables state filing) (state_at_place next)

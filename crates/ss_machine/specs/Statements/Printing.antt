@@ -24,9 +24,10 @@ longer_report report text =
 
 -- the state after a PRINT, which gets its values and appends its picture with them
 abbrev pub state_after_print : Tables → State → ℕ → List Expr → List (List ℕ) → State
-state_after_print t s next values picture =
-    state_after_result s (values_of (readings t s) values >>= λ xs. longer_report s.report (picture_text picture xs))
-    (λ report. state_at_place next (record s { report = report }))
+state_after_print tables state next values picture =
+    state_after_result state
+        (values_of (readings tables state) values >>= λ xs. longer_report state.report (picture_text picture xs))
+    (λ report. state_at_place next (record state { report = report }))
 
 -- how many lines a value asks for, or F13
 abbrev pub line_count : ℤ → Result ℕ RunFault
@@ -35,15 +36,15 @@ line_count n =
 
 -- how many lines the value of an expression asks for
 abbrev pub lines_asked : Readings → Expr → Result ℕ RunFault
-lines_asked v e = value_of v e >>= line_count
+lines_asked readings expression = value_of readings expression >>= line_count
 
 -- the state after a SKIP, which appends as many line feeds
 abbrev pub state_after_skip : State → ℕ → Result ℕ RunFault → State
-state_after_skip s next count =
-    state_after_result s (count >>= λ n. longer_report s.report (replicate n LINE_FEED))
-    (λ report. state_at_place next (record s { report = report }))
+state_after_skip state next count =
+    state_after_result state (count >>= λ n. longer_report state.report (replicate n LINE_FEED))
+    (λ report. state_at_place next (record state { report = report }))
 
 -- one step of what appends to the report
 abbrev pub step_output : Tables → State → ℕ → Output → State
-step_output t s next (Print count values picture) = state_after_print t s next values picture
-step_output t s next (Skip e) = state_after_skip s next (lines_asked (readings t s) e)
+step_output tables state next (Print count values picture) = state_after_print tables state next values picture
+step_output tables state next (Skip e) = state_after_skip state next (lines_asked (readings tables state) e)

@@ -31,10 +31,11 @@ values_taken external items i (t ∷ ts) =
 -- the state in which a READ has taken its values: all of them before the first target is assigned; F22 where an entry
 -- waits
 abbrev pub state_after_read : ProgramTable → State → List Target → Result State RunFault
-state_after_read p s ts =
-    refuse_if (is_waiting s.entry) OutsideEntry >> values_taken (has_external p) s.feed.items s.feed.taken ts
-    >>= λ xs. state_with_values (tables_of p) xs (state_with_taken s (s.feed.taken + length ts)) 0 ts
+state_after_read program state ts =
+    refuse_if (is_waiting state.entry) OutsideEntry
+        >> values_taken (has_external program) state.feed.items state.feed.taken ts
+    >>= λ xs. state_with_values (tables_of program) xs (state_with_taken state (state.feed.taken + length ts)) 0 ts
 
 -- one step of a READ
 abbrev pub step_read : ProgramTable → State → ℕ → List Target → State
-step_read p s next ts = state_after_result s (state_after_read p s ts) (state_at_place next)
+step_read program state next ts = state_after_result state (state_after_read program state ts) (state_at_place next)

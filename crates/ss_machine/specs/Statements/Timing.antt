@@ -37,118 +37,125 @@ use Rattle.ss_machine.specs.Statements.{state_with_value, state_with_taken, enti
 
 -- what names the notice of THE; A names none
 abbrev pub notice_named : Readings → Notice → Result ℤ RunFault
-notice_named v (New is_called target) = Ok (pos 0)
-notice_named v (Known is_called e) = value_of v e
+notice_named readings (New is_called target) = Ok (pos 0)
+notice_named readings (Known is_called e) = value_of readings e
 
 -- what names the notice, and the arguments, in the order in which they are written
 abbrev pub arguments_asked : Readings → Notice → List Expr → Listing → Result (ℤ × List ℤ) RunFault
-arguments_asked v n es InParentheses = values_of v es >>= λ xs. notice_named v n >>= λ x. Ok (x, xs)
-arguments_asked v n es Given = notice_named v n >>= λ x. values_of v es >>= λ xs. Ok (x, xs)
+arguments_asked readings notice es InParentheses =
+    values_of readings es >>= λ xs. notice_named readings notice >>= λ x. Ok (x, xs)
+arguments_asked readings notice es Given =
+    notice_named readings notice >>= λ x. values_of readings es >>= λ xs. Ok (x, xs)
 
 -- when the notice is to be due
 abbrev pub time_asked : Readings → When → Result ℤ RunFault
-time_asked v (At e) = value_of v e
-time_asked v Now = Ok v.clock
-time_asked v (In e) = value_of v e >>= λ n. result_in_range (v.clock +ℤ n)
+time_asked readings (At e) = value_of readings e
+time_asked readings Now = Ok readings.clock
+time_asked readings (In e) = value_of readings e >>= λ n. result_in_range (readings.clock +ℤ n)
 
 -- the values of attributes of entity number k of class c, by their numbers, or F3
 abbrev pub attributes_now : Store → ℕ → ℕ → List ℕ → Result (List ℤ) RunFault
-attributes_now st c k [] = Ok []
-attributes_now st c k (a ∷ rest) =
-    attribute_of st c a k >>= λ x. attributes_now st c k rest >>= λ xs. Ok (x ∷ xs)
+attributes_now store c k [] = Ok []
+attributes_now store c k (a ∷ rest) =
+    attribute_of store c a k >>= λ x. attributes_now store c k rest >>= λ xs. Ok (x ∷ xs)
 
 -- the attributes that break the ties of class c
 abbrev pub tie_attributes : ProgramTable → ℕ → List ℕ
-tie_attributes p c = map (λ key. key.attribute) (event_of p c).ties
+tie_attributes program c = map (λ key. key.attribute) (event_of program c).ties
 
 -- the state in which entity number k of class c has these values in its attributes from number a on
 abbrev pub state_with_attributes : State → ℕ → ℕ → ℕ → List ℤ → Result State RunFault
-state_with_attributes s c k a [] = Ok s
-state_with_attributes s c k a (x ∷ xs) =
-    with_attribute s.store c a k x >>= λ st. state_with_attributes (state_with_store s st) c k (a + 1) xs
+state_with_attributes state c k a [] = Ok state
+state_with_attributes state c k a (x ∷ xs) =
+    with_attribute state.store c a k x >>= λ st. state_with_attributes (state_with_store state st) c k (a + 1) xs
 
 -- the state with other pending notices
 abbrev pub state_with_agenda : State → Agenda → State
-state_with_agenda s a = record s { agenda = a }
+state_with_agenda state agenda = record state { agenda = agenda }
 
 -- the state in which notice k of class c is pending at a time with these keys: F9, F10, F20
 abbrev pub state_with_notice : State → ℕ → ℕ → ℤ → List ℤ → Result State RunFault
-state_with_notice s c k time keys =
-    may_schedule s.agenda k time s.clock >> Ok (state_with_agenda s (agenda_after_scheduling s.agenda k time c keys))
+state_with_notice state c k time keys =
+    may_schedule state.agenda k time state.clock
+        >> Ok (state_with_agenda state (agenda_after_scheduling state.agenda k time c keys))
 
 -- the state in which notice k of class c has these first attributes, and is pending with its keys as they are then
 abbrev pub state_after_scheduling : ProgramTable → State → ℕ → ℕ → ℤ → List ℤ → Result State RunFault
-state_after_scheduling p s c k time xs =
-    state_with_attributes s c k 0 xs
-    >>= λ r. attributes_now r.store c k (tie_attributes p c) >>= state_with_notice r c k time
+state_after_scheduling program state c k time xs =
+    state_with_attributes state c k 0 xs
+    >>= λ r. attributes_now r.store c k (tie_attributes program c) >>= state_with_notice r c k time
 
 -- SCHEDULE A: the notice is made, scheduled, and its reference assigned
 abbrev pub state_after_new : ProgramTable → State → ℕ → Target → ℤ → List ℤ → Result State RunFault
-state_after_new p s c target time xs =
-    refuse_if (int_lt time s.clock) TimeBeforeClock >> with_new s.store c (class_of (tables_of p) c)
-    >>= λ st. state_after_scheduling p (state_with_store s st) c (last_reference st) time xs
-    >>= λ r. number_value (last_reference st) >>= state_with_value (tables_of p) r target
+state_after_new program state c target time xs =
+    refuse_if (int_lt time state.clock) TimeBeforeClock >> with_new state.store c (class_of (tables_of program) c)
+    >>= λ st. state_after_scheduling program (state_with_store state st) c (last_reference st) time xs
+    >>= λ r. number_value (last_reference st) >>= state_with_value (tables_of program) r target
 
 -- the notice, by what names it: SCHEDULE THE assigns nothing
 abbrev pub state_after_notice : ProgramTable → State → ℕ → Notice → ℤ → ℤ → List ℤ → Result State RunFault
-state_after_notice p s c (New is_called target) x time xs = state_after_new p s c target time xs
-state_after_notice p s c (Known is_called e) x time xs =
-    entity_named s.store c x >>= λ k. state_after_scheduling p s c k time xs
+state_after_notice program state c (New is_called target) x time xs = state_after_new program state c target time xs
+state_after_notice program state c (Known is_called e) x time xs =
+    entity_named state.store c x >>= λ k. state_after_scheduling program state c k time xs
 
 -- the state after SCHEDULE: what names the notice and the arguments, then the time, then the deed
 abbrev pub state_after_schedule : ProgramTable → State → Schedule → Result State RunFault
-state_after_schedule p s x =
-    arguments_asked (readings (tables_of p) s) x.notice x.arguments x.listing
-    >>= λ a. time_asked (readings (tables_of p) s) x.when
-    >>= λ time. state_after_notice p s x.class x.notice a.0 time a.1
+state_after_schedule program state schedule =
+    arguments_asked (readings (tables_of program) state) schedule.notice schedule.arguments schedule.listing
+    >>= λ a. time_asked (readings (tables_of program) state) schedule.when
+    >>= λ time. state_after_notice program state schedule.class schedule.notice a.0 time a.1
 
 -- the agenda without notice k; F11 where it is not pending, or waits for its entry
 abbrev pub agenda_without : State → ℕ → Result Agenda RunFault
-agenda_without s k =
-    refuse_if (waits_for k s.entry || not (is_pending s.agenda k)) NotScheduled >> Ok (agenda_after_taking s.agenda k)
+agenda_without state k =
+    refuse_if (waits_for k state.entry || not (is_pending state.agenda k)) NotScheduled
+        >> Ok (agenda_after_taking state.agenda k)
 
 -- the state after CANCEL of the notice that a value names
 abbrev pub state_after_cancel : Tables → State → ℕ → Expr → Result State RunFault
-state_after_cancel t s c e =
-    value_of (readings t s) e >>= entity_named s.store c >>= agenda_without s >>= λ a. Ok (state_with_agenda s a)
+state_after_cancel tables state c expression =
+    value_of (readings tables state) expression >>= entity_named state.store c >>= agenda_without state
+        >>= λ a. Ok (state_with_agenda state a)
 
 -- ---- the timing routine
 
 -- the section of an event class
 abbrev pub event_section : ProgramTable → ℕ → ℕ
-event_section p c = (event_of p c).section
+event_section program c = (event_of program c).section
 
 -- the store as the event of notice k starts: without the notice, unless the section says SAVING
 abbrev pub store_at_start : ProgramTable → Store → ℕ → ℕ → Result Store RunFault
-store_at_start p st c k =
-    if (section_of p (event_section p c)).saving then Ok st else without_entity (tables_of p) st c k
+store_at_start program store c k =
+    if (section_of program (event_section program c)).saving then Ok store
+        else without_entity (tables_of program) store c k
 
 -- the state in which notice k is taken off and the clock is at a time, over a store; an entry that waited for it runs
 abbrev pub state_at_time : State → ℕ → ℤ → Store → State
-state_at_time s k time st = record s {
+state_at_time state k time store = record state {
   clock = time;
-  store = st;
-  agenda = agenda_after_taking s.agenda k;
-  entry = entry_at_start k s.entry;
+  store = store;
+  agenda = agenda_after_taking state.agenda k;
+  entry = entry_at_start k state.entry;
 }
 
 -- the state after the start of the event of notice k of class c at a time: the class's variable has its reference, and
 -- the parameters have its first attributes
 abbrev pub state_after_start : ProgramTable → State → ℕ → ℕ → ℤ → Result State RunFault
-state_after_start p s k c time =
-    attributes_now s.store c k (range_with_len 0 (section_of p (event_section p c)).given)
-    >>= λ xs. store_at_start p s.store c k >>= λ st. number_value k
-    >>= λ x. Ok (state_with_frame p (state_after_assignment (state_at_time s k time st)
+state_after_start p state k c time =
+    attributes_now state.store c k (range_with_len 0 (section_of p (event_section p c)).given)
+    >>= λ xs. store_at_start p state.store c k >>= λ st. number_value k
+    >>= λ x. Ok (state_with_frame p (state_after_assignment (state_at_time state k time st)
     (Global (program.class_of p c).variable) x) (event_section p c) xs)
 
 -- with nothing pending the place behind START SIMULATION follows, else the event of the least notice starts
 abbrev pub step_simulation : ProgramTable → State → ℕ → Option Pending → State
-step_simulation p s next None = state_at_place next s
-step_simulation p s next (Some n) = state_after_result s (state_after_start p s n.notice n.class n.time) (λ r. r)
+step_simulation program state next None = state_at_place next state
+step_simulation program state next (Some n) =
+    state_after_result state (state_after_start program state n.notice n.class n.time) (λ r. r)
 
 -- the external class that an item names
 abbrev pub external_class : ProgramTable → Option Item → Option ℕ
-external_class p o = position (λ c. (event_of_kind c.kind).external && item_writes c.name o) p.classes
+external_class program o = position (λ c. (event_of_kind c.kind).external && item_writes c.name o) program.classes
 
 -- the same, or F21
 abbrev pub class_named : Option ℕ → Result ℕ RunFault
@@ -157,35 +164,37 @@ class_named (Some c) = Ok c
 
 -- the state in which a new notice of class c waits for its entry
 abbrev pub state_after_arrival : ProgramTable → State → ℕ → ℤ → Result State RunFault
-state_after_arrival p s c time =
-    refuse_if (int_lt time s.clock) TimeBeforeClock >> with_new s.store c (class_of (tables_of p) c)
-    >>= λ st. state_after_scheduling p (state_with_store s st) c (last_reference st) time []
+state_after_arrival program state c time =
+    refuse_if (int_lt time state.clock) TimeBeforeClock >> with_new state.store c (class_of (tables_of program) c)
+    >>= λ st. state_after_scheduling program (state_with_store state st) c (last_reference st) time []
     >>= λ r. Ok (record r { entry = Waiting c (last_reference st) })
 
 -- the class and the time of the next entry of the data: F21, then F16 or F17
 abbrev pub arrival_asked : ProgramTable → State → Result (ℕ × ℤ) RunFault
-arrival_asked p s =
-    class_named (external_class p (slice_get s.feed.items s.feed.taken))
-    >>= λ c. value_or_fault (slice_get s.feed.items (s.feed.taken + 1)) >>= λ time. Ok (c, time)
+arrival_asked program state =
+    class_named (external_class program (slice_get state.feed.items state.feed.taken))
+    >>= λ c. value_or_fault (slice_get state.feed.items (state.feed.taken + 1)) >>= λ time. Ok (c, time)
 
 -- the state after the load of that entry
 abbrev pub state_after_load : ProgramTable → State → Result State RunFault
-state_after_load p s =
-    arrival_asked p s >>= λ a. state_after_arrival p (state_with_taken s (s.feed.taken + 2)) a.0 a.1
+state_after_load program state =
+    arrival_asked program state
+        >>= λ a. state_after_arrival program (state_with_taken state (state.feed.taken + 2)) a.0 a.1
 
 -- whether an entry of the data is to be loaded
 abbrev pub loads : ProgramTable → State → Bool
-loads p s = is_absent s.entry && nat_lt s.feed.taken (length s.feed.items) && has_external p
+loads program state = is_absent state.entry && nat_lt state.feed.taken (length state.feed.items) && has_external program
 
 -- START SIMULATION: the load of an entry, or the timing routine
 abbrev pub step_start : ProgramTable → State → ℕ → State
-step_start p s next =
-    if loads p s then state_after_result s (state_after_load p s) (λ r. r)
-    else step_simulation p s next (least (rules_of p) s.agenda.pending)
+step_start program state next =
+    if loads program state then state_after_result state (state_after_load program state) (λ r. r)
+    else step_simulation program state next (least (rules_of program) state.agenda.pending)
 
 -- one step of what schedules notices, takes them off, and starts events
 abbrev pub step_timing : ProgramTable → State → ℕ → Timing → State
-step_timing p s next (timings.Schedule x) = state_after_result s (state_after_schedule p s x) (state_at_place next)
-step_timing p s next (timings.Cancel c is_called e) =
-    state_after_result s (state_after_cancel (tables_of p) s c e) (state_at_place next)
-step_timing p s next timings.Start = step_start p s next
+step_timing program state next (timings.Schedule x) =
+    state_after_result state (state_after_schedule program state x) (state_at_place next)
+step_timing program state next (timings.Cancel c is_called e) =
+    state_after_result state (state_after_cancel (tables_of program) state c e) (state_at_place next)
+step_timing program state next timings.Start = step_start program state next
