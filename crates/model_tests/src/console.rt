@@ -4,7 +4,7 @@ mod counter;
 
 use counter::Counter;
 use ss_console::{
-    Answerer, Console, Cut, Entry, Go, LINE_LIMIT, MemoryConsole, PutFault, StreamConsole,
+    Answerer, Console, Cut, Entry, Go, LONGEST_LINE, MemoryConsole, PutFault, StreamConsole,
     converse, put_all,
 };
 use std::alloc::{AllocError, Global};
@@ -36,7 +36,7 @@ fn dialogue(
 ) -> Result<(Result<(), Cut>, Vec<u8>), AllocError> {
     let mut counter = Counter::new();
     let mut console = MemoryConsole::new(alloc, text, room, terminal);
-    let mut line = Vec::with_capacity(alloc, LINE_LIMIT + 1)?;
+    let mut line = Vec::with_capacity(alloc, LONGEST_LINE + 1)?;
     let mut answer = Vec::new(alloc);
     let ended = converse(&mut counter, &mut console, &mut line, &mut answer);
     let text = told(alloc, console.entries())?;
@@ -97,7 +97,7 @@ impl Answerer for Refused {
 #[test]
 fn a_refused_answer_is_told(rt: HostRuntime) -> Result<(), Fail> {
     let mut console = MemoryConsole::new(rt.alloc(), b"a\nb\nQUIT\nc", 100, false);
-    let mut line = Vec::with_capacity(rt.alloc(), LINE_LIMIT + 1)?;
+    let mut line = Vec::with_capacity(rt.alloc(), LONGEST_LINE + 1)?;
     let mut answer = Vec::new(rt.alloc());
     let ended = converse(&mut Refused, &mut console, &mut line, &mut answer);
     assert_eq!(rt; ended, Ok(()));
@@ -117,9 +117,9 @@ fn a_long_line_is_cut(rt: HostRuntime) -> Result<(), Fail> {
     }
     text.extend_from_slice(b"xyz\n")?;
     let mut console = MemoryConsole::new(rt.alloc(), &text, 0, false);
-    let mut line = Vec::with_capacity(rt.alloc(), LINE_LIMIT + 1)?;
+    let mut line = Vec::with_capacity(rt.alloc(), LONGEST_LINE + 1)?;
     assert_eq!(rt; console.read_line(&mut line), Ok(true));
-    assert_eq!(rt; line.len(), LINE_LIMIT + 1);
+    assert_eq!(rt; line.len(), LONGEST_LINE + 1);
     assert_eq!(rt; line.last(), Some(&b'x'));
     assert_eq!(rt; console.read_line(&mut line), Ok(false));
     Ok(())
@@ -145,7 +145,7 @@ impl Read for Broken {
 #[test]
 fn streams_are_read_and_written(rt: HostRuntime) -> Result<(), Fail> {
     let alloc = rt.alloc();
-    let mut line = Vec::with_capacity(alloc, LINE_LIMIT + 1)?;
+    let mut line = Vec::with_capacity(alloc, LONGEST_LINE + 1)?;
     let mut answer = Vec::new(alloc);
     let mut out = Vec::new(alloc);
     let mut counter = Counter::new();

@@ -32,7 +32,7 @@ set_targets typed column (s ∷ ss) = target typed column s.name ++ set_targets 
 abbrev pub name_targets : ProgramTable → ℕ → List ℕ → ℕ → List ℕ
 name_targets program section typed column =
     targets typed column program.globals ++ attribute_targets typed column program.classes
-        ++ set_targets typed column program.sets
+    ++ set_targets typed column program.sets
     ++ targets typed column (locals_in program section)
 
 -- those that may stand first in a line, or behind another word

@@ -8,7 +8,7 @@ use Rattle.ss_debug.specs.BreakLines.{without_line}
 use Rattle.ss_debug.specs.CommandLines.{separates, line_separators}
 use Rattle.ss_messages.specs.Messages.{Sent, event}
 use Rattle.ss_messages.specs.Shown.{new_point_body, removed_point_body}
-use Rattle.ss_adapter.specs.declared.desk.TheConstants.{WATCH_LIMIT}
+use Rattle.ss_adapter.specs.declared.desk.TheConstants.{MOST_WATCHED}
 use Rattle.ss_adapter.specs.Desk.{DeskView}
 use Rattle.ss_adapter.specs.Places.{next_line}
 
@@ -24,8 +24,8 @@ has_place program line = is_nearest line (next_line program line)
 -- what is told of a line, which is a break line now or not, and was one or not: its break point is new, or is removed
 abbrev pub point_told : ProgramTable → List ℕ → ℕ → Bool → Bool → List Sent
 point_told program path line true false =
-    event (codes "breakpoint") (new_point_body (line + WATCH_LIMIT) (has_place program line) line path) ∷ []
-point_told program path line false true = event (codes "breakpoint") (removed_point_body (line + WATCH_LIMIT)) ∷ []
+    event (codes "breakpoint") (new_point_body (line + MOST_WATCHED) (has_place program line) line path) ∷ []
+point_told program path line false true = event (codes "breakpoint") (removed_point_body (line + MOST_WATCHED)) ∷ []
 point_told program path line _ _ = []
 
 -- the break lines of requests, where a line became one, as if a request for lines had set it

@@ -9,7 +9,7 @@ use Rattle.ss_debug.specs.BreakLines.{breaks_after_set, without_line}
 use Rattle.ss_debug.specs.Answer.{break_text}
 use Rattle.ss_debug.specs.Turn.{DebuggerState, debugger_state_with}
 use Rattle.ss_messages.specs.Bodies.{set_item, unset_item}
-use Rattle.ss_adapter.specs.declared.desk.TheConstants.{WATCH_LIMIT}
+use Rattle.ss_adapter.specs.declared.desk.TheConstants.{MOST_WATCHED}
 
 -- the lines of the places of a section
 abbrev pub section_lines : SectionTable → List ℕ
@@ -34,7 +34,7 @@ next_line program from = fold (nearer_line from) None (place_lines program)
 
 -- the number of the break point of a line, behind those of data break points
 abbrev pub line_id : ℕ → Option ℕ
-line_id line = if nat_lt line (2 ^ 32) then Some (line + WATCH_LIMIT) else None
+line_id line = if nat_lt line (2 ^ 32) then Some (line + MOST_WATCHED) else None
 
 -- break lines that a request sets, one by one
 pub record Setting : Type 0 where
@@ -57,7 +57,7 @@ with_break setting line =
     else record {
       breaks = breaks_after_set setting.breaks line;
       set = setting.set ++ line ∷ [];
-      text = setting.text ++ set_item (line + WATCH_LIMIT) line;
+      text = setting.text ++ set_item (line + MOST_WATCHED) line;
     }
 
 -- a break line, if there is one, or this reason why there is none
@@ -84,7 +84,7 @@ first_place_line (Some s) = spot_line (slice_get s.places 0)
 abbrev pub named_line : ProgramTable → List ℕ → Option ℕ
 named_line program name =
     first_place_line (option_and_then (slice_get program.sections)
-        (position (λ s. bytes_eq name s.name) program.sections))
+    (position (λ s. bytes_eq name s.name) program.sections))
 
 -- the break line for a section that the request names
 abbrev pub with_named : ProgramTable → Setting → List ℕ → Setting

@@ -31,7 +31,7 @@ use Rattle.ss_messages.specs.Shown.{frames_body}
 use Rattle.ss_scopes.specs.Frames.{frames_page, frame_count}
 use Rattle.ss_scopes.specs.Variables.{scopes_text, variables_text}
 use Rattle.ss_adapter.specs.declared.fixed.TheConstants.{CAPABILITIES, THREADS, NO_EXIT}
-use Rattle.ss_adapter.specs.declared.setting.TheConstants.{POINT_LIMIT}
+use Rattle.ss_adapter.specs.declared.setting.TheConstants.{MOST_POINTS}
 use Rattle.ss_adapter.specs.declared.going.Going.{Going}
 use Rattle.ss_adapter.specs.declared.turns.Further.{Further}
 use Rattle.ss_adapter.specs.declared.turns.Further.TheVariants as further
@@ -108,7 +108,7 @@ abbrev pub stop_events : Input → DebuggerState → Bool → List ℕ → List 
 stop_events input debugger at_end answer =
     if is_over at_end (run input debugger.position).status then exit_events
     else stopped_event (reason_at input debugger.breaks debugger.position) (without_last answer)
-        (hit_at input debugger.breaks debugger.position) ∷ []
+    (hit_at input debugger.breaks debugger.position) ∷ []
 
 -- the one or the other, by the data break point in that place, if there is one
 abbrev pub end_by : Input → DebuggerState → Bool → List ℕ → ℕ → Option (List ℕ) → List Sent
@@ -125,13 +125,13 @@ end_of input debugger at_end watched answer (Some place) =
 abbrev pub behind_movement : Input → DeskView → DebuggerState → List ℕ → Option ℕ → List Sent
 behind_movement input desk debugger answer place =
     untold_output desk.told (report_at input debugger)
-        ++ end_of input debugger desk.stops.at_end desk.watched answer place
+    ++ end_of input debugger desk.stops.at_end desk.watched answer place
 
 -- what follows a movement by its answer
 abbrev pub behind_going : AdapterState → Going → List ℕ → List Sent
 behind_going state going answer =
     behind_movement state.input state.desk (state_behind state.input state.debugger going) answer
-        (watched_by going answer)
+    (watched_by going answer)
 
 -- a reply with a body, and a movement behind it
 abbrev pub reply_with_going : AdapterState → List ℕ → Going → List Sent
@@ -173,13 +173,13 @@ abbrev pub point_behind : AdapterState → PromptCommand → Option ℕ → List
 point_behind state command None = []
 point_behind state command (Some l) =
     point_told state.input.program state.desk.path l (is_break_behind state command l)
-        (is_break_line state.debugger.breaks l)
+    (is_break_line state.debugger.breaks l)
 
 -- what follows a command: behind a movement where it stopped, else whether a line has become a break line
 abbrev pub behind_command : AdapterState → PromptCommand → Bool → List Sent
 behind_command state command true =
     behind_movement state.input state.desk (console_after state command).debugger
-        (first_line (console_answer state command)) None
+    (first_line (console_answer state command)) None
 behind_command state command false = point_behind state command (point_of state.input.program command)
 
 -- a command of the console: what the prompt answers, and what follows it
@@ -205,7 +205,7 @@ first_lines n lines = take n lines
 abbrev pub setting_in : AdapterState → List ℕ → Setting
 setting_in state lines =
     setting_of state.input.program state.debugger.breaks state.desk.set state.desk.sections
-        (first_lines POINT_LIMIT lines)
+    (first_lines MOST_POINTS lines)
 
 -- the break lines behind a request that names sections
 abbrev pub sections_in : AdapterState → List (List ℕ) → Setting
@@ -375,7 +375,7 @@ abbrev pub behind_configuring : AdapterState → AdapterState
 behind_configuring state =
     once_configured
     (if state.desk.stops.at_start then state
-        else adapter_state_at state (state_behind state.input state.debugger (going_to_stop state)))
+    else adapter_state_at state (state_behind state.input state.debugger (going_to_stop state)))
 
 -- behind a request that asks for no movement
 unfoldable pub left_by : AdapterState → Command → AdapterState

@@ -12,7 +12,7 @@ use Rattle.ss_scopes.specs.declared.group.Group.{Group}
 use Rattle.ss_scopes.specs.declared.group.Group.TheVariants.{Globals, Sets, Events, Data, Run}
 use Rattle.ss_scopes.specs.declared.group.Group.TheVariants.{Locals, Entity, Set}
 use Rattle.ss_scopes.specs.References.{group_of}
-use Rattle.ss_adapter.specs.declared.desk.TheConstants.{WATCH_LIMIT}
+use Rattle.ss_adapter.specs.declared.desk.TheConstants.{MOST_WATCHED}
 use Rattle.ss_adapter.specs.Looking.{question_of}
 use Rattle.ss_adapter.specs.Words.{last_word}
 
@@ -33,9 +33,12 @@ with_refusal watching reason = record { watched = watching.watched; text = watch
 abbrev pub with_question : Watching → List ℕ → Bool → Watching
 with_question watching id false = with_refusal watching (codes "no question")
 with_question watching id true =
-    if nat_lt (length watching.watched) WATCH_LIMIT
-    then record { watched = watching.watched ++ id ∷ []; text = watching.text
-        ++ watched_item (length watching.watched + 1) }
+    if nat_lt (length watching.watched) MOST_WATCHED
+    then record {
+      watched = watching.watched ++ id ∷ [];
+      text = watching.text
+          ++ watched_item (length watching.watched + 1);
+    }
     else with_refusal watching (codes "too many data break points")
 
 -- one more

@@ -9,7 +9,7 @@ ghost use Rattle.ss_adapter.specs.Places.{without_lines, breaks_left};
 ghost use Rattle.ss_adapter.specs.Places.{with_next, with_asked, with_named, setting_of, section_setting_of};
 ghost use Rattle.ss_adapter.specs.Places.{IsSetting};
 
-use crate::desk::WATCH_LIMIT;
+use crate::desk::MOST_WATCHED;
 use ss_debug::{Command, Debugger, obey};
 use ss_links::SetBoard;
 use ss_messages::{Text, set_item, unset_item};
@@ -183,7 +183,11 @@ fn set_next<S: SetBoard>(
         return push_unset(alloc, text, b"too many break points");
     }
     set.extend_from_slice(&[line])?;
-    let item = set_item(alloc, u64::from(line) + WATCH_LIMIT as u64, u64::from(line))?;
+    let item = set_item(
+        alloc,
+        u64::from(line) + MOST_WATCHED as u64,
+        u64::from(line),
+    )?;
     text.extend_from_slice(&item)
 }
 

@@ -11,7 +11,7 @@ ghost use Rattle.ss_adapter.specs.Turn.{adapter_state_of, console_answer, consol
 ghost use Rattle.ss_adapter.specs.Turn.{behind_command, left_at, desk_after, answer_to_line, behind_line};
 
 use crate::breaks::next_line;
-use crate::desk::{Desk, WATCH_LIMIT};
+use crate::desk::{Desk, MOST_WATCHED};
 use crate::telling::tell_movement;
 use ss_debug::{Debugger, split_line};
 use ss_links::SetBoard;
@@ -80,7 +80,7 @@ fn tell_point(
     ensures { OnOk result (post.new ≡ posted_all request.now post.old
         (point_told program.now path.now line is_set was_set)) }
 {
-    let id = u64::from(line) + WATCH_LIMIT as u64;
+    let id = u64::from(line) + MOST_WATCHED as u64;
     let body = match (is_set, was_set) {
         (true, false) => {
             let has_place = has_place(program, line);

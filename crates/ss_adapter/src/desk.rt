@@ -7,7 +7,7 @@ use std::alloc::Global;
 use std::marker::Model;
 
 /// The most data break points. Their numbers are 1 to this one; those of break lines come behind.
-pub const WATCH_LIMIT: usize = 8;
+pub const MOST_WATCHED: usize = 8;
 
 /// What the adapter keeps beside the debugger.
 #[derive(Drop)]

@@ -8,7 +8,7 @@ ghost use Rattle.ss_adapter.specs.Looking.{reason_at, hit_at, is_end, is_over, e
 ghost use Rattle.ss_adapter.specs.Looking.{question_in, attribute_in, attribute_of, question_of};
 ghost use Rattle.ss_adapter.specs.Places.{line_id};
 
-use crate::desk::WATCH_LIMIT;
+use crate::desk::MOST_WATCHED;
 use crate::words::{before_word, last_word};
 use itoa::Buffer;
 use ss_debug::{Command, Debugger, Question as Shown, command};
@@ -55,7 +55,7 @@ fn line_id(line: usize) -> Option<u64>
     ensures { result ≡ line_id line }
 {
     match u32::try_from(line) {
-        Ok(line) => Some(u64::from(line) + WATCH_LIMIT as u64),
+        Ok(line) => Some(u64::from(line) + MOST_WATCHED as u64),
         Err(_) => None,
     }
 }

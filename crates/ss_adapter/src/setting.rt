@@ -15,7 +15,7 @@ use ss_messages::{Post, Request, Text, list_body};
 use std::alloc::AllocError;
 
 /// The most break points of a request for lines that are answered.
-const POINT_LIMIT: usize = 1_000;
+const MOST_POINTS: usize = 1_000;
 
 /// The first of some lines, so many at most.
 #[tactic(auto, unfolding(crate::specs::Turn::first_lines), using(std::proofs::lemmas::List::take_all))]
@@ -47,7 +47,7 @@ pub fn set_breaks<S: SetBoard>(
         (setting_in (adapter_state_of debugger.old desk.old) lines.now)) }
 {
     let mut text = Vec::new(post.alloc());
-    let asked = first_lines(lines, POINT_LIMIT);
+    let asked = first_lines(lines, MOST_POINTS);
     set_lines(
         post.alloc(),
         debugger,

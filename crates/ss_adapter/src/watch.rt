@@ -4,7 +4,7 @@ ghost use Rattle.ss_adapter.specs.Looking.{question_of};
 ghost use Rattle.ss_adapter.specs.Watch.{with_watched, watching_of, IsWatching, info_by, info_of};
 
 use crate::breaks::push_unset;
-use crate::desk::WATCH_LIMIT;
+use crate::desk::MOST_WATCHED;
 use crate::looking::question;
 use crate::shown::asked_text;
 use ss_messages::{Text, info_body, no_info_body, watched_item};
@@ -33,7 +33,7 @@ fn watch_one(
     if !is_question(alloc, id.as_slice())? {
         return push_unset(alloc, text, b"no question");
     }
-    if watched.len() >= WATCH_LIMIT {
+    if watched.len() >= MOST_WATCHED {
         return push_unset(alloc, text, b"too many data break points");
     }
     let item = watched_item(alloc, watched.len() as u64 + 1)?;

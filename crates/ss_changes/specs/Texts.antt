@@ -85,7 +85,7 @@ change_text word name before after =
 abbrev pub change_line : List ℕ → ProgramTable → State → Change → List ℕ
 change_line word program state change =
     change_text word (part_name program state change.part) (value_text program change.before)
-        (value_text program change.after) ++ 10 ∷ []
+    (value_text program change.after) ++ 10 ∷ []
 
 -- a text that is cut where it has too many columns
 abbrev pub cut_text : List ℕ → List ℕ
@@ -95,7 +95,7 @@ cut_text text = if nat_lt MOST_COLUMNS (length text) then take (MOST_COLUMNS - 3
 abbrev pub brief_line : List ℕ → ProgramTable → State → Change → List ℕ
 brief_line word program state change =
     cut_text (change_text word (part_name program state change.part) (brief_text program change.before)
-        (brief_text program change.after)) ++ 10 ∷ []
+    (brief_text program change.after)) ++ 10 ∷ []
 
 -- a line for each change
 abbrev pub change_lines : List ℕ → ProgramTable → State → List Change → List ℕ
@@ -132,7 +132,7 @@ changed_text input earliest p =
 unfoldable pub stop_changes : Input → ℕ → ℕ → List ℕ
 stop_changes input earliest p =
     if nat_lt earliest p then first_changes (codes "CHANGED") input.program (run input p) (changed_at input (p - 1))
-        else []
+    else []
 
 -- what is told at a stop that was reached going back: what the next step changes, if there is one
 unfoldable pub stop_changes_ahead : Input → ℕ → List ℕ

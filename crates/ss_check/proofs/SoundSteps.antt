@@ -3,6 +3,7 @@ use Rattle.std.proofs.Common.{◌≡◌, ◌≤◌, ◌<◌, ℕ, suc, ◌+◌, 
 use Rattle.std.proofs.Common.{refl, sym, ap, ◌∙◌, arith, append_assoc, length-append}
 use Rattle.std.specs.Prelude.{if◌then◌else◌, max}
 use Rattle.std.proofs.lemmas.Bool.{true≢false, false≢true}
+use Rattle.ss_words.specs.declared.limits.TheConstants.{MOST_PHRASES}
 use Rattle.ss_program.specs.declared.branch.Question.{Question}
 use Rattle.ss_program.specs.declared.branch.Branch.TheVariants.{If, Else, Always}
 use Rattle.ss_program.specs.declared.looping.Looping.TheVariants.{For, Loop, Find, Gather, Tell}
@@ -17,7 +18,7 @@ use Rattle.ss_program.specs.Match.{is_else, controls_next_place, bare_phrases, b
 use Rattle.ss_program.specs.Match.{chain_before, behind_body, next_place, behind_always, behind_false, behind_loop}
 use Rattle.ss_program.specs.Match.{next_of, ways_of}
 use Rattle.ss_program.specs.Nesting.{phrases_before, phrases_around, is_nested}
-use Rattle.ss_program.specs.ProgramSound.{GoesOn, is_end, loop_limit}
+use Rattle.ss_program.specs.ProgramSound.{GoesOn, is_end}
 use Rattle.ss_check.proofs.SoundShapes.{is_simple, if_at, else_at, always_at, Head, for_at, loop_at, find_at, gather_at}
 use Rattle.ss_check.proofs.SoundShapes.{tell_at, Block, no_statements, statement, Statement, alone, loop, One, simple}
 use Rattle.ss_check.proofs.SoundShapes.{branch, Otherwise, no_else, else_with, Controlled, further, repeated, single}
@@ -36,7 +37,7 @@ use Rattle.ss_check.proofs.SoundNesting.{goes_there, goes_back, goes_same, goes_
 abbrev pub Exits : ℕ → Ways → Place → Type 0
 Exits count w (Branch (If q)) = w.exit < count
 Exits count w (Looping (For f)) = w.exit < count
-Exits count w (Looping Find) = w.chain ≤ loop_limit
+Exits count w (Looping Find) = w.chain ≤ MOST_PHRASES
 Exits count w other = Unit {0}
 
 pub record IsStep (ps : List Spot) (i : ℕ) (x : Place) : Type 0 where
@@ -194,7 +195,7 @@ module _ (ps : List Spot) where
   }
 
   find_step : (i : ℕ) (outer : List ℕ) → drop (chain_before ps i) (phrases_around ps i) ≡ outer →
-      chain_before ps i ≤ loop_limit →
+      chain_before ps i ≤ MOST_PHRASES →
       Goes ps outer (i + 1) → IsStep ps i (Looping Find)
   find_step i outer e l g = record {
     next = g.place;
@@ -316,9 +317,9 @@ module _ (ps : List Spot) where
     before : ℕ
     count : bare_phrases b ≡ before
     outside : drop before js ≡ outer
-    few : before + more ≤ loop_limit
+    few : before + more ≤ MOST_PHRASES
 
-  chain_none : (b : List Spot) (js : List ℕ) (more : ℕ) → front_is controls_next_place b ≡ false → more ≤ loop_limit →
+  chain_none : (b : List Spot) (js : List ℕ) (more : ℕ) → front_is controls_next_place b ≡ false → more ≤ MOST_PHRASES →
       Chain b js js more
   chain_none b js more e l = record { before = 0; count = bare_none b e; outside = refl; few = omega (arith, l) }
 
@@ -345,7 +346,7 @@ module _ (ps : List Spot) where
   mutual
     block_steps : (B : Block) (i m : ℕ) (js : List ℕ) (b r : List Spot) → At ps i b (flat_block B ++ r) →
         front_is controls_next_place b ≡ false →
-        Open ps i m js → i + length (flat_block B) < m → m ≤ length ps → phrases_block B ≤ loop_limit →
+        Open ps i m js → i + length (flat_block B) < m → m ≤ length ps → phrases_block B ≤ MOST_PHRASES →
         AreSteps ps i (flat_block B)
     block_steps no_statements i m js b r h n o l s p = tt
     block_steps (statement t B) i m js b r h n o l s p =
@@ -361,7 +362,7 @@ module _ (ps : List Spot) where
 
     statement_steps : (t : Statement) (i m : ℕ) (js : List ℕ) (b r : List Spot) → At ps i b (flat_statement t ++ r) →
         front_is controls_next_place b ≡ false →
-        Open ps i m js → i + length (flat_statement t) < m → m ≤ length ps → phrases_statement t ≤ loop_limit →
+        Open ps i m js → i + length (flat_statement t) < m → m ≤ length ps → phrases_statement t ≤ MOST_PHRASES →
         AreSteps ps i (flat_statement t)
     statement_steps (alone o) i m js b r h n op l s p =
         let z = i + length (flat_one o) in
@@ -384,7 +385,7 @@ module _ (ps : List Spot) where
     one_steps : (o : One) (i m k : ℕ) (js : List ℕ) (b r : List Spot) → At ps i b (flat_one o ++ r) → Open ps i m js →
         i + length (flat_one o) ≤ m → m ≤ length ps → Goes ps js k →
         k ≡ (if front_is controls_next_place b then i - 1 else i + length (flat_one o)) →
-        phrases_one o ≤ loop_limit → AreSteps ps i (flat_one o)
+        phrases_one o ≤ MOST_PHRASES → AreSteps ps i (flat_one o)
     one_steps (simple x e) i m k js b r h op l s g a p =
         (simple_step i k js x.place e (around_is ps i m js op (omega (arith, l))) (next_is i b (x ∷ r) h ∙ sym a) g, tt)
     one_steps (branch v q B o w) i m k js b r h op l s g a p =
@@ -433,7 +434,7 @@ module _ (ps : List Spot) where
 
     otherwise_steps : (o : Otherwise) (i m w : ℕ) (js : List ℕ) (b r : List Spot) →
         At ps i b (flat_otherwise o ++ always_at w ∷ r) → Open ps i m js →
-        i + length (flat_otherwise o) < m → m ≤ length ps → phrases_otherwise o ≤ loop_limit →
+        i + length (flat_otherwise o) < m → m ≤ length ps → phrases_otherwise o ≤ MOST_PHRASES →
         AreSteps ps i (flat_otherwise o)
     otherwise_steps no_else i m w js b r h op l s p = tt
     otherwise_steps (else_with v B) i m w js b r h op l s p =
@@ -551,7 +552,7 @@ module _ (ps : List Spot) where
 -- ---- a section
 
 -- the places of a tree and the END behind them
-pub section_steps : (B : Block) (l : ℕ) → phrases_block B ≤ loop_limit →
+pub section_steps : (B : Block) (l : ℕ) → phrases_block B ≤ MOST_PHRASES →
     AreSteps (flat_block B ++ record { line = l; place = Control End } ∷ []) 0
     (flat_block B ++ record { line = l; place = Control End } ∷ [])
 section_steps B l p =

@@ -24,7 +24,7 @@ item_statements declared before (x ∷ xs) =
 abbrev pub section_statements : Declared → Declared → Section → List Statement
 section_statements d b section =
     head_statement d b section
-        ∷ (map (local_statement d) section.locals ++ place_statements d (is_main section.head) false section.places)
+    ∷ (map (local_statement d) section.locals ++ place_statements d (is_main section.head) false section.places)
 
 -- sections behind items and other heads
 abbrev pub sections_statements : Declared → List HeadedItem → List Head → List Section → List Statement

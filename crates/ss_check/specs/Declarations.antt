@@ -71,7 +71,7 @@ abbrev pub headed_items_under : Option Heading → List ItemAt → List HeadedIt
 headed_items_under heading [] = []
 headed_items_under heading (i ∷ is) =
     record { line = i.line; heading = heading_at heading i.item; item = i.item }
-        ∷ headed_items_under (heading_at heading i.item) is
+    ∷ headed_items_under (heading_at heading i.item) is
 
 -- the items of a preamble
 abbrev pub headed_items : List ItemAt → List HeadedItem

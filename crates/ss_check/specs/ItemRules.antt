@@ -163,8 +163,10 @@ module _ (d b : Declared) where
 -- a local DEFINE with the rules that it breaks; C1: a name that is declared
 abbrev pub local_statement : Declared → LocalNames → Statement
 local_statement declared locals =
-    record { line = locals.line;
-        breaks = rule_where DeclaredTwice (list_any (is_declared declared) (all_of locals.names)) }
+    record {
+      line = locals.line;
+      breaks = rule_where DeclaredTwice (list_any (is_declared declared) (all_of locals.names));
+    }
 
 -- the lowest rule that a local DEFINE breaks
 unfoldable pub local_rule : Declared → LocalNames → Option CheckRule

@@ -139,7 +139,7 @@ use_breaks declared us =
 abbrev pub standing_breaks : Bool → Bool → Place → List CheckRule
 standing_breaks in_main behind_find place =
     rule_where StartOutsideMain (is_start place && not in_main)
-        ++ rule_where WithoutFind (asks_find place && not behind_find)
+    ++ rule_where WithoutFind (asks_find place && not behind_find)
 
 -- a place, with what it uses, and the rules that it breaks
 abbrev pub place_statement : Declared → Bool → Bool → List Use → Spot → Statement
@@ -161,4 +161,4 @@ abbrev pub place_statements : Declared → Bool → Bool → List Spot → List 
 place_statements declared in_main behind_find [] = []
 place_statements declared in_main behind_find (p ∷ ps) =
     place_statement declared in_main behind_find (uses_from p.place ps) p
-        ∷ place_statements declared in_main (is_find p.place) ps
+    ∷ place_statements declared in_main (is_find p.place) ps

@@ -8,5 +8,5 @@ abbrev pub on_line : ℕ → WordAt → WordAt
 on_line line word = record { line = line; kind = word.kind }
 
 -- the words where each has its number, from 0, for its line: each stands on a line of its own
-abbrev pub numbered : List WordAt → List WordAt
-numbered ws = map (λ e. on_line e.0 e.1) (enumerate_from 0 ws)
+abbrev pub words_by_number : List WordAt → List WordAt
+words_by_number ws = map (λ e. on_line e.0 e.1) (enumerate_from 0 ws)

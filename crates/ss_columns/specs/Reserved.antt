@@ -16,13 +16,13 @@ is_kind_among table (sign s) = false
 is_kind_among table (picture ls) = false
 
 -- the reserved words
-unfoldable pub reserved : List (List ℕ)
-reserved = map (λ row. row.now) RESERVED
+unfoldable pub reserved_words : List (List ℕ)
+reserved_words = map (λ row. row.now) RESERVED
 
 -- those of them that are dropped, unless they stand directly behind these
-unfoldable pub dropped : List (List ℕ)
-dropped = map (λ row. row.now) DROPPED
+unfoldable pub dropped_words : List (List ℕ)
+dropped_words = map (λ row. row.now) DROPPED
 
 -- SCHEDULE and CAUSE
-unfoldable pub scheduling : List (List ℕ)
-scheduling = map (λ row. row.now) SCHEDULING
+unfoldable pub scheduling_words : List (List ℕ)
+scheduling_words = map (λ row. row.now) SCHEDULING

@@ -1,7 +1,7 @@
 //! Words with their numbers in the places of their lines.
 ghost use Rattle.std.specs.Prelude.{◌≡◌, IfOk, map, take};
 ghost use Rattle.ss_words.specs.Words.{kind_of, word_at};
-ghost use Rattle.ss_columns.specs.Numbers.{numbered};
+ghost use Rattle.ss_columns.specs.Numbers.{words_by_number};
 
 use ss_words::{Word, WordKind, Words};
 use std::alloc::{AllocError, Global};
@@ -32,7 +32,7 @@ pub fn copied_kind(alloc: Global, kind: &WordKind) -> Result<WordKind, AllocErro
 
 /// The words, each with its number, from 0, for its line.
 fn numbered(alloc: Global, words: &[Word]) -> Result<Vec<Word>, AllocError>
-    ensures { IfOk result (λ copy. map word_at copy.items ≡ numbered (map word_at words.now)) }
+    ensures { IfOk result (λ copy. map word_at copy.items ≡ words_by_number (map word_at words.now)) }
 {
     let mut list = Vec::with_capacity(alloc, words.len())?;
     for (line, word) in words.iter().enumerate() {
@@ -45,7 +45,7 @@ fn numbered(alloc: Global, words: &[Word]) -> Result<Vec<Word>, AllocError>
 /// The first words of a list, so many of them, each with its number, from 0, for its line.
 #[tactic(auto, using(crate::proofs::Takes::takes))]
 pub fn numbered_words(alloc: Global, words: &Words, count: usize) -> Result<Words, AllocError>
-    ensures { IfOk result (λ copy. copy ≡ numbered (take count words.now)) }
+    ensures { IfOk result (λ copy. copy ≡ words_by_number (take count words.now)) }
 {
     let list = numbered(alloc, &words.list[..count.min(words.list.len())])?;
     Ok(Words { list })

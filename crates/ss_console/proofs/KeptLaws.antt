@@ -9,50 +9,50 @@ use Rattle.std.proofs.lemmas.List.Folds.{list_any-append}
 use Rattle.std.proofs.Math.ListN.{length-set}
 use Rattle.ss_console.specs.Lines.{is_stop, keep}
 use Rattle.ss_console.specs.Laws.{ShortLinesAreKept, LongLinesAreCut, WordsAreKept}
-use Rattle.ss_console.specs.declared.lines.TheConstants.{LINE_LIMIT}
+use Rattle.ss_console.specs.declared.lines.TheConstants.{LONGEST_LINE}
 
-within_limit : (n : ℕ) → n ≤ LINE_LIMIT → nat_le n LINE_LIMIT ≡ true
+within_limit : (n : ℕ) → n ≤ LONGEST_LINE → nat_le n LONGEST_LINE ≡ true
 within_limit n h = grind (arith, nat_tests)
 
-past_limit : (n : ℕ) → LINE_LIMIT < n → nat_le n LINE_LIMIT ≡ false
+past_limit : (n : ℕ) → LONGEST_LINE < n → nat_le n LONGEST_LINE ≡ false
 past_limit n h = grind (arith, nat_tests)
 
-keep_short : (line : List ℕ) (b : ℕ) → length line ≤ LINE_LIMIT → keep line b ≡ line ++ b ∷ []
+keep_short : (line : List ℕ) (b : ℕ) → length line ≤ LONGEST_LINE → keep line b ≡ line ++ b ∷ []
 keep_short line b h = rw (within_limit (length line) h) refl
 
-fold_short : (line bs : List ℕ) → length line + length bs ≤ LINE_LIMIT → fold keep line bs ≡ line ++ bs
+fold_short : (line bs : List ℕ) → length line + length bs ≤ LONGEST_LINE → fold keep line bs ≡ line ++ bs
 fold_short line [] h = sym (append-nil line)
 fold_short line (b ∷ bs) h =
-    let short : length line ≤ LINE_LIMIT = omega arith in
-    let more : length (line ++ b ∷ []) + length bs ≤ LINE_LIMIT = rw length-append (omega arith) in
+    let short : length line ≤ LONGEST_LINE = omega arith in
+    let more : length (line ++ b ∷ []) + length bs ≤ LONGEST_LINE = rw length-append (omega arith) in
     rw (keep_short line b short) (fold_short (line ++ b ∷ []) bs more ∙ append_assoc line (b ∷ []) bs)
 
 pub short_lines_are_kept : ShortLinesAreKept
 short_lines_are_kept line h = fold_short [] line (omega arith)
 
 -- past the limit the length stays
-keep_long : (line : List ℕ) (b : ℕ) → LINE_LIMIT < length line → length (keep line b) ≡ length line
+keep_long : (line : List ℕ) (b : ℕ) → LONGEST_LINE < length line → length (keep line b) ≡ length line
 keep_long line b h =
     rw (past_limit (length line) h)
-    (elim (is_stop (slice_index line LINE_LIMIT))
-    as (λ t. length (cond t (slice_set line LINE_LIMIT b) line) ≡ length line) [
+    (elim (is_stop (slice_index line LONGEST_LINE))
+    as (λ t. length (cond t (slice_set line LONGEST_LINE b) line) ≡ length line) [
       | true ↦ rw length-set refl
       | false ↦ refl
     ])
 
-fold_long : (line bs : List ℕ) → length line ≤ LINE_LIMIT + 1 → LINE_LIMIT < length line + length bs →
-    length (fold keep line bs) ≡ LINE_LIMIT + 1
+fold_long : (line bs : List ℕ) → length line ≤ LONGEST_LINE + 1 → LONGEST_LINE < length line + length bs →
+    length (fold keep line bs) ≡ LONGEST_LINE + 1
 fold_long line [] h l = omega arith
 fold_long line (b ∷ bs) h l =
-    elim (nat_le (length line) LINE_LIMIT) as (λ t. nat_le (length line) LINE_LIMIT ≡ t →
-    length (fold keep (keep line b) bs) ≡ LINE_LIMIT + 1) [
+    elim (nat_le (length line) LONGEST_LINE) as (λ t. nat_le (length line) LONGEST_LINE ≡ t →
+    length (fold keep (keep line b) bs) ≡ LONGEST_LINE + 1) [
       | true ↦ λ e.
-          let short : length line ≤ LINE_LIMIT = leb-true _ _ e in
+          let short : length line ≤ LONGEST_LINE = leb-true _ _ e in
           let grown : length (keep line b) ≡ length line + 1 =
           ap length (keep_short line b short) ∙ length-append line (b ∷ []) in
           fold_long (keep line b) bs (omega arith) (omega arith)
       | false ↦ λ e.
-          let long : LINE_LIMIT < length line = grind (arith, nat_tests) in
+          let long : LONGEST_LINE < length line = grind (arith, nat_tests) in
           let same : length (keep line b) ≡ length line = keep_long line b long in
           fold_long (keep line b) bs (omega arith) (omega arith)
     ]
@@ -94,21 +94,21 @@ words_at [] i h e = absurd (omega arith)
 words_at (x ∷ xs) zero h e = rw e refl
 words_at (x ∷ xs) (suc i) h e = rw (words_at xs i (omega arith) e) (or_comm (is_of_word x) true)
 
-words_kept_long : (line : List ℕ) (b : ℕ) → LINE_LIMIT < length line →
+words_kept_long : (line : List ℕ) (b : ℕ) → LONGEST_LINE < length line →
     list_any is_of_word (keep line b) ≡ (list_any is_of_word line || is_of_word b)
 words_kept_long line b h =
     rw (past_limit (length line) h)
-    (elim (is_stop (slice_index line LINE_LIMIT)) as (λ t. is_stop (slice_index line LINE_LIMIT) ≡ t →
-    list_any is_of_word (cond t (slice_set line LINE_LIMIT b) line) ≡ (list_any is_of_word line || is_of_word b)) [
-      | true ↦ λ e. words_after_set line LINE_LIMIT b h e
-      | false ↦ λ e. rw (words_at line LINE_LIMIT h e) refl
+    (elim (is_stop (slice_index line LONGEST_LINE)) as (λ t. is_stop (slice_index line LONGEST_LINE) ≡ t →
+    list_any is_of_word (cond t (slice_set line LONGEST_LINE b) line) ≡ (list_any is_of_word line || is_of_word b)) [
+      | true ↦ λ e. words_after_set line LONGEST_LINE b h e
+      | false ↦ λ e. rw (words_at line LONGEST_LINE h e) refl
     ]
     refl)
 
 words_kept_once : (line : List ℕ) (b : ℕ) →
     list_any is_of_word (keep line b) ≡ (list_any is_of_word line || is_of_word b)
 words_kept_once line b =
-    elim (nat_le (length line) LINE_LIMIT) as (λ t. nat_le (length line) LINE_LIMIT ≡ t →
+    elim (nat_le (length line) LONGEST_LINE) as (λ t. nat_le (length line) LONGEST_LINE ≡ t →
     list_any is_of_word (keep line b) ≡ (list_any is_of_word line || is_of_word b)) [
       | true ↦ λ e.
           ap (λ v. list_any is_of_word v) (keep_short line b (leb-true _ _ e))

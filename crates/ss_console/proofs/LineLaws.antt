@@ -9,20 +9,20 @@ use Rattle.std.proofs.lemmas.Bool.Decides.{nat_tests}
 use Rattle.std.proofs.Math.ListN.{length-set}
 use Rattle.ss_console.specs.Lines.{lines, is_stop, keep, kept_part, known_lines, Gives, IsAtEnd}
 use Rattle.ss_console.specs.Faults.{lines_read}
-use Rattle.ss_console.specs.declared.lines.TheConstants.{LINE_LIMIT, LINE_FEED}
+use Rattle.ss_console.specs.declared.lines.TheConstants.{LONGEST_LINE, LINE_FEED}
 use Rattle.ss_console.proofs.KnownBytes.{consumes_none, consumes_then}
 
 -- ---- what is kept of a line
 
 length-keep : (line : List ℕ) (b : ℕ) → length line ≤ length (keep line b)
 length-keep line b =
-    elim (nat_le (length line) LINE_LIMIT)
+    elim (nat_le (length line) LONGEST_LINE)
     as (λ t. length line
     ≤ length (cond t (line ++ b ∷ [])
-    (cond (is_stop (slice_index line LINE_LIMIT)) (slice_set line LINE_LIMIT b) line))) [
+    (cond (is_stop (slice_index line LONGEST_LINE)) (slice_set line LONGEST_LINE b) line))) [
       | true ↦ rw length-append (omega arith)
-      | false ↦ elim (is_stop (slice_index line LINE_LIMIT))
-          as (λ t. length line ≤ length (cond t (slice_set line LINE_LIMIT b) line)) [
+      | false ↦ elim (is_stop (slice_index line LONGEST_LINE))
+          as (λ t. length line ≤ length (cond t (slice_set line LONGEST_LINE b) line)) [
             | true ↦ rw length-set (omega arith)
             | false ↦ omega arith
           ]

@@ -8,7 +8,7 @@ use Rattle.ss_console.specs.Lines.{is_stop, kept_part}
 use Rattle.ss_console.specs.Meaning.{Meaning}
 use Rattle.ss_console.specs.Dialogue.{Turn, answered, refused, prompt, events, state_after_all, EndsByInput}
 use Rattle.ss_console.specs.Dialogue.{EndsByLine}
-use Rattle.ss_console.specs.declared.lines.TheConstants.{LINE_LIMIT}
+use Rattle.ss_console.specs.declared.lines.TheConstants.{LONGEST_LINE}
 
 -- ---- the batch
 
@@ -64,11 +64,11 @@ AnswersComeFirst m =
 
 -- a line within the limit is kept whole
 abbrev pub ShortLinesAreKept : Type 0
-ShortLinesAreKept = (line : List ℕ) → length line ≤ LINE_LIMIT → kept_part line ≡ line
+ShortLinesAreKept = (line : List ℕ) → length line ≤ LONGEST_LINE → kept_part line ≡ line
 
 -- of a longer one a byte more than the limit is kept
 abbrev pub LongLinesAreCut : Type 0
-LongLinesAreCut = (line : List ℕ) → LINE_LIMIT < length line → length (kept_part line) ≡ LINE_LIMIT + 1
+LongLinesAreCut = (line : List ℕ) → LONGEST_LINE < length line → length (kept_part line) ≡ LONGEST_LINE + 1
 
 -- what is kept has a word where the line has one
 abbrev pub WordsAreKept : Type 0

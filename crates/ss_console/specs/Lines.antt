@@ -3,7 +3,7 @@ use Rattle.std.specs.Prelude.{ℕ, ◌≡◌, Bool, ◌||◌, ◌==◌, nat_le, 
 use Rattle.std.specs.Prelude.{slice_set}
 use Rattle.std.specs.Prelude.{if◌then◌else◌, Option, Some, None, option_map, ⊤}
 use Rattle.std.specs.Io.KnownBytes.{Consumes, IsAtEnd as IsAtEndOfBytes}
-use Rattle.ss_console.specs.declared.lines.TheConstants.{LINE_LIMIT, LINE_FEED}
+use Rattle.ss_console.specs.declared.lines.TheConstants.{LONGEST_LINE, LINE_FEED}
 
 -- a byte in front of the first line
 abbrev pub onto_first : ℕ → List (List ℕ) → List (List ℕ)
@@ -22,8 +22,8 @@ is_stop b = b == 32 || b == 9 || b == 13
 -- one more byte of a line; past the limit one byte is kept, a stop only where no other came
 abbrev pub keep : List ℕ → ℕ → List ℕ
 keep line b =
-    if nat_le (length line) LINE_LIMIT then line ++ b ∷ []
-    else (if is_stop (slice_index line LINE_LIMIT) then slice_set line LINE_LIMIT b else line)
+    if nat_le (length line) LONGEST_LINE then line ++ b ∷ []
+    else (if is_stop (slice_index line LONGEST_LINE) then slice_set line LONGEST_LINE b else line)
 
 -- what is kept of a line
 abbrev pub kept_part : List ℕ → List ℕ

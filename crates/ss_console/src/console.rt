@@ -4,7 +4,7 @@ ghost use Rattle.ss_console.specs.Event.{Event, Adds, write_events};
 ghost use Rattle.ss_console.specs.Lines.{Gives, IsAtEnd};
 ghost use Rattle.ss_console.specs.Faults.{Faults, count_taken, lines_read, read_events, faults_after_read};
 ghost use Rattle.ss_console.specs.Faults.{faults_after_put};
-ghost use Rattle.ss_console.specs.declared.lines.TheConstants.{LINE_LIMIT};
+ghost use Rattle.ss_console.specs.declared.lines.TheConstants.{LONGEST_LINE};
 
 use thiserror::Error;
 
@@ -33,16 +33,16 @@ pub trait Console {
     ghost terminal: { Self → Bool };
 
     /// Reads the next line, without its line feed; a last line needs none. `false` at the end of
-    /// input. At most LINE_LIMIT + 1 bytes of a line are kept, in the room that the line has; the
+    /// input. At most LONGEST_LINE + 1 bytes of a line are kept, in the room that the line has; the
     /// rest is passed over. After a fault nothing is said of the lines that are left.
     fn read_line(&mut self, line: &mut Vec<u8>) -> Result<bool, ReadFault>
-        requires room { LINE_LIMIT < vec_capacity line.old }
+        requires room { LONGEST_LINE < vec_capacity line.old }
         requires count { (faults self.old).reads < 2 ^ 64 - 1 }
         ensures told { Adds (log self.old) (log self.new) (read_events result line.new.items) }
         ensures lines { IfOk result
             (λ some. Gives (left self.old) (left self.new) (lines_read some line.new.items)) }
         ensures end { result ≡ Ok false → IsAtEnd (left self.new) }
-        ensures room { LINE_LIMIT < vec_capacity line.new }
+        ensures room { LONGEST_LINE < vec_capacity line.new }
         ensures faults { faults self.new ≡ faults_after_read result (faults self.old) }
         ensures terminal { terminal self.new ≡ terminal self.old };
 

@@ -4,7 +4,7 @@ ghost use Rattle.ss_console.specs.Dialogue.{EndsByInput, EndsByLine, EndsByRead,
 ghost use Rattle.ss_console.specs.Dialogue.{EndsByCount};
 ghost use Rattle.ss_console.specs.Reply.{IsReply};
 ghost use Rattle.ss_console.specs.Cut.{faults_after};
-ghost use Rattle.ss_console.specs.declared.lines.TheConstants.{LINE_LIMIT};
+ghost use Rattle.ss_console.specs.declared.lines.TheConstants.{LONGEST_LINE};
 
 use crate::answerer::{Answerer, Go};
 use crate::console::Console;
@@ -34,7 +34,7 @@ pub fn converse<A: Answerer, C: Console>(
     line: &mut Vec<u8>,
     answer: &mut Vec<u8>,
 ) -> Result<(), Cut>
-    requires room { LINE_LIMIT < vec_capacity line.old }
+    requires room { LONGEST_LINE < vec_capacity line.old }
     requires reads { (C.faults console.old).reads < 2 ^ 64 - 1 }
     requires puts { (C.faults console.old).puts < 2 ^ 64 - 1 }
 
@@ -58,7 +58,7 @@ pub fn converse<A: Answerer, C: Console>(
         (C.log console.old) (C.log console.new) }
 
     // The line keeps its room.
-    ensures room { LINE_LIMIT < vec_capacity line.new }
+    ensures room { LONGEST_LINE < vec_capacity line.new }
 
     // It is cut short by exactly the one call that failed.
     ensures faults { C.faults console.new ≡ faults_after result (C.faults console.old) }

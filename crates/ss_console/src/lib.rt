@@ -20,7 +20,7 @@ pub use cut::Cut;
 pub use dialogue::converse;
 pub use entry::Entry;
 pub use laws::{answers_come_first, dialogue_writes_the_batch, kept_lines_tell_enough};
-pub use lines::LINE_LIMIT;
+pub use lines::LONGEST_LINE;
 pub use memory::MemoryConsole;
 pub use puts::{put_all, put_texts};
 pub use stream::StreamConsole;

@@ -7,7 +7,7 @@ use crate::console::ReadFault;
 use std::io::{ErrorKind, Read};
 
 /// The most bytes of a line that is obeyed.
-pub const LINE_LIMIT: usize = 200;
+pub const LONGEST_LINE: usize = 200;
 
 /// What ends a line.
 const LINE_FEED: u8 = b'\n';
@@ -21,14 +21,14 @@ fn is_stop(byte: u8) -> bool
 
 /// Keeps one more byte of a line. Past the limit one byte is kept, a stop only where no other came.
 fn keep(line: &mut Vec<u8>, byte: u8)
-    requires { LINE_LIMIT < vec_capacity line.old }
+    requires { LONGEST_LINE < vec_capacity line.old }
     ensures kept { line.new.items ≡ keep line.old.items byte }
-    ensures room { LINE_LIMIT < vec_capacity line.new }
+    ensures room { LONGEST_LINE < vec_capacity line.new }
 {
-    if line.len() <= LINE_LIMIT {
+    if line.len() <= LONGEST_LINE {
         let _ = line.push(byte);
-    } else if is_stop(line[LINE_LIMIT]) {
-        line[LINE_LIMIT] = byte;
+    } else if is_stop(line[LONGEST_LINE]) {
+        line[LONGEST_LINE] = byte;
     }
 }
 
@@ -55,11 +55,11 @@ fn next_byte<R: Read>(reader: &mut R) -> Result<Option<u8>, ReadFault>
 
 /// The next line of a reader, without its line feed; a last line needs none. `false` at the end.
 pub(crate) fn next_line<R: Read>(reader: &mut R, line: &mut Vec<u8>) -> Result<bool, ReadFault>
-    requires { LINE_LIMIT < vec_capacity line.old }
+    requires { LONGEST_LINE < vec_capacity line.old }
     ensures lines { IfOk result (λ some. Gives (known_lines (R.remaining reader.old))
         (known_lines (R.remaining reader.new)) (lines_read some line.new.items)) }
     ensures end { result ≡ Ok false → IsAtEnd (known_lines (R.remaining reader.new)) }
-    ensures room { LINE_LIMIT < vec_capacity line.new }
+    ensures room { LONGEST_LINE < vec_capacity line.new }
 {
     line.clear();
     for _ in 0..u64::MAX {

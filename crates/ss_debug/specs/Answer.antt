@@ -108,7 +108,7 @@ variable_named input p name =
     if bytes_eq name (codes "TIME.V") then Some Clock
     else option_or (option_map Global (position (bytes_eq name) input.program.globals))
     (option_map Local (position (bytes_eq name)
-        (locals_of (slice_get input.program.sections (run input p).frame.section))))
+    (locals_of (slice_get input.program.sections (run input p).frame.section))))
 
 -- the line of a variable of this name, or that there is none
 abbrev pub value_line : Input → ℕ → List ℕ → Option Variable → List ℕ

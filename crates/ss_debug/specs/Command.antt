@@ -4,7 +4,7 @@ use Rattle.std.specs.Prelude.{nat_lt, codes}
 use Rattle.std.specs.Char.{to_ascii_uppercase}
 use Rattle.std.specs.Str.{bytes_eq}
 use Rattle.ss_debug.specs.CommandLines.{command_words, number_within, name_of}
-use Rattle.ss_debug.specs.declared.limits.TheConstants.{LINE_LIMIT, GREATEST_BOUND, GREATEST_KEPT, GREATEST_LINE}
+use Rattle.ss_debug.specs.declared.limits.TheConstants.{LONGEST_LINE, GREATEST_BOUND, GREATEST_KEPT, GREATEST_LINE}
 use Rattle.ss_debug.specs.declared.limits.TheConstants.{GREATEST_TIME, GREATEST_ENTITY}
 use Rattle.ss_debug.specs.declared.commands.Command.{Command}
 use Rattle.ss_debug.specs.declared.commands.Command.TheVariants.{Blank, Bad, Move, Break, Clear, Forget, Show, Quit}
@@ -120,5 +120,5 @@ command_of_long_line (word ∷ more) = Bad
 -- what a line says; one that is too long is bad, unless it has no words
 unfoldable pub command_of : List ℕ → Command
 command_of line =
-    if nat_lt LINE_LIMIT (length line) then command_of_long_line (command_words line)
+    if nat_lt LONGEST_LINE (length line) then command_of_long_line (command_words line)
     else command_in_words (command_words (map to_ascii_uppercase line))

@@ -6,7 +6,7 @@ use Rattle.std.specs.Char.{is_ascii_digit}
 use Rattle.ss_words.specs.TextBytes.{in_run}
 use Rattle.ss_words.specs.TextLines.{without_empty_last}
 use Rattle.ss_words.specs.TextRuns.{without_stops, has_letter, number_of}
-use Rattle.ss_debug.specs.declared.limits.TheConstants.{NAME_LIMIT}
+use Rattle.ss_debug.specs.declared.limits.TheConstants.{LONGEST_NAME}
 
 -- whether a byte is one of these separators
 abbrev pub separates : List ℕ → ℕ → Bool
@@ -42,7 +42,7 @@ number_within low high word =
 
 -- a run of the language with a letter, no longer than a name may be
 abbrev pub is_command_name : List ℕ → Bool
-is_command_name word = list_all in_run word && has_letter word && nat_le (length word) NAME_LIMIT
+is_command_name word = list_all in_run word && has_letter word && nat_le (length word) LONGEST_NAME
 
 -- the name that a word in upper case is, if it is one
 unfoldable pub name_of : List ℕ → Option (List ℕ)

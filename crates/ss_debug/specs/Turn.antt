@@ -64,8 +64,11 @@ debugger_state_with debugger breaks =
 -- the same, where nothing before the position to which BACK n goes is kept
 abbrev pub debugger_state_after_forget : DebuggerState → ℕ → DebuggerState
 debugger_state_after_forget debugger n =
-    record { position = debugger.position; earliest = back_end debugger.earliest debugger.position n;
-        breaks = debugger.breaks }
+    record {
+      position = debugger.position;
+      earliest = back_end debugger.earliest debugger.position n;
+      breaks = debugger.breaks;
+    }
 
 -- the state of the debugger after a command
 unfoldable pub debugger_state_after : Input → DebuggerState → Command → DebuggerState
@@ -135,4 +138,4 @@ unfoldable pub answers : Input → DebuggerState → List (List ℕ) → List �
 answers input debugger [] = []
 answers input debugger (line ∷ lines) =
     answer input debugger (command_of line)
-        ++ answers input (debugger_state_after input debugger (command_of line)) lines
+    ++ answers input (debugger_state_after input debugger (command_of line)) lines

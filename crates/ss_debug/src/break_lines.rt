@@ -3,7 +3,7 @@ ghost use Rattle.std.specs.Prelude.{◌≡◌, ◌<◌, ◌^◌, ◌↔◌, ◌+
 ghost use Rattle.ss_debug.specs.BreakLines.{is_break_line, is_full, with_line, without_line};
 ghost use Rattle.ss_debug.specs.LineTable.{lines_of};
 
-use crate::limits::BREAK_LIMIT;
+use crate::limits::MOST_BREAK_LINES;
 use std::alloc::{AllocError, Global};
 use std::marker::Model;
 
@@ -103,7 +103,7 @@ impl BreakLines {
     pub fn is_full(&self, line: u32) -> bool
         ensures { result ≡ is_full self.now line }
     {
-        BREAK_LIMIT <= self.others(line as usize)
+        MOST_BREAK_LINES <= self.others(line as usize)
     }
 
     /// Makes a line a break line. Where memory is refused, the break lines are as before.

@@ -28,7 +28,7 @@ pub use laws::{
     a_movement_back_has_one_end, a_movement_has_one_end, every_movement_ends_within_its_bound,
     forget_leaves_the_newest_steps,
 };
-pub use limits::GREATEST_BOUND;
+pub use limits::{GREATEST_BOUND, GREATEST_LINE};
 pub use name::Name;
 pub use pieces::split_line;
 pub use program_rows::{class_name, find_class, find_set, member_class, set_name, set_owner};

@@ -1,10 +1,10 @@
 //! The limits of command lines (docs/DEBUGGER.md, "Lines"). The definitions read these names too.
 
 /// The most bytes of a command line that is obeyed.
-pub const LINE_LIMIT: usize = 200;
+pub const LONGEST_LINE: usize = 200;
 
 /// The most bytes of a name, the stops at its end counted.
-pub const NAME_LIMIT: usize = 80;
+pub const LONGEST_NAME: usize = 80;
 
 /// The greatest bound of a movement, and the bound of RUN where none is given.
 pub const GREATEST_BOUND: u64 = 1_000_000;
@@ -22,4 +22,4 @@ pub const GREATEST_TIME: u64 = 9_223_372_036_854_775_807;
 pub const GREATEST_ENTITY: u64 = 9_223_372_036_854_775_807;
 
 /// The most break lines.
-pub const BREAK_LIMIT: usize = 1_000;
+pub const MOST_BREAK_LINES: usize = 1_000;

@@ -4,9 +4,9 @@ ghost use Rattle.std.specs.List.{list_all};
 ghost use Rattle.ss_words.specs.TextBytes.{in_run};
 ghost use Rattle.ss_words.specs.TextRuns.{has_letter};
 ghost use Rattle.ss_debug.specs.CommandLines.{is_command_name, name_of};
-ghost use Rattle.ss_debug.specs.declared.limits.TheConstants.{NAME_LIMIT};
+ghost use Rattle.ss_debug.specs.declared.limits.TheConstants.{LONGEST_NAME};
 
-use crate::limits::NAME_LIMIT;
+use crate::limits::LONGEST_NAME;
 use ss_words::without_stops;
 use std::marker::Model;
 
@@ -14,7 +14,7 @@ use std::marker::Model;
 /// memory.
 #[derive(Drop)]
 pub struct Name {
-    bytes: [u8; NAME_LIMIT],
+    bytes: [u8; LONGEST_NAME],
     length: usize,
 }
 
@@ -23,7 +23,7 @@ impl Model for Name {
 
     ghost view = { λ n. take n.length n.bytes };
 
-    ghost invariant = { λ n. n.length ≤ NAME_LIMIT };
+    ghost invariant = { λ n. n.length ≤ LONGEST_NAME };
 }
 
 #[tactic(auto, unfolding(ss_words::specs::TextBytes::in_run))]
@@ -48,12 +48,12 @@ fn has_letter(word: &[u8]) -> bool
 fn is_name(word: &[u8]) -> bool
     ensures { result ≡ is_command_name word.now }
 {
-    is_run(word) && has_letter(word) && word.len() <= NAME_LIMIT
+    is_run(word) && has_letter(word) && word.len() <= LONGEST_NAME
 }
 
 impl Name {
     /// The name that a word in upper case is: letters, digits and stops, a letter among them, in at
-    /// most `NAME_LIMIT` bytes; the stops at its end are dropped.
+    /// most `LONGEST_NAME` bytes; the stops at its end are dropped.
     #[tactic(auto, using(crate::proofs::Names::take_front), unfolding(crate::specs::CommandLines::name_of))]
     pub(crate) fn of(word: &[u8]) -> Option<Name>
         ensures { result ≡ name_of word.now }
@@ -62,7 +62,7 @@ impl Name {
             return None;
         }
         let kept = without_stops(word);
-        let mut bytes = [0u8; NAME_LIMIT];
+        let mut bytes = [0u8; LONGEST_NAME];
         bytes[..kept.len()].copy_from_slice(kept);
         Some(Name {
             bytes,

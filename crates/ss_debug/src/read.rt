@@ -7,7 +7,7 @@ ghost use Rattle.ss_debug.specs.Command.{question_alone, question_of_two, questi
 
 use crate::commands::{Command, Movement, Question};
 use crate::limits::{
-    GREATEST_BOUND, GREATEST_ENTITY, GREATEST_KEPT, GREATEST_LINE, GREATEST_TIME, LINE_LIMIT,
+    GREATEST_BOUND, GREATEST_ENTITY, GREATEST_KEPT, GREATEST_LINE, GREATEST_TIME, LONGEST_LINE,
 };
 use crate::name::Name;
 use crate::pieces::{next_word, number};
@@ -212,19 +212,19 @@ fn command_in_words(line: &[u8]) -> Command
 }
 
 /// What a command line says: letters in either case, words separated by blanks, tabs and carriage
-/// returns. A line without words is `Blank`; one that is no command, or is longer than `LINE_LIMIT`,
+/// returns. A line without words is `Blank`; one that is no command, or is longer than `LONGEST_LINE`,
 /// is `Bad` (docs/DEBUGGER.md). It takes no memory.
 #[tactic(auto, unfolding(crate::specs::Command::command_of), using(crate::proofs::Names::take_front))]
 pub fn command(line: &[u8]) -> Command
     ensures { result ≡ command_of line.now }
 {
-    if line.len() > LINE_LIMIT {
+    if line.len() > LONGEST_LINE {
         return match next_word(line) {
             None => Command::Blank,
             Some(_) => Command::Bad,
         };
     }
-    let mut upper = [0u8; LINE_LIMIT];
+    let mut upper = [0u8; LONGEST_LINE];
     upper[..line.len()].copy_from_slice(line);
     upper[..line.len()].make_ascii_uppercase();
     command_in_words(&upper[..line.len()])

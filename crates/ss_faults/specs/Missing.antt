@@ -98,13 +98,13 @@ placed_told program state c (position.After e) = named_told program state c e
 abbrev pub filed_told : ProgramTable → State → Expr → Told → SetRef → Told
 filed_told program state expression between set =
     both (both (both (told_of program state expression) between) (list_told program state set))
-        (named_told program state (set_of program set.set).member expression)
+    (named_told program state (set_of program set.set).member expression)
 
 -- FILE and REMOVE
 abbrev pub filing_told : ProgramTable → State → Filing → Told
 filing_told program state (File e how r) =
     both (filed_told program state e (position_told program state how) r)
-        (placed_told program state (set_of program r.set).member how)
+    (placed_told program state (set_of program r.set).member how)
 filing_told program state (FileAt end e r) = filed_told program state e Untold r
 filing_told program state (RemoveAt end t r) = list_told program state r
 filing_told program state (Remove e r) = filed_told program state e Untold r
@@ -186,7 +186,7 @@ when_told program state (In e) = told_of program state e
 abbrev pub schedule_told : ProgramTable → State → Schedule → Told
 schedule_told program state schedule =
     both (both (listing_told program state schedule.listing schedule.notice schedule.arguments)
-        (when_told program state schedule.when))
+    (when_told program state schedule.when))
     (notice_told program state schedule.class schedule.notice)
 
 -- SCHEDULE, CANCEL and START SIMULATION

@@ -95,10 +95,10 @@ truth_read otherwise (Err e) = otherwise
 abbrev pub of_owner : ProgramTable → State → OwnerKept → ℕ → ℤ → Told
 of_owner program state First set x =
     member_read (owner_missing (set_of program set).owner x)
-        (walk_first (shape_of program set) state.store (number_of x))
+    (walk_first (shape_of program set) state.store (number_of x))
 of_owner program state Last set x =
     member_read (owner_missing (set_of program set).owner x)
-        (walk_last (shape_of program set) state.store (number_of x))
+    (walk_last (shape_of program set) state.store (number_of x))
 of_owner program state Count set x =
     count_read (owner_missing (set_of program set).owner x) (count (shape_of program set) state.store (number_of x))
 

@@ -33,7 +33,7 @@ abbrev pub class_attribute_text : List ℕ → ℤ → List ℕ → ProgramTable
 class_attribute_text class x name program store None = no_such_text (codes "CLASS") class
 class_attribute_text class x name program store (Some c) =
     if exists store c (number_of x)
-        then line_or_none name (line_telling name (entity_lines program store c (number_of x)))
+    then line_or_none name (line_telling name (entity_lines program store c (number_of x)))
     else no_entity_text class x
 
 -- an entity whole, or one attribute of it, or what of them isn't there

@@ -53,7 +53,7 @@ local_line program state section i = local_text program state 0 section i ++ 10 
 abbrev pub local_lines : ProgramTable → State → List ℕ
 local_lines program state =
     lines_or (codes "NO LOCALS\n") (local_line program state state.frame.section)
-        (length (locals_in program state.frame.section))
+    (length (locals_in program state.frame.section))
 
 -- the answer to SHOW LOCALS in state p
 unfoldable pub locals_text : Input → ℕ → List ℕ

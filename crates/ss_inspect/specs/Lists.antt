@@ -58,7 +58,7 @@ members_page program store s x start count =
 abbrev pub list_with : ProgramTable → Store → ℕ → ℕ → List ℕ → ℕ → List ℕ
 list_with program store s k head j =
     if has (members_of (shape_of program s) store j) k then (set_of program s).name ++ head
-        ++ listed_text program store s (pos j) else []
+    ++ listed_text program store s (pos j) else []
 
 -- the same for the owner whose number is i + 1
 abbrev pub owned_list_with : ProgramTable → Store → ℕ → ℕ → ℕ → List ℕ
@@ -94,7 +94,7 @@ abbrev pub class_places_text : List ℕ → ℤ → ProgramTable → State → O
 class_places_text name x program state None = no_such_text (codes "CLASS") name
 class_places_text name x program state (Some c) =
     if exists state.store c (number_of x) then entity_places_text program state c (number_of x)
-        else no_entity_text name x
+    else no_entity_text name x
 
 -- the answer to SHOW IN c k in state p
 unfoldable pub places_text : List ℕ → ℤ → Input → ℕ → List ℕ

@@ -1,5 +1,6 @@
 -- the laws on the definitions
 use Rattle.std.proofs.Common.{◌≡◌, ◌≤◌, ◌+◌, ◌*◌, length, Option, Some, None, arith, refl}
+use Rattle.ss_words.specs.declared.limits.TheConstants.{MOST_PHRASES}
 use Rattle.ss_program.specs.declared.place.Place.{Place}
 use Rattle.ss_program.specs.declared.place.Place.TheVariants.{Assign, Making, Filing, Output, Control, Branch, Looping}
 use Rattle.ss_program.specs.declared.place.Place.TheVariants.{Call, Timing, Read}
@@ -8,7 +9,7 @@ use Rattle.ss_program.specs.declared.place.Spot.{Spot}
 use Rattle.ss_program.specs.declared.ways.Ways.{Ways}
 use Rattle.ss_program.specs.declared.timing.Timing.TheVariants.{Schedule, Cancel, Start}
 use Rattle.ss_program.specs.Program.{ProgramTable, section_of, spot_at}
-use Rattle.ss_program.specs.ProgramSound.{IsSound, IsTimed, loop_limit}
+use Rattle.ss_program.specs.ProgramSound.{IsSound, IsTimed}
 use Rattle.ss_machine.specs.declared.limits.TheConstants.{MOST_STEP_CHANGES}
 use Rattle.ss_machine.specs.State.{State}
 use Rattle.ss_machine.specs.Run.{input_with}
@@ -29,7 +30,7 @@ states_well p text sound =
     }
 
 few_at : (p : ProgramTable) (s : State) (w : Ways) (x : Place) → IsSound p →
-    IsTimed p (section_of p s.frame.section) x → w.chain ≤ loop_limit →
+    IsTimed p (section_of p s.frame.section) x → w.chain ≤ MOST_PHRASES →
     most_changes p s w x ≤ MOST_STEP_CHANGES + 2 * targets_at p s x
 few_at p s w (Assign a) sound timed h = omega arith
 few_at p s w (Making m) sound timed h = omega arith

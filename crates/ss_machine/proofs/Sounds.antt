@@ -3,6 +3,7 @@ use Rattle.std.proofs.Common.{◌≡◌, ℕ, zero, suc, ◌+◌, ◌<◌, ◌�
 use Rattle.std.proofs.Common.{arith, refl, ap, sym, subst, ◌∙◌}
 use Rattle.std.specs.Prelude.{map, slice_get, unwrap_or}
 use Rattle.std.proofs.lemmas.Option.{unwrap_or-slice_get}
+use Rattle.ss_words.specs.declared.limits.TheConstants.{MOST_PHRASES, MOST_PARAMETERS, MOST_ATTRIBUTES}
 use Rattle.ss_program.specs.declared.place.Spot.{Spot}
 use Rattle.ss_program.specs.declared.place.Place.{Place}
 use Rattle.ss_program.specs.declared.place.Place.TheVariants as places
@@ -18,8 +19,7 @@ use Rattle.ss_program.specs.Program.{is_event, places_of, locals_of, no_section,
 use Rattle.ss_program.specs.ProgramSound.{Scope, IsSound, IsSoundSection, AreSoundSections, IsSoundPlace}
 use Rattle.ss_program.specs.ProgramSound.{AreSoundPlaces, IsEnded, LeadsOn, IsCalledBy, IsLinkedPlace, AreLinkedPlaces}
 use Rattle.ss_program.specs.ProgramSound.{AreLinkedSections, IsTimed, AreTimed, IsEventClass, IsSoundClass}
-use Rattle.ss_program.specs.ProgramSound.{IsSoundEvent, IsSoundKind, HasSoundTables, loop_limit, parameter_limit}
-use Rattle.ss_program.specs.ProgramSound.{attribute_limit}
+use Rattle.ss_program.specs.ProgramSound.{IsSoundEvent, IsSoundKind, HasSoundTables}
 use Rattle.ss_machine.specs.State.{FrameState}
 use Rattle.ss_machine.specs.Moment.{call_targets, call_targets_by, yield_count}
 
@@ -113,7 +113,7 @@ spot_linked p i j spot h e = spot_linked_of p i j spot (slice_get p.sections i) 
 
 -- FIND closes few loops
 pub chain_few : (ss : List SectionTable) (ps : List Spot) (n i : ℕ) (x : Place) → LeadsOn ss n (ways_of ps i x) x →
-    (ways_of ps i x).chain ≤ loop_limit
+    (ways_of ps i x).chain ≤ MOST_PHRASES
 chain_few ss ps n i (places.Assign a) h = omega arith
 chain_few ss ps n i (places.Making m) h = omega arith
 chain_few ss ps n i (places.Filing f) h = omega arith
@@ -176,18 +176,18 @@ section_found p i t e = rw e refl
 
 -- a section has few parameters
 pub few_parameters : (p : ProgramTable) (i : ℕ) (t : SectionTable) → IsSound p → slice_get p.sections i ≡ Some t →
-    t.given ≤ parameter_limit
+    t.given ≤ MOST_PARAMETERS
 few_parameters p i t h e = omega (arith, (section_sound _ p.sections i t h.sections e).few_parameters)
 
 few_yielded_by : (p : ProgramTable) (c : Call) (o : Option SectionTable) → IsSound p →
     slice_get p.sections c.section ≡ o → IsCalledBy c o →
-    length c.targets ≤ parameter_limit
+    length c.targets ≤ MOST_PARAMETERS
 few_yielded_by p c None sound e h = absurd h
 few_yielded_by p c (Some t) sound e h =
     omega (arith, h.2, (section_sound _ p.sections c.section t sound.sections e).few_parameters)
 
 few_targets_of : (p : ProgramTable) (n : ℕ) (w : Ways) (x : Place) → IsSound p → LeadsOn p.sections n w x →
-    call_targets x ≤ parameter_limit
+    call_targets x ≤ MOST_PARAMETERS
 few_targets_of p n w (places.Assign a) sound h = omega arith
 few_targets_of p n w (places.Making m) sound h = omega arith
 few_targets_of p n w (places.Filing f) sound h = omega arith
@@ -201,25 +201,25 @@ few_targets_of p n w (places.Call c) sound h = few_yielded_by p c (slice_get p.s
 
 -- a CALL has few targets
 pub few_targets : (p : ProgramTable) (i j : ℕ) (spot : Spot) → IsSound p → spot_at p i j ≡ Some spot →
-    call_targets spot.place ≤ parameter_limit
+    call_targets spot.place ≤ MOST_PARAMETERS
 few_targets p i j spot sound e =
     few_targets_of p (length (places_of (slice_get p.sections i)))
     (ways_of (places_of (slice_get p.sections i)) j spot.place) spot.place sound
     (spot_linked p i j spot sound e).leads
 
 few_targets_by : (p : ProgramTable) (i j : ℕ) (o : Option Spot) → IsSound p → spot_at p i j ≡ o →
-    call_targets_by o ≤ parameter_limit
+    call_targets_by o ≤ MOST_PARAMETERS
 few_targets_by p i j None sound e = omega arith
 few_targets_by p i j (Some spot) sound e = few_targets p i j spot sound e
 
 -- few values come back to the frame below
-pub few_yielded : (p : ProgramTable) (fs : List FrameState) → IsSound p → yield_count p fs ≤ parameter_limit
+pub few_yielded : (p : ProgramTable) (fs : List FrameState) → IsSound p → yield_count p fs ≤ MOST_PARAMETERS
 few_yielded p [] sound = omega arith
 few_yielded p (f ∷ fs) sound = few_targets_by p f.section f.place (spot_at p f.section f.place) sound refl
 
 -- and FIND closes few loops
 pub chain_at : (p : ProgramTable) (i j : ℕ) (spot : Spot) → IsSound p → spot_at p i j ≡ Some spot →
-    (ways_of (places_of (slice_get p.sections i)) j spot.place).chain ≤ loop_limit
+    (ways_of (places_of (slice_get p.sections i)) j spot.place).chain ≤ MOST_PHRASES
 chain_at p i j spot sound e =
     chain_few p.sections (places_of (slice_get p.sections i)) (length (places_of (slice_get p.sections i))) j spot.place
     (spot_linked p i j spot sound e).leads
@@ -278,7 +278,7 @@ class_there p i sound h =
     (sound.tables.classes i none h)
 
 -- notices have few arguments
-pub few_arguments : (p : ProgramTable) (c n : ℕ) → IsSound p → IsEventClass p c n → n ≤ attribute_limit
+pub few_arguments : (p : ProgramTable) (c n : ℕ) → IsSound p → IsEventClass p c n → n ≤ MOST_ATTRIBUTES
 few_arguments p c n sound h = omega (arith, h.attributes, (class_there p c sound h.class).few)
 
 event_of_sound : (p : ProgramTable) (n : ℕ) (k : ClassKind) → IsSoundKind p n k → is_event k ≡ true →

@@ -71,7 +71,7 @@ number_behind Backward step x = x -ℤ step
 abbrev pub next_number : Direction → ℤ → ℤ → ℤ → Option ℤ
 next_number direction last step x =
     if in_range (number_behind direction step x) then candidate_within direction last (number_behind direction step x)
-        else None
+    else None
 
 -- ---- members
 
@@ -120,14 +120,17 @@ step_value readings (Some e) = value_of readings e
 abbrev pub number_loop : ℕ → Direction → ℤ → ℤ → ℤ → Result OpenLoop RunFault
 number_loop place direction first last step =
     refuse_if (int_lt step (pos 1)) StepBelowOne
-    >> Ok (record { phrase = place; candidate = candidate_within direction last first;
-    walk = Numbers direction last step })
+    >> Ok (record {
+      phrase = place;
+      candidate = candidate_within direction last first;
+      walk = Numbers direction last step;
+    })
 
 -- F5 where the member that FROM or AFTER names is not in the list
 abbrev pub member_named : Readings → ℕ → ℤ → ℤ → Result ℤ RunFault
 member_named readings s o y =
     is_in (set_of readings.tables s) readings.store (number_of o) (number_of y)
-        >>= λ b. refuse_if (not b) NotInList >> Ok y
+    >>= λ b. refuse_if (not b) NotInList >> Ok y
 
 -- the first candidate of a walk through the list of a set for the owner that a value names
 abbrev pub candidate_at_begin : Readings → Direction → ℕ → ℤ → Begin → Result (Option ℤ) RunFault
@@ -136,7 +139,7 @@ candidate_at_begin readings direction s o (From e) =
     value_of readings e >>= λ y. member_named readings s o y >>= λ z. Ok (Some z)
 candidate_at_begin readings direction s o (After e) =
     value_of readings e >>= λ y. member_named readings s o y >>= λ z. member_behind readings direction s o z
-        >>= as_candidate
+    >>= as_candidate
 
 -- a loop through the list of a set, for the owner that a value names
 abbrev pub list_loop : ℕ → Direction → ℕ → ℤ → Option ℤ → OpenLoop
@@ -147,12 +150,12 @@ list_loop place direction s o c = record { phrase = place; candidate = c; walk =
 abbrev pub loop_at_entry : Readings → ℕ → Phrase → Result OpenLoop RunFault
 loop_at_entry readings place (Counting d x first last step) =
     value_of readings first >>= λ a. value_of readings last >>= λ b. step_value readings step
-        >>= λ c. number_loop place d a b c
+    >>= λ c. number_loop place d a b c
 loop_at_entry readings place (Each class is_called x count) =
     number_loop place Onward (pos 1) (variable_value readings (Global count)) (pos 1)
 loop_at_entry readings place (Walking d x r begin) =
     subscript_value readings r.owner >>= λ o. candidate_at_begin readings d r.set o begin
-        >>= λ c. Ok (list_loop place d r.set o c)
+    >>= λ c. Ok (list_loop place d r.set o c)
 
 -- the variable to which a candidate goes
 abbrev pub loop_variable : Phrase → Variable

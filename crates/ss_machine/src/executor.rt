@@ -1,10 +1,10 @@
 //! What each step of a run shares: what it writes, what it notes, and how it ends.
 ghost use Rattle.std.specs.Prelude.{◌≡◌, ◌+◌, ◌<◌, ◌≤◌, ◌^◌, [], length, slice_get, slice_index_or, pos, Some, OnOk};
 ghost use Rattle.std.specs.Prelude.{IfOk, IfErr};
+ghost use Rattle.ss_words.specs.declared.limits.TheConstants.{MOST_PHRASES};
 ghost use Rattle.ss_program.specs.Match.{ways_of};
 ghost use Rattle.ss_program.specs.Program.{places_of, section_of, spot_at};
 ghost use Rattle.ss_program.specs.ProgramSound.{IsSettable, IsTarget, AreTargets, IsSoundPlace, IsTimed, LeadsOn};
-ghost use Rattle.ss_program.specs.ProgramSound.{loop_limit};
 ghost use Rattle.ss_journal.specs.Undoing.{unapply_all, FitsAll};
 ghost use Rattle.ss_links.specs.Board.{empty_board};
 ghost use Rattle.ss_store.specs.Tables.{tables_of};
@@ -255,7 +255,7 @@ impl<S: SetBoard> Executor<S> {
         requires leads { LeadsOn program.now.sections
             (length (places_of
             (slice_get program.now.sections self.old.held.state.frame.section))) ways place.now }
-        requires few { ways.chain ≤ loop_limit }
+        requires few { ways.chain ≤ MOST_PHRASES }
         requires none { self.old.journal.current ≡ [] }
         requires room { most_changes program.now self.old.held.state ways place.now
             ≤ self.old.journal.notes }
@@ -312,7 +312,7 @@ impl<S: SetBoard> Executor<S> {
     fn make_room(&mut self, program: &Program, ways: Ways, place: &Place) -> Result<(), AllocError>
         requires timed { IsTimed program.now
             (section_of program.now self.old.held.state.frame.section) place.now }
-        requires few { ways.chain ≤ loop_limit }
+        requires few { ways.chain ≤ MOST_PHRASES }
         ensures held { self.new.held ≡ self.old.held }
         ensures current { self.new.journal.current ≡ self.old.journal.current }
         ensures notes { Notes 0 self.old self.new }
@@ -330,7 +330,7 @@ impl<S: SetBoard> Executor<S> {
     fn room_asked(&self, program: &Program, ways: Ways, place: &Place) -> usize
         requires timed { IsTimed program.now
             (section_of program.now self.now.held.state.frame.section) place.now }
-        requires few { ways.chain ≤ loop_limit }
+        requires few { ways.chain ≤ MOST_PHRASES }
         ensures { most_changes program.now self.now.held.state ways place.now ≤ result }
     {
         program.known();

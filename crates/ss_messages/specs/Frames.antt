@@ -5,7 +5,7 @@ use Rattle.std.specs.Prelude.{Option, Some, None}
 use Rattle.std.specs.Option.{option_or}
 use Rattle.std.specs.Str.{bytes_eq}
 use Rattle.std.specs.Io.KnownBytes.{Consumes, IsAtEnd}
-use Rattle.ss_messages.specs.declared.frame.TheConstants.{MESSAGE_LIMIT, LINE_LIMIT}
+use Rattle.ss_messages.specs.declared.frame.TheConstants.{LONGEST_MESSAGE, LONGEST_LINE}
 
 -- what the bytes of a stream begin with: a message with a body, and the bytes behind it; no byte is left; they end
 -- within a message; no message
@@ -19,7 +19,7 @@ pub data Reading : Type 0 where
 abbrev pub number_from : ℕ → List ℕ → Option ℕ
 number_from n [] = Some n
 number_from n (b ∷ bs) =
-    if nat_le 48 b && nat_le b 57 && nat_le (10 * n + (b - 48)) MESSAGE_LIMIT then number_from (10 * n + (b - 48)) bs
+    if nat_le 48 b && nat_le b 57 && nat_le (10 * n + (b - 48)) LONGEST_MESSAGE then number_from (10 * n + (b - 48)) bs
     else None
 
 -- the number that some digits say
@@ -55,7 +55,7 @@ unfoldable pub head : Option ℕ → List ℕ → List ℕ → Reading
 head said line [] = cut
 head said line (b ∷ bytes) =
     if b == 10 then (if is_blank line then body said bytes else head (length_so_far said line) [] bytes) else
-    if nat_lt (length line) LINE_LIMIT then head said (line ++ b ∷ []) bytes else malformed
+    if nat_lt (length line) LONGEST_LINE then head said (line ++ b ∷ []) bytes else malformed
 
 -- what a stream begins with
 abbrev pub first_message : List ℕ → Reading

@@ -11,10 +11,10 @@ use std::io::{ErrorKind, Read};
 use thiserror::Error;
 
 /// The most bytes of a body: 64 MiB.
-pub const MESSAGE_LIMIT: usize = 67_108_864;
+pub const LONGEST_MESSAGE: usize = 67_108_864;
 
 /// The most bytes of a line of a head.
-const LINE_LIMIT: usize = 4_096;
+const LONGEST_LINE: usize = 4_096;
 
 /// The line of a head that tells the length of the body.
 const LENGTH_KEY: &[u8] = b"Content-Length: ";
@@ -22,7 +22,7 @@ const LENGTH_KEY: &[u8] = b"Content-Length: ";
 /// Why no message was read.
 #[derive(Clone, Copy, Debug, Drop, PartialEq, Eq, Error)]
 pub enum FrameFault {
-    /// A head tells no length up to `MESSAGE_LIMIT`, or has a line of more than 4,096 bytes.
+    /// A head tells no length up to `LONGEST_MESSAGE`, or has a line of more than 4,096 bytes.
     #[error("no message")]
     Malformed,
     /// The stream ended within a message, or reading failed.
@@ -79,7 +79,7 @@ fn number_in(digits: &[u8]) -> Option<usize>
             return None;
         }
         number = 10 * number + (*byte - b'0') as usize;
-        if number > MESSAGE_LIMIT {
+        if number > LONGEST_MESSAGE {
             return None;
         }
     }
@@ -141,7 +141,7 @@ impl Head {
             self.line.clear();
             return Ok(None);
         }
-        if self.line.len() >= LINE_LIMIT {
+        if self.line.len() >= LONGEST_LINE {
             return Err(FrameFault::Malformed);
         }
         self.line.extend_from_slice(&[byte])?;

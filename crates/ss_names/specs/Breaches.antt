@@ -116,7 +116,7 @@ is_given facts n = not (is_undeclared (knowledge_given facts.names n))
 abbrev pub conflicts_with : TextFacts → Standpoint → Option Declaration → Bool
 conflicts_with facts standpoint (Some d) =
     if not (d.index == standpoint.index) then not (repeats d.meaning standpoint.declared)
-        else is_given facts standpoint.name
+    else is_given facts standpoint.name
 conflicts_with facts standpoint None = false
 
 -- a name that is declared here is declared before as what does not go with that, or is given
@@ -147,13 +147,13 @@ abbrev pub wrong_declaration : TextFacts → Standpoint → Option Wrong
 wrong_declaration facts standpoint = if conflicts facts standpoint
     then Some w.DeclaredTwice
     else where_so (is_in_define standpoint
-        && stands_before standpoint (declared_as facts.disciplines standpoint.name)) w.DisciplinedTwice
+    && stands_before standpoint (declared_as facts.disciplines standpoint.name)) w.DisciplinedTwice
 
 -- a parameter is declared or given, or stands again
 abbrev pub wrong_parameter : TextFacts → Standpoint → Option Wrong
 wrong_parameter facts standpoint =
     if not (is_undeclared (known_in facts standpoint.name)) then Some w.DeclaredTwice
-        else where_so standpoint.repeated w.ParameterTwice
+    else where_so standpoint.repeated w.ParameterTwice
 
 -- an event of an item that this word begins: behind BREAK its ties are broken before; it is named external before
 abbrev pub wrong_item : TextFacts → Standpoint → Option AReserved → Option Wrong
@@ -295,7 +295,7 @@ wrong_owner_by standpoint None = Some w.Ownerless
 abbrev pub wrong_owner : TextFacts → Standpoint → Option Wrong
 wrong_owner facts standpoint =
     if not (is_set_here standpoint.declared) then None
-        else wrong_owner_by standpoint (declared_as facts.owned standpoint.name)
+    else wrong_owner_by standpoint (declared_as facts.owned standpoint.name)
 
 -- of a set with this first BELONGS TO: that of the system gives no members, and a second one is wrong
 abbrev pub wrong_joining : Declaration → Standpoint → Option Wrong
@@ -312,7 +312,7 @@ wrong_member_by standpoint None = Some w.Memberless
 abbrev pub wrong_member : TextFacts → Standpoint → Option Wrong
 wrong_member facts standpoint =
     if not (is_set_here standpoint.declared) then None
-        else wrong_member_by standpoint (declared_as facts.joined standpoint.name)
+    else wrong_member_by standpoint (declared_as facts.joined standpoint.name)
 
 -- ---- C6
 
@@ -334,7 +334,7 @@ is_no_attribute_of class knowledge = not (is_attribute knowledge.what) || not (b
 abbrev pub is_wrong_key : TextFacts → Standpoint → Bool
 is_wrong_key facts standpoint =
     if not (is_key standpoint.position) then false
-        else is_no_attribute_of standpoint.ranked (known_in facts standpoint.name)
+    else is_no_attribute_of standpoint.ranked (known_in facts standpoint.name)
 
 -- ---- C8 and C12
 

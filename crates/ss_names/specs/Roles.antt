@@ -38,8 +38,12 @@ calls _ b = b
 -- behind a reserved word or a sign; DEFINE and HAS are open up to the next reserved word
 abbrev pub behind_mark : Standing → Mark → Standing
 behind_mark standing (Sign x) =
-    record { before = Some (Sign x); in_define = standing.in_define; in_has = standing.in_has;
-        in_call = standing.in_call }
+    record {
+      before = Some (Sign x);
+      in_define = standing.in_define;
+      in_has = standing.in_has;
+      in_call = standing.in_call;
+    }
 behind_mark standing (Reserved w) = record {
   before = Some (Reserved w);
   in_define = is_define w;
@@ -102,7 +106,7 @@ role_behind in_call (Some (Reserved w)) = set_or (sets_name w in_call) (read_or_
 abbrev pub role_at : Standing → Role
 role_at standing =
     elim (standing.in_define
-        || standing.in_has) [ true ↦ Declared | false ↦ role_behind standing.in_call standing.before ]
+    || standing.in_has) [ true ↦ Declared | false ↦ role_behind standing.in_call standing.before ]
 
 -- FOR
 abbrev pub is_for : Option Mark → Bool

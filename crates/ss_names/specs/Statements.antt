@@ -94,8 +94,12 @@ pub record Spot : Type 0 where
 -- a statement of the code
 abbrev pub spot_at : Beginning → Spot
 spot_at beginning = record {
-  landmarks = record { main = beginning.main; priority = beginning.priority; section = beginning.section.now;
-      head = beginning.head };
+  landmarks = record {
+    main = beginning.main;
+    priority = beginning.priority;
+    section = beginning.section.now;
+    head = beginning.head;
+  };
   line = beginning.line;
   values = beginning.values;
   picture = map (λ l. l.items) beginning.picture.now;

@@ -113,7 +113,7 @@ wrong_before facts rule standpoint ws = wrong facts rule standpoint
 abbrev pub name_subject : TextFacts → NameRule → ℕ → Here → List ℕ → List ℕ → ℕ → List PlainAt → Option Subject
 name_subject facts rule line here ranked n index ws =
     if not (here.line == line) then None
-        else subject_with n (wrong_before facts rule (standpoint here ranked n index ws) ws)
+    else subject_with n (wrong_before facts rule (standpoint here ranked n index ws) ws)
 
 -- what a word breaks
 abbrev pub word_subject : TextFacts → NameRule → ℕ → Here → List ℕ → PlainAt → List PlainAt → Option Subject

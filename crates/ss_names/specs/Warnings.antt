@@ -10,7 +10,7 @@ use Rattle.ss_words.specs.Words.{Kind, WordAt, kind_of}
 use Rattle.ss_words.specs.Words as w
 use Rattle.ss_names.specs.declared.once.TheConstants.{ONCE}
 use Rattle.ss_names.specs.declared.dropped.TheConstants.{ARTICLES, FILLERS, DROPPED_HERE}
-use Rattle.ss_columns.specs.Reserved.{is_among, is_kind_among, reserved, scheduling}
+use Rattle.ss_columns.specs.Reserved.{is_among, is_kind_among, reserved_words, scheduling_words}
 use Rattle.ss_names.specs.Names.{names_in, is_of_language}
 use Rattle.ss_names.specs.Saying.{warning_line}
 use Rattle.ss_names.specs.declared.collected.Wanted.TheVariants as wanted
@@ -56,13 +56,13 @@ is_sign _ = false
 
 -- a name that is not reserved
 abbrev pub is_plain_name : Option Kind → Bool
-is_plain_name (Some (w.name n)) = not (is_among n reserved)
+is_plain_name (Some (w.name n)) = not (is_among n reserved_words)
 is_plain_name _ = false
 
 -- SCHEDULE or CAUSE
 abbrev pub is_scheduling : Option Kind → Bool
 is_scheduling None = false
-is_scheduling (Some k) = is_kind_among scheduling k
+is_scheduling (Some k) = is_kind_among scheduling_words k
 
 -- A, AN or OUTPUT beside a sign, or THE, THIS or MAY before one, not directly before a name nor behind SCHEDULE: all of
 -- these are dropped, and no name follows to which they could belong

@@ -23,7 +23,7 @@ fn is_sign(kind: Option<&WordKind>) -> bool
 }
 
 /// Whether a word is a name that is not reserved.
-#[tactic(auto, unfolding(ss_columns::specs::Reserved::reserved))]
+#[tactic(auto, unfolding(ss_columns::specs::Reserved::reserved_words))]
 fn is_plain_name(kind: Option<&WordKind>) -> bool
     ensures { result ≡ spec.is_plain_name (spec.kind_seen kind.entry) }
 {
@@ -34,7 +34,7 @@ fn is_plain_name(kind: Option<&WordKind>) -> bool
 }
 
 /// Whether a word keeps an article directly behind it.
-#[tactic(auto, unfolding(ss_columns::specs::Reserved::scheduling))]
+#[tactic(auto, unfolding(ss_columns::specs::Reserved::scheduling_words))]
 fn is_scheduling(kind: Option<&WordKind>) -> bool
     ensures { result ≡ spec.is_scheduling (spec.kind_seen kind.entry) }
 {

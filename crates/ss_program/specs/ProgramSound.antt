@@ -2,6 +2,8 @@
 use Rattle.std.specs.Prelude.{◌≡◌, ℕ, ◌<◌, ◌≤◌, ◌+◌, ◌^◌, ◌==◌, List, [], ◌∷◌, length, map, count_by, bytes_eq}
 use Rattle.std.specs.Prelude.{slice_get, Option, Some, None, Bool, true, false}
 use Rattle.std.specs.List.{All, IsDistinct, list_all, list_any}
+use Rattle.ss_words.specs.declared.limits.TheConstants.{MOST_CLASSES, MOST_ATTRIBUTES, MOST_SETS, MOST_KEYS}
+use Rattle.ss_words.specs.declared.limits.TheConstants.{MOST_PARAMETERS, MOST_PHRASES}
 use Rattle.ss_report.specs.Pictures.{field_count, has_decimal_field}
 use Rattle.ss_program.specs.declared.variable.Variable.{Variable as AVariable}
 use Rattle.ss_program.specs.declared.variable.Variable.TheVariants.{Global, Local, Clock}
@@ -329,16 +331,12 @@ IsCalledBy call None = ⊥
 IsCalledBy call (Some t) =
     (is_routine t ≡ true) × (length call.given ≡ t.given) × (length call.targets ≡ t.yielded)
 
--- no chain is longer, and so no more loops are open at once in a section
-abbrev pub loop_limit : ℕ
-loop_limit = 16
-
 -- a place with these ways, in a section with `count` places: where else it may go on is a place, too; FIND closes few
 -- loops; a CALL is one of a routine
 abbrev pub LeadsOn : List SectionTable → ℕ → Ways → Place → Type 0
 LeadsOn sections count ways (Branch (If q)) = ways.exit < count
 LeadsOn sections count ways (Looping (For f)) = ways.exit < count
-LeadsOn sections count ways (Looping Find) = ways.chain ≤ loop_limit
+LeadsOn sections count ways (Looping Find) = ways.chain ≤ MOST_PHRASES
 LeadsOn sections count ways (Call c) = IsCalledBy c (slice_get sections c.section)
 LeadsOn sections count ways other = Unit {0}
 
@@ -354,7 +352,7 @@ abbrev pub AreLinkedPlaces : List SectionTable → List Spot → ℕ → List Sp
 AreLinkedPlaces sections places i [] = Unit {0}
 AreLinkedPlaces sections places i (x ∷ xs) =
     IsLinkedPlace sections (length places) (ways_of places i x.place) x.place
-        × AreLinkedPlaces sections places (i + 1) xs
+    × AreLinkedPlaces sections places (i + 1) xs
 
 -- the places of each section
 abbrev pub AreLinkedSections : List SectionTable → List SectionTable → Type 0
@@ -388,10 +386,6 @@ AreTimed program section (x ∷ xs) = IsTimed program section x.place × AreTime
 abbrev pub AreDistinct : List (List ℕ) → Type 0
 AreDistinct names = IsDistinct bytes_eq names
 
--- the most parameters of a section
-abbrev pub parameter_limit : ℕ
-parameter_limit = 32
-
 -- what the places of a section may name
 abbrev pub scope_of : ProgramTable → SectionTable → Scope
 scope_of program section = record {
@@ -408,7 +402,7 @@ pub record IsSoundSection (program : ProgramTable) (section : SectionTable) : Ty
   -- the parameters are locals
   pub parameters : section.given + section.yielded ≤ length section.locals
   -- of which there are not too many
-  pub few_parameters : section.given + section.yielded ≤ parameter_limit
+  pub few_parameters : section.given + section.yielded ≤ MOST_PARAMETERS
   -- its places name what there is
   pub places : AreSoundPlaces (scope_of program section) section.places
   -- END is the last place, and no other one
@@ -445,28 +439,12 @@ pub record HasSoundNames (program : ProgramTable) : Type 0 where
 
 -- ---- classes and sets
 
--- the most classes
-abbrev pub class_limit : ℕ
-class_limit = 64
-
--- the most sets
-abbrev pub set_limit : ℕ
-set_limit = 64
-
--- the most attributes of a class
-abbrev pub attribute_limit : ℕ
-attribute_limit = 32
-
--- the most keys of a ranking
-abbrev pub key_limit : ℕ
-key_limit = 8
-
 -- at most eight keys, each of one of n attributes
 pub record AreSoundKeys (n : ℕ) (keys : List Key) : Type 0 where
   -- each key is one of the attributes
   pub attributes : All (λ k. k.attribute < n) keys
   -- there are not too many
-  pub few : length keys ≤ key_limit
+  pub few : length keys ≤ MOST_KEYS
 
 -- an event class with n attributes: its section is the section of an event, with at most n parameters, and its ties are
 -- broken by its attributes
@@ -495,7 +473,7 @@ pub record IsSoundClass (program : ProgramTable) (class : ClassTable) : Type 0 w
   -- its kind
   pub kind : IsSoundKind program (length class.attributes) class.kind
   -- its attributes are not too many
-  pub few : length class.attributes ≤ attribute_limit
+  pub few : length class.attributes ≤ MOST_ATTRIBUTES
 
 -- the system, or one of n classes
 abbrev pub IsSoundOwner : ℕ → Owner → Type 0
@@ -535,9 +513,9 @@ pub record HasSoundTables (program : ProgramTable) : Type 0 where
   -- PRIORITY names no class twice
   pub once : IsDistinct ◌==◌ program.priority
   -- there are not too many classes
-  pub few_classes : length program.classes ≤ class_limit
+  pub few_classes : length program.classes ≤ MOST_CLASSES
   -- nor too many sets
-  pub few_sets : length program.sets ≤ set_limit
+  pub few_sets : length program.sets ≤ MOST_SETS
 
 -- a program
 pub record IsSound (program : ProgramTable) : Type 0 where

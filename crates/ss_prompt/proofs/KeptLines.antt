@@ -8,7 +8,7 @@ use Rattle.ss_words.specs.TextLines.{without_empty_last}
 use Rattle.ss_console.specs.Lines.{is_stop, lines, onto_first, kept_part}
 use Rattle.ss_console.specs.Laws.{answers}
 use Rattle.ss_console.proofs.KeptLaws.{short_lines_are_kept, long_lines_are_cut, words_are_kept}
-use Rattle.ss_console.specs.declared.lines.TheConstants.{LINE_LIMIT}
+use Rattle.ss_console.specs.declared.lines.TheConstants.{LONGEST_LINE}
 use Rattle.ss_debug.specs.declared.commands.Command.{Command}
 use Rattle.ss_debug.specs.declared.commands.Command.TheVariants.{Blank, Bad}
 use Rattle.ss_debug.specs.CommandLines.{separates, word_separators, is_written, command_words}
@@ -146,24 +146,24 @@ words_in line =
     ∙ any_same (λ b. not (separates word_separators b)) (λ b. not (is_stop b)) (λ b. ap not (separates_is_stop b)) line
 
 -- what a line says that is too long
-long_says : (line : List ℕ) → nat_lt LINE_LIMIT (length line) ≡ true →
+long_says : (line : List ℕ) → nat_lt LONGEST_LINE (length line) ≡ true →
     prompt_command_of line ≡ or_own (says (list_any (λ b. not (is_stop b)) line)) bad
 unfolding prompt_command_of own_command_of command_of
 long_says line e = rw (e, long_words (command_words line), words_in line) refl
 
-kept_at : (line : List ℕ) (b : Bool) → nat_lt LINE_LIMIT (length line) ≡ b →
+kept_at : (line : List ℕ) (b : Bool) → nat_lt LONGEST_LINE (length line) ≡ b →
     prompt_command_of (kept_part line) ≡ prompt_command_of line
 kept_at line false e =
-    let short : length line ≤ LINE_LIMIT = grind (arith, nat_tests) in
+    let short : length line ≤ LONGEST_LINE = grind (arith, nat_tests) in
     ap prompt_command_of (short_lines_are_kept line short)
 kept_at line true e =
-    let long : LINE_LIMIT < length line = grind (arith, nat_tests) in
-    let cut : length (kept_part line) ≡ LINE_LIMIT + 1 = long_lines_are_cut line long in
-    let past : nat_lt LINE_LIMIT (length (kept_part line)) ≡ true = rw cut refl in
+    let long : LONGEST_LINE < length line = grind (arith, nat_tests) in
+    let cut : length (kept_part line) ≡ LONGEST_LINE + 1 = long_lines_are_cut line long in
+    let past : nat_lt LONGEST_LINE (length (kept_part line)) ≡ true = rw cut refl in
     long_says (kept_part line) past ∙ ap (λ some. or_own (says some) bad) (words_are_kept line) ∙ sym (long_says line e)
 
 pub kept_says : KeptLinesSayTheSame
-kept_says line = kept_at line (nat_lt LINE_LIMIT (length line)) refl
+kept_says line = kept_at line (nat_lt LONGEST_LINE (length line)) refl
 
 -- so they are answered the same
 answers_kept : (s : PromptState) (ls : List (List ℕ)) →

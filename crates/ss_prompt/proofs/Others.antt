@@ -5,7 +5,7 @@ use Rattle.ss_debug.specs.declared.commands.Command.{Command}
 use Rattle.ss_debug.specs.declared.commands.Command.TheVariants as plain
 use Rattle.ss_prompt.specs.declared.commands.PromptCommand.{PromptCommand}
 use Rattle.ss_prompt.specs.declared.commands.PromptCommand.TheVariants as prompt
-use Rattle.ss_prompt.specs.declared.sections.TheConstants.{LAST_BREAK_LINE}
+use Rattle.ss_debug.specs.declared.limits.TheConstants.{GREATEST_LINE}
 use Rattle.ss_prompt.specs.Laws.{OthersLeaveTheBreakLines, OthersStandStill}
 use Rattle.ss_prompt.specs.Points.{is_movement, point_of}
 use Rattle.ss_prompt.specs.Prompting.{prompt_state_after}
@@ -27,7 +27,7 @@ plain_breaks s (plain.Show question) h = refl
 plain_breaks s plain.Quit h = refl
 
 -- BREAK or CLEAR of a line that they don't take
-untaken : (s : PromptState) (make : ℕ → Command) (line : ℕ) (taken : Bool) → nat_le line LAST_BREAK_LINE ≡ taken →
+untaken : (s : PromptState) (make : ℕ → Command) (line : ℕ) (taken : Bool) → nat_le line GREATEST_LINE ≡ taken →
     taken_line (Some line) ≡ None →
     (debugger_state_after s.input s.debugger (command_on make line)).breaks ≡ s.debugger.breaks
 unfolding debugger_state_after
@@ -37,7 +37,7 @@ untaken s make line false e h = rw e refl
 on_line : (s : PromptState) (make : ℕ → Command) (line : Option ℕ) → taken_line line ≡ None →
     (on_line_next s make line).debugger.breaks ≡ s.debugger.breaks
 on_line s make None h = refl
-on_line s make (Some line) h = untaken s make line (nat_le line LAST_BREAK_LINE) refl h
+on_line s make (Some line) h = untaken s make line (nat_le line GREATEST_LINE) refl h
 
 pub breaks : OthersLeaveTheBreakLines
 unfolding prompt_state_after
@@ -74,7 +74,7 @@ plain_position s (plain.Show question) h = refl
 plain_position s plain.Quit h = refl
 
 line_position : (s : PromptState) (make : ℕ → Command) (line : ℕ) (taken : Bool) →
-    nat_le line LAST_BREAK_LINE ≡ taken →
+    nat_le line GREATEST_LINE ≡ taken →
     ((l : ℕ) → (debugger_state_after s.input s.debugger (make l)).position ≡ s.debugger.position) →
     (debugger_state_after s.input s.debugger (command_on make line)).position ≡ s.debugger.position
 unfolding debugger_state_after
@@ -85,7 +85,7 @@ stands_on : (s : PromptState) (make : ℕ → Command) (line : Option ℕ) →
     ((l : ℕ) → (debugger_state_after s.input s.debugger (make l)).position ≡ s.debugger.position) →
     (on_line_next s make line).debugger.position ≡ s.debugger.position
 stands_on s make None h = refl
-stands_on s make (Some line) h = line_position s make line (nat_le line LAST_BREAK_LINE) refl h
+stands_on s make (Some line) h = line_position s make line (nat_le line GREATEST_LINE) refl h
 
 pub position : OthersStandStill
 unfolding prompt_state_after

@@ -39,4 +39,4 @@ command_lines =
 abbrev pub completions : ProgramTable → List ℕ
 completions program =
     command_lines ++ word_lines program.globals ++ attribute_lines program.classes ++ set_lines program.sets
-        ++ section_lines program.sections
+    ++ section_lines program.sections

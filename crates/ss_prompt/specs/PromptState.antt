@@ -58,20 +58,30 @@ lent_state debugger model displays = prompt_state_of debugger model (source_line
 -- the same, with the debugger in another state
 abbrev pub with_debugger : PromptState → DebuggerState → PromptState
 with_debugger state debugger =
-    record { model = state.model; lines = state.lines; input = state.input; debugger = debugger;
-        displays = state.displays }
+    record {
+      model = state.model;
+      lines = state.lines;
+      input = state.input;
+      debugger = debugger;
+      displays = state.displays;
+    }
 
 -- the same, with other questions
 abbrev pub with_displays : PromptState → List Question → PromptState
 with_displays state displays =
-    record { model = state.model; lines = state.lines; input = state.input; debugger = state.debugger;
-        displays = displays }
+    record {
+      model = state.model;
+      lines = state.lines;
+      input = state.input;
+      debugger = state.debugger;
+      displays = displays;
+    }
 
 -- all but the state of the debugger is the same
 abbrev pub IsSameBeside : PromptState → PromptState → Type 0
 IsSameBeside state after =
     (after.model ≡ state.model) × (after.lines ≡ state.lines) × (after.input ≡ state.input)
-        × (after.displays ≡ state.displays)
+    × (after.displays ≡ state.displays)
 
 -- the line of the place of a state, as it is written in the model
 abbrev pub source_line : PromptState → List ℕ
@@ -91,7 +101,7 @@ fault_told input p = fault_text input.program (run input p) (run input p).status
 abbrev pub place_text : PromptState → List ℕ
 place_text state =
     fault_told state.input state.debugger.position ++ source_line state
-        ++ answers_to state.input state.debugger.position state.displays
+    ++ answers_to state.input state.debugger.position state.displays
 
 -- what is told at a terminal before the first line: that HELP tells the commands, what the model is warned of, and
 -- where the debugger stands

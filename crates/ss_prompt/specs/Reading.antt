@@ -2,7 +2,7 @@
 use Rattle.std.specs.Prelude.{ℕ, List, [], ◌∷◌, length, map, Option, Some, None, if◌then◌else◌, nat_lt, codes}
 use Rattle.std.specs.Char.{to_ascii_uppercase}
 use Rattle.std.specs.Str.{bytes_eq}
-use Rattle.ss_console.specs.declared.lines.TheConstants.{LINE_LIMIT}
+use Rattle.ss_console.specs.declared.lines.TheConstants.{LONGEST_LINE}
 use Rattle.ss_debug.specs.CommandLines.{command_words}
 use Rattle.ss_debug.specs.Command.{command_of}
 use Rattle.ss_debug.specs.declared.commands.Command.{Command}
@@ -145,7 +145,7 @@ own_of_whole (Some line) = or_own (command_of line) (own_in_words (command_words
 -- what a line in upper case says that is none of docs/DEBUGGER.md as it stands: its words are made whole
 unfoldable pub own_command_of : List ℕ → PromptCommand
 own_command_of line =
-    if nat_lt LINE_LIMIT (length line) then bad else own_of_whole (whole_line (map to_ascii_uppercase line))
+    if nat_lt LONGEST_LINE (length line) then bad else own_of_whole (whole_line (map to_ascii_uppercase line))
 
 -- what a line says
 unfoldable pub prompt_command_of : List ℕ → PromptCommand

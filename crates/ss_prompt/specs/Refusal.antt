@@ -20,4 +20,4 @@ refusal_parts position clock word number section line =
 abbrev pub refusal_with : Input → ℕ → List ℕ → List ℕ → List (List ℕ)
 refusal_with input p word number =
     refusal_parts (decimal p) (signed_decimal (run input p).clock) word number (section_at input p)
-        (decimal (line_at input p))
+    (decimal (line_at input p))

@@ -7,7 +7,7 @@ use Rattle.ss_debug.specs.declared.commands.Command.{Command}
 use Rattle.ss_debug.specs.declared.commands.Command.TheVariants.{Bad}
 use Rattle.ss_debug.specs.Move.{spot_line}
 use Rattle.ss_debug.specs.Turn.{answer}
-use Rattle.ss_prompt.specs.declared.sections.TheConstants.{LAST_BREAK_LINE}
+use Rattle.ss_debug.specs.declared.limits.TheConstants.{GREATEST_LINE}
 use Rattle.ss_prompt.specs.PromptState.{PromptState}
 use Rattle.ss_prompt.specs.Plain.{plain_next}
 
@@ -29,12 +29,12 @@ last_line program n = spot_line (spot_at program n (length (places_of (slice_get
 
 -- BREAK or CLEAR of a line, or a bad one behind the last line that they take
 abbrev pub command_on : (ℕ → Command) → ℕ → Command
-command_on make line = if nat_le line LAST_BREAK_LINE then make line else Bad
+command_on make line = if nat_le line GREATEST_LINE then make line else Bad
 
 -- a line, if BREAK and CLEAR take it
 abbrev pub taken_line : Option ℕ → Option ℕ
 taken_line None = None
-taken_line (Some line) = if nat_le line LAST_BREAK_LINE then Some line else None
+taken_line (Some line) = if nat_le line GREATEST_LINE then Some line else None
 
 -- the line of the first place of the section of this name
 abbrev pub line_of_section : ProgramTable → List ℕ → Option ℕ

@@ -13,7 +13,7 @@ travel_next state movement = with_debugger state (state_after state.input state.
 abbrev pub travel_said : PromptState → Movement → List ℕ
 travel_said state movement =
     answer state.input state.debugger movement
-        ++ stop_text (travels_back movement state.debugger.position) (travel_next state movement)
+    ++ stop_text (travels_back movement state.debugger.position) (travel_next state movement)
 
 -- where memory was refused it was made in part or whole, and then perhaps what is told of its end was refused
 unfoldable pub IsTravelRefused : PromptState → Movement → PromptState → Type 0

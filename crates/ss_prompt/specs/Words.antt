@@ -1,6 +1,6 @@
 -- Lines that are made of words, and what such a line says to the debugger.
 use Rattle.std.specs.Prelude.{ℕ, List, [], ◌∷◌, ◌++◌, length, fold, nat_le, Option, Some, None, if◌then◌else◌, codes}
-use Rattle.ss_console.specs.declared.lines.TheConstants.{LINE_LIMIT}
+use Rattle.ss_console.specs.declared.lines.TheConstants.{LONGEST_LINE}
 use Rattle.ss_debug.specs.Command.{command_of}
 use Rattle.ss_debug.specs.declared.commands.Command.{Command}
 use Rattle.ss_debug.specs.declared.commands.Command.TheVariants.{Bad, Show}
@@ -16,7 +16,7 @@ line_with_word (b ∷ line) word = (b ∷ line) ++ 32 ∷ word
 unfoldable pub with_word : Option (List ℕ) → List ℕ → Option (List ℕ)
 with_word None word = None
 with_word (Some line) word =
-    if nat_le (length (line_with_word line word)) LINE_LIMIT then Some (line_with_word line word) else None
+    if nat_le (length (line_with_word line word)) LONGEST_LINE then Some (line_with_word line word) else None
 
 -- a line of some words behind a beginning, if it is no longer than a line may be
 abbrev pub line_behind : List ℕ → List (List ℕ) → Option (List ℕ)

@@ -2,9 +2,9 @@
 ghost use Rattle.std.specs.Prelude.{◌≡◌};
 ghost use Rattle.ss_prompt.specs.Sections.{line_of_section, taken_line};
 
-use crate::sections::{LAST_BREAK_LINE, line_of_section};
+use crate::sections::line_of_section;
 use crate::sight::Sight;
-use ss_debug::{Command, Name};
+use ss_debug::{Command, GREATEST_LINE, Name};
 use ss_program::Program;
 use ss_trace::{Movement, Question};
 
@@ -79,7 +79,7 @@ fn point_in(program: &Program, name: &[u8]) -> Option<u32>
     ensures { result ≡ taken_line (line_of_section program.now name.now) }
 {
     let line = line_of_section(program, name)?;
-    if line > LAST_BREAK_LINE as usize {
+    if line > GREATEST_LINE as usize {
         return None;
     }
     Some(line as u32)

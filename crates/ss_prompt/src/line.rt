@@ -1,19 +1,19 @@
 //! Lines that are made of words, and what they say to the debugger.
 ghost use Rattle.std.specs.Prelude.{◌≡◌, ◌≤◌, ◌∷◌, [], length, codes, Some};
-ghost use Rattle.ss_console.specs.declared.lines.TheConstants.{LINE_LIMIT};
+ghost use Rattle.ss_console.specs.declared.lines.TheConstants.{LONGEST_LINE};
 ghost use Rattle.ss_debug.specs.CommandLines.{command_words};
 ghost use Rattle.ss_prompt.specs.Words.{with_word, line_behind, command_behind, only_name_of};
 
 use crate::pieces::next_word;
 use arrayvec::ArrayVec;
-use ss_console::LINE_LIMIT;
+use ss_console::LONGEST_LINE;
 use ss_debug::{Command, Name, Question, command};
 use std::marker::Model;
 
 /// A line that is being made. It keeps its bytes in place, so that it takes no memory.
 #[derive(Drop)]
 pub(crate) struct Line {
-    bytes: ArrayVec<u8, LINE_LIMIT>,
+    bytes: ArrayVec<u8, LONGEST_LINE>,
 }
 
 impl Model for Line {
@@ -27,7 +27,7 @@ impl Model for Line {
 impl Line {
     /// A line of these bytes; none where they are more than a line may have.
     pub fn new(bytes: &[u8]) -> Option<Line>
-        ensures { length bytes.now ≤ LINE_LIMIT → result ≡ Some bytes.now }
+        ensures { length bytes.now ≤ LONGEST_LINE → result ≡ Some bytes.now }
     {
         let mut line = Line {
             bytes: ArrayVec::new(),
@@ -64,7 +64,7 @@ impl Line {
 /// A line of a beginning and the words of another, if it is no longer than a line may be.
 #[tactic(auto, using(crate::proofs::Lines::too_long))]
 fn line_behind(head: &[u8], rest: &[u8]) -> Option<Line>
-    requires { length head.now ≤ LINE_LIMIT }
+    requires { length head.now ≤ LONGEST_LINE }
     ensures { result ≡ line_behind head.now (command_words rest.now) }
 {
     let mut line = Line::new(head)?;
@@ -78,7 +78,7 @@ fn line_behind(head: &[u8], rest: &[u8]) -> Option<Line>
 
 /// What the words of a line say to the debugger behind a beginning.
 pub(crate) fn command_behind(head: &[u8], rest: &[u8]) -> Command
-    requires { length head.now ≤ LINE_LIMIT }
+    requires { length head.now ≤ LONGEST_LINE }
     ensures { result ≡ command_behind head.now (command_words rest.now) }
 {
     match line_behind(head, rest) {
@@ -89,7 +89,7 @@ pub(crate) fn command_behind(head: &[u8], rest: &[u8]) -> Command
 
 /// What one word says to the debugger behind a beginning.
 pub(crate) fn command_of_word(head: &[u8], word: &[u8]) -> Command
-    requires { length head.now ≤ LINE_LIMIT }
+    requires { length head.now ≤ LONGEST_LINE }
     ensures { result ≡ command_behind head.now (word.now ∷ []) }
 {
     let Some(line) = Line::new(head) else {

@@ -19,7 +19,7 @@ use crate::histories::history_wanted;
 use crate::line::{Line, command_behind, only_name};
 use crate::pieces::next_word;
 use crate::seeing::sight;
-use ss_console::LINE_LIMIT;
+use ss_console::LONGEST_LINE;
 use ss_debug::{Command, Movement as PlainMovement, command};
 use ss_trace::Movement;
 
@@ -337,10 +337,10 @@ fn own_of_whole(line: Option<Line>) -> PromptCommand
 fn own_command(line: &[u8]) -> PromptCommand
     ensures { result ≡ own_command_of line.now }
 {
-    if line.len() > LINE_LIMIT {
+    if line.len() > LONGEST_LINE {
         return PromptCommand::Plain(Command::Bad);
     }
-    let mut upper = [0u8; LINE_LIMIT];
+    let mut upper = [0u8; LONGEST_LINE];
     upper[..line.len()].copy_from_slice(line);
     upper[..line.len()].make_ascii_uppercase();
     own_of_whole(whole_line(&upper[..line.len()]))

@@ -10,9 +10,6 @@ use ss_machine::Machine;
 use ss_program::{Program, Section, Spot};
 use std::alloc::AllocError;
 
-/// The last line that BREAK and CLEAR take (docs/DEBUGGER.md).
-pub const LAST_BREAK_LINE: u32 = 1_000_000;
-
 /// The number of the section of this name.
 pub(crate) fn find_section(program: &Program, name: &[u8]) -> Option<usize>
     ensures section { result ≡ section_named program.now name.now }

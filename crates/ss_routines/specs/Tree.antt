@@ -122,7 +122,7 @@ spell_define ns =
 abbrev pub spell_section : SectionTree → List Plain
 spell_section section =
     spell_head section.head ++ flat_map spell_define section.locals ++ spell_block section.block
-        ++ mark (m.Reserved r.End) ∷ []
+    ++ mark (m.Reserved r.End) ∷ []
 
 -- the plain words of a program
 abbrev pub spell : Tree → List Plain

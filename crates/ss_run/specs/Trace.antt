@@ -39,7 +39,7 @@ column_names = map (λ name. name.now) COLUMN_NAMES
 abbrev pub step_fields : Input → Question → ℕ → List (List ℕ)
 step_fields input question q =
     decimal q ∷ signed_decimal (run input q).clock ∷ section_at input q ∷ decimal (line_at input q)
-        ∷ question_text question
+    ∷ question_text question
     ∷ value_at input question (q + 1) ∷ []
 
 -- that row where the question changes, else nothing

@@ -20,7 +20,7 @@ use Rattle.ss_run.specs.Report.{IsRunEnd, ReportSays}
 abbrev pub TellsEnd : WholeRun → Input → ℕ → Type 0
 TellsEnd whole input p =
     (whole.explanation.items ≡ end_explanation input.program (run input p))
-        × (whole.unfit ≡ unfit_values (run input p).report)
+    × (whole.unfit ≡ unfit_values (run input p).report)
 
 -- of the run of a model that is a program, over the data
 abbrev pub TellsRun : WholeRun → List ℕ → List ℕ → Type 0

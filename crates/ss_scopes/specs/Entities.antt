@@ -56,7 +56,7 @@ abbrev pub owned_item : ProgramTable → Store → ℕ → ℕ → ℕ → List 
 owned_item program store c k s =
     if is_same_owner (OwnedBy c) (set_of program s).owner
     then list_item program store (set_of program s).name s k
-        ++ owner_items (set_of program s).name (shape_of program s) store k else []
+    ++ owner_items (set_of program s).name (shape_of program s) store k else []
 
 -- what is kept of entity number k of class c in set number s, if it may be in it
 abbrev pub joined_item : ProgramTable → Store → ℕ → ℕ → ℕ → List ℕ

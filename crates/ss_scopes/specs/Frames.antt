@@ -32,7 +32,7 @@ frames_page program state path start count = page (frame_text program state path
 abbrev pub local_item : ProgramTable → State → ℕ → ℕ → ℕ → List ℕ
 local_item program state depth section i =
     variable_item (name_at (locals_in program section) i)
-        (signed_decimal (unwrap_or (frame_local state depth i) (pos 0))) 0
+    (signed_decimal (unwrap_or (frame_local state depth i) (pos 0))) 0
 
 -- a page of the locals of a frame that stands at this place
 abbrev pub placed_locals : ProgramTable → State → ℕ → ℕ → ℕ → Option (ℕ × ℕ) → List ℕ

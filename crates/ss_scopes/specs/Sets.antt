@@ -43,7 +43,7 @@ abbrev pub members_part : ProgramTable → Store → ℕ → ℕ → ℕ → ℕ
 members_part program store s j start count =
     entity_items program (set_of program s).member start
     (members_page program store s (pos j) start
-        (page_size start count (length (members_of (shape_of program s) store j))))
+    (page_size start count (length (members_of (shape_of program s) store j))))
 
 -- the lists of set number s for some entities of class c
 abbrev pub lists_of : ProgramTable → Store → ℕ → ℕ → List ℕ → List ℕ
@@ -55,7 +55,7 @@ lists_of program store s c (k ∷ ks) =
 abbrev pub lists_page : ProgramTable → Store → ℕ → ℕ → ℕ → ℕ → List ℕ
 lists_page program store s c start count =
     lists_of program store s c
-        (take (page_size start count (length (living_numbers store c))) (drop start (living_numbers store c)))
+    (take (page_size start count (length (living_numbers store c))) (drop start (living_numbers store c)))
 
 -- a page of the members or lists of set number s
 abbrev pub set_part : ProgramTable → Store → ℕ → ℕ → ℕ → Owner → List ℕ

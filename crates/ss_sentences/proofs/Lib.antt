@@ -1,4 +1,4 @@
 pub mod Parts
-pub mod Whole
+pub mod WordLists
 pub mod Gaps
 pub mod Sayings

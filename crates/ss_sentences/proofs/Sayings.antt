@@ -6,7 +6,7 @@ use Rattle.ss_words.specs.declared.fault.TextFault.TheVariants.{Refused}
 use Rattle.ss_words.specs.Words.{WordAt}
 use Rattle.ss_words.specs.TextWords.{words_of}
 use Rattle.ss_words.specs.PlainRules.{plain_words_of}
-use Rattle.ss_columns.specs.Numbers.{numbered}
+use Rattle.ss_columns.specs.Numbers.{words_by_number}
 use Rattle.ss_sentences.specs.declared.candidate.Judgement.{Judgement}
 use Rattle.ss_sentences.specs.declared.refusal.TheConstants.{LONGEST_TEXT_JUDGED}
 use Rattle.ss_sentences.specs.Candidates.{IsFitting, candidate_of, candidates}
@@ -35,14 +35,14 @@ unfolding AreJudged
 judged_all model front js short all complete = inr (short, all, complete)
 
 -- of a program nothing
-pub said_of_none : (model : List ℕ) (ws : List WordAt) (said : List ℕ) → IsSpelled (plain_words_of (numbered ws))
+pub said_of_none : (model : List ℕ) (ws : List WordAt) (said : List ℕ) → IsSpelled (plain_words_of (words_by_number ws))
     → said ≡ [] → AreSaid model ws said
 unfolding AreSaid
 said_of_none model ws said h e = inl (h, e)
 
 -- of words that are refused
 pub said_of_refused : (model : List ℕ) (ws : List WordAt) (rule : TextRule) (i : ℕ) (said : List ℕ)
-    → IsRefused rule i (plain_words_of (numbered ws)) → IsSaidOf model ws rule i said → AreSaid model ws said
+    → IsRefused rule i (plain_words_of (words_by_number ws)) → IsSaidOf model ws rule i said → AreSaid model ws said
 unfolding AreSaid
 said_of_refused model ws rule i said h s = inr (rule, i, h, s)
 

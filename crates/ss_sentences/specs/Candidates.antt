@@ -9,7 +9,7 @@ use Rattle.ss_sentences.specs.declared.candidate.Tried.{Tried}
 use Rattle.ss_sentences.specs.declared.candidate.Tried.TheVariants as t
 use Rattle.ss_sentences.specs.Grammar.{IsGoing}
 use Rattle.ss_sentences.specs.Pieces.{last_kind}
-use Rattle.ss_columns.specs.Reserved.{is_kind_among, scheduling}
+use Rattle.ss_columns.specs.Reserved.{is_kind_among, scheduling_words}
 
 -- the word that is tried: of names and numbers, one
 abbrev pub candidate_kind : List ℕ → Tried → Kind
@@ -34,7 +34,7 @@ with_candidate ws told tried = ws ++ record { line = length ws; kind = candidate
 -- SCHEDULE or CAUSE
 abbrev pub is_scheduling : Option Kind → Bool
 is_scheduling None = false
-is_scheduling (Some k) = is_kind_among scheduling k
+is_scheduling (Some k) = is_kind_among scheduling_words k
 
 -- the last word is SCHEDULE or CAUSE
 abbrev pub keeps_article : List WordAt → Bool

@@ -8,7 +8,7 @@ use Rattle.ss_sentences.specs.declared.hints.TheConstants.{DROPPED_HINT, RESERVE
 use Rattle.ss_sentences.specs.Candidates.{keeps_article}
 use Rattle.ss_sentences.specs.Expected.{fits}
 use Rattle.ss_sentences.specs.Pieces.{gaps_filled, last_kind, last_text}
-use Rattle.ss_columns.specs.Reserved.{dropped, is_kind_among, reserved}
+use Rattle.ss_columns.specs.Reserved.{dropped_words, is_kind_among, reserved_words}
 
 -- a name, reserved or not
 abbrev pub is_name : Kind → Bool
@@ -20,7 +20,7 @@ is_name (picture ls) = false
 -- A, AN, THE, THIS, MAY or OUTPUT
 abbrev pub is_dropped_word : Option Kind → Bool
 is_dropped_word None = false
-is_dropped_word (Some k) = is_kind_among dropped k
+is_dropped_word (Some k) = is_kind_among dropped_words k
 
 -- the last word is dropped: it is one of these, and does not stand directly behind SCHEDULE or CAUSE
 abbrev pub ends_in_dropped : List WordAt → Bool
@@ -34,9 +34,9 @@ hint_text is_given hint word = elim is_given [ true ↦ gaps_filled hint word wo
 -- where one fits
 abbrev pub word_hints : List Judgement → Kind → List ℕ → List ℕ
 word_hints js kind told =
-    hint_text (is_kind_among reserved kind && fits js (codes "a name") && not (fits js (codes "LET"))) RESERVED_HINT.now
-    told
-    ++ hint_text (is_name kind && not (is_kind_among reserved kind) && fits js (codes "UNITS")) UNIT_HINT.now told
+    hint_text (is_kind_among reserved_words kind && fits js (codes "a name") && not (fits js (codes "LET")))
+    RESERVED_HINT.now told
+    ++ hint_text (is_name kind && not (is_kind_among reserved_words kind) && fits js (codes "UNITS")) UNIT_HINT.now told
 
 -- the lines of the words that open blocks which no word behind them closes, the innermost last
 abbrev pub open_lines : List (List ℕ) → List (List ℕ) → List ℕ → List WordAt → List ℕ

@@ -9,7 +9,7 @@ use Rattle.ss_words.specs.Words.{WordAt}
 use Rattle.ss_words.specs.TextWords.{words_of}
 use Rattle.ss_words.specs.PlainRules.{plain_words_of}
 use Rattle.ss_columns.specs.Columns.{line_at, column_at}
-use Rattle.ss_columns.specs.Numbers.{numbered}
+use Rattle.ss_columns.specs.Numbers.{words_by_number}
 use Rattle.ss_sentences.specs.declared.candidate.Judgement.{Judgement}
 use Rattle.ss_sentences.specs.declared.refusal.TheConstants.{LONGEST_TEXT_JUDGED}
 use Rattle.ss_sentences.specs.Candidates.{IsFitting, candidate_of, candidates}
@@ -65,7 +65,7 @@ behind_text ws _ i js = []
 
 -- the words behind which it is judged what could stand: at the end of the words all, and else those before word i
 abbrev pub front_of : List WordAt → TextRule → ℕ → List WordAt
-front_of ws rule i = elim (is_end rule) [ true ↦ numbered ws | false ↦ numbered (take i ws) ]
+front_of ws rule i = elim (is_end rule) [ true ↦ words_by_number ws | false ↦ words_by_number (take i ws) ]
 
 -- what is said of words that are refused by a rule at word i
 unfoldable pub IsSaidOf : List ℕ → List WordAt → TextRule → ℕ → List ℕ → Type 0
@@ -77,8 +77,9 @@ IsSaidOf model ws rule i said =
 -- whose line the refusal tells when each word stands on a line of its own, the lines numbered from 0
 unfoldable pub AreSaid : List ℕ → List WordAt → List ℕ → Type 0
 AreSaid model ws said =
-    (IsSpelled (plain_words_of (numbered ws)) × (said ≡ []))
-    ⊎ ((rule : TextRule) × (i : ℕ) × IsRefused rule i (plain_words_of (numbered ws)) × IsSaidOf model ws rule i said)
+    (IsSpelled (plain_words_of (words_by_number ws)) × (said ≡ []))
+    ⊎ ((rule : TextRule) × (i : ℕ) × IsRefused rule i (plain_words_of (words_by_number ws))
+    × IsSaidOf model ws rule i said)
 
 -- what is said of a model
 unfoldable pub IsSaid : List ℕ → List ℕ → Type 0

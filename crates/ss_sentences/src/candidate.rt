@@ -169,7 +169,7 @@ fn name_of(alloc: Global, bytes: &[u8]) -> Result<WordKind, AllocError>
 }
 
 /// Whether the last of these words keeps an article behind it.
-#[tactic(auto, unfolding(ss_columns::specs::Reserved::scheduling))]
+#[tactic(auto, unfolding(ss_columns::specs::Reserved::scheduling_words))]
 pub fn keeps_article(words: &[Word]) -> bool
     ensures { result ≡ spec.keeps_article (map word_at words.now) }
 {
@@ -191,7 +191,7 @@ fn is_dropped(words: &Words, tried: Tried) -> bool
 
 /// Whether a program goes on or ends behind these words and the candidate. The words are again as
 /// they were, unless memory was refused.
-#[tactic(auto, using(crate::proofs::Whole::pushed))]
+#[tactic(auto, using(crate::proofs::WordLists::pushed))]
 fn goes_on_with(
     alloc: Global,
     words: &mut Words,

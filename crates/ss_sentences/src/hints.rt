@@ -48,7 +48,7 @@ fn is_name(word: &Word) -> bool
 }
 
 /// Whether the last of these words is one that is dropped, wherever it stands.
-#[tactic(auto, unfolding(ss_columns::specs::Reserved::dropped))]
+#[tactic(auto, unfolding(ss_columns::specs::Reserved::dropped_words))]
 fn ends_in_filler(words: &[Word]) -> bool
     ensures { result ≡ spec.is_dropped_word (last_kind None (map word_at words.now)) }
 {
@@ -59,7 +59,7 @@ fn ends_in_filler(words: &[Word]) -> bool
 }
 
 /// Whether the last but one of these words keeps an article behind it.
-#[tactic(auto, using(crate::proofs::Whole::but_last))]
+#[tactic(auto, using(crate::proofs::WordLists::but_last))]
 fn last_is_kept(words: &[Word]) -> bool
     ensures { let all = map word_at words.now in
         result ≡ keeps_article (take (length all - 1) all) }
@@ -86,7 +86,7 @@ fn push_hint(text: &mut Vec<u8>, is_given: bool, hint: &[u8], word: &[u8]) -> Re
 }
 
 /// Appends what a refused word hints at, behind these words.
-#[tactic(auto, unfolding(ss_columns::specs::Reserved::reserved))]
+#[tactic(auto, unfolding(ss_columns::specs::Reserved::reserved_words))]
 pub fn push_word_hints(
     text: &mut Vec<u8>,
     judged: &[Judgement],

@@ -1,7 +1,7 @@
 //! What is said of a text that a rule L or P refuses.
 ghost use Rattle.std.specs.Prelude.{◌≡◌, ◌+◌, ◌++◌, IfOk, OnOk, map, slice_get, take};
 ghost use Rattle.ss_words.specs.Words.{word_at};
-ghost use Rattle.ss_columns.specs.Numbers.{numbered};
+ghost use Rattle.ss_columns.specs.Numbers.{words_by_number};
 ghost use Rattle.ss_sentences.specs.Refusals as spec;
 
 use crate::candidate::{Judgement, judge_all};
@@ -46,9 +46,9 @@ fn said_of_words(alloc: Global, model: &[u8], words: &Words) -> Result<Vec<u8>, 
 }
 
 /// The words, each with its number for its line.
-#[tactic(auto, using(crate::proofs::Whole::whole))]
+#[tactic(auto, using(crate::proofs::WordLists::whole))]
 fn all_numbered(alloc: Global, words: &Words) -> Result<Words, AllocError>
-    ensures { IfOk result (λ numbers. numbers ≡ numbered words.now) }
+    ensures { IfOk result (λ numbers. numbers ≡ words_by_number words.now) }
 {
     numbered_words(alloc, words, words.list.len())
 }
@@ -146,7 +146,7 @@ fn told_before(alloc: Global, words: &Words, count: usize) -> Result<Vec<u8>, Al
 }
 
 /// How the word of a number is told: as the last of the words up to it.
-#[tactic(auto, using(crate::proofs::Whole::nexts))]
+#[tactic(auto, using(crate::proofs::WordLists::nexts))]
 fn told_at(alloc: Global, words: &Words, number: usize) -> Result<Vec<u8>, AllocError>
     ensures { IfOk result (λ told. told.items ≡ spec.told_before words.now (number + 1)) }
 {
@@ -167,7 +167,7 @@ fn push_judged(text: &mut Vec<u8>, judged: &[Judgement]) -> Result<(), AllocErro
 }
 
 /// Appends what the word of a number hints at, if there is one.
-#[tactic(auto, using(crate::proofs::Whole::gets))]
+#[tactic(auto, using(crate::proofs::WordLists::gets))]
 fn push_hints_at(
     alloc: Global,
     words: &Words,
@@ -189,7 +189,7 @@ fn push_hints_at(
 }
 
 /// The first words, so many of them.
-#[tactic(auto, using(crate::proofs::Whole::firsts))]
+#[tactic(auto, using(crate::proofs::WordLists::firsts))]
 fn first_words(words: &Words, count: usize) -> &[Word]
     ensures { map word_at result.now ≡ take count words.now }
 {

@@ -74,7 +74,7 @@ unfoldable pub ProgramEnds : Result End Cut → Input → List (List ℕ) →
     Option (List ℕ) → Option (List ℕ) → ℕ → ℕ → Type 0
 ProgramEnds (Ok end) input lines old new failures failures' =
     (end ≡ end_of (ends_faulted input lines)) × Appends old new (program_transcript input lines)
-        × (failures' ≡ failures)
+    × (failures' ≡ failures)
 ProgramEnds (Err cut.Memory) input lines old new failures failures' =
     WritesFirst input initial_debugger_state lines old new × (failures' ≡ failures)
 ProgramEnds (Err cut.Write) input lines old new failures failures' =

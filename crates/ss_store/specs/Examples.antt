@@ -62,7 +62,7 @@ then_removed shape which (Err f) = Err f
 abbrev pub all_filed : SetShape → Result (List ℕ) RunFault
 all_filed shape = list_after shape
     (then_filed shape 4 ByRule
-        (then_filed shape 3 ByRule (then_filed shape 2 ByRule (after_filing shape (jobs []) 0 1 ByRule))))
+    (then_filed shape 3 ByRule (then_filed shape 2 ByRule (after_filing shape (jobs []) 0 1 ByRule))))
 
 -- FIFO files last
 abbrev pub FifoFilesLast : Type 0

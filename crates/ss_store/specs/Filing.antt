@@ -78,7 +78,7 @@ member_named shape store ks which.First = or_fault EmptySet (first_of ks)
 member_named shape store ks which.Last = or_fault EmptySet (last_of ks)
 member_named shape store ks (which.Member x) =
     unless NoEntity (exists store shape.member (number_of x))
-        (unless NotInList (has ks (number_of x)) (Ok (number_of x)))
+    (unless NotInList (has ks (number_of x)) (Ok (number_of x)))
 
 -- the member, and the store with the list of o without it
 abbrev pub without_member : SetShape → Store → ℕ → Result ℕ RunFault → Result (ℕ × Store) RunFault
@@ -96,7 +96,7 @@ after_removing shape store o which = unless NoEntity (is_owner shape store o)
 abbrev pub is_in : SetShape → Store → ℕ → ℕ → Result Bool RunFault
 is_in shape store o k =
     unless NoEntity (is_owner shape store o)
-        (unless NoEntity (exists store shape.member k) (Ok (has (members_of shape store o) k)))
+    (unless NoEntity (exists store shape.member k) (Ok (has (members_of shape store o) k)))
 
 -- how many members the list of o has, or F3
 abbrev pub count : SetShape → Store → ℕ → Result ℕ RunFault
@@ -142,6 +142,6 @@ membership shape store k = unless NoEntity (exists store shape.member k) (Ok (is
 abbrev pub AreNeighbours : SetShape → Store → ℕ → Result Neighbours RunFault → Type 0
 AreNeighbours shape store k (Ok n) =
     (predecessor shape store k ≡ Ok n.before) × (successor shape store k ≡ Ok n.behind)
-        × (membership shape store k ≡ Ok n.is_filed)
+    × (membership shape store k ≡ Ok n.is_filed)
 AreNeighbours shape store k (Err f) =
     (predecessor shape store k ≡ Err f) × (successor shape store k ≡ Err f) × (membership shape store k ≡ Err f)

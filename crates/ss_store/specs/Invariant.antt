@@ -75,7 +75,7 @@ pub record IsStore (parts : StoreParts) : Type 0 where
   -- an entity has a value for each attribute of its class
   pub value_counts : (w : Option ℕ) (i : ℕ) (r : Row) (v : List ℤ) → slice_get (rows_in parts.rows w).rows i ≡ Some r
       → slice_get (rows_in parts.rows w).values i ≡ Some (Some v)
-          → length v ≡ (class_of parts.tables r.class).attributes
+      → length v ≡ (class_of parts.tables r.class).attributes
   -- which are in range
   pub values_in_range : (w : Option ℕ) (i : ℕ) (v : List ℤ) → slice_get (rows_in parts.rows w).values i ≡ Some (Some v)
       → AreInRange v

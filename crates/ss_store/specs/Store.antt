@@ -194,7 +194,7 @@ with_reference store entity = record store { references = store.references ++ So
 abbrev pub with_new : Store → ℕ → ClassShape → Result Store RunFault
 with_new store c shape =
     unless TooManyReferences (nat_lt (length store.references) MOST_REFERENCES)
-        (Ok (with_reference store (fresh c shape)))
+    (Ok (with_reference store (fresh c shape)))
 
 -- the reference that was given last
 abbrev pub last_reference : Store → ℕ

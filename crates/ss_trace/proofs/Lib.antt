@@ -17,7 +17,7 @@ pub mod Glances
 pub mod Leaving
 pub mod NumberPlaces
 pub mod OneSet
-pub mod SetTold
+pub mod SetTellings
 pub mod Telling
 pub mod Unfoldings
 pub mod Neighbours

@@ -29,7 +29,7 @@ use Rattle.ss_trace.specs.Told.{tells_sets, tells_touched, tells_entity, is_told
 use Rattle.ss_trace.proofs.Leaving.{touches_there, touches_value, touches_list, Leaves, LeavesIf, turned_if, run_leaves}
 use Rattle.ss_trace.proofs.NumberPlaces.{both, clash, at_by, below_same, attribute_at, is_number}
 use Rattle.ss_trace.proofs.OneSet.{one_set}
-use Rattle.ss_trace.proofs.SetTold.{set_left, set_told}
+use Rattle.ss_trace.proofs.SetTellings.{set_left, set_told}
 
 -- ---- attributes
 

@@ -48,7 +48,7 @@ AreKept program store c k s neighbours =
 abbrev pub set_numbers : ProgramTable → Store → ℕ → ℕ → ℕ → List ℤ
 set_numbers program store c k s =
     kept_number program store c k s First ∷ kept_number program store c k s Last
-        ∷ kept_number program store c k s Number
+    ∷ kept_number program store c k s Number
     ∷ kept_number program store c k s Predecessor ∷ kept_number program store c k s Successor
     ∷ kept_number program store c k s Membership ∷ []
 

@@ -48,7 +48,7 @@ head_row question = row (codes "STATE") (codes "CLOCK") (codes "IN") (codes "LIN
 abbrev pub step_row : Input → Question → ℕ → List ℕ
 step_row input question q =
     row (decimal q) (signed_decimal (run input q).clock) (section_at input q) (decimal (line_at input q))
-        (value_at input question (q + 1))
+    (value_at input question (q + 1))
 
 -- the rows of some steps
 abbrev pub step_rows : Input → Question → List ℕ → List ℕ

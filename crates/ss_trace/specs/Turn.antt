@@ -8,8 +8,8 @@ use Rattle.ss_debug.specs.AfterRefusal.{IsPartOfMovement, IsStateAfterRefusedMov
 use Rattle.ss_debug.specs.Turn as debugger
 use Rattle.ss_debug.specs.Turn.{DebuggerState, debugger_state_at}
 use Rattle.ss_trace.specs.declared.movement.Movement.{Movement}
-use Rattle.ss_trace.specs.Movements.{Shape, debugger_shape, ahead, seek_back, over_by, back_over_by, shape_of, CountedEnd}
-use Rattle.ss_trace.specs.Movements.{over, back_over}
+use Rattle.ss_trace.specs.Movements.{Shape, debugger_shape, ahead, seek_back, over_by, back_over_by, shape_of}
+use Rattle.ss_trace.specs.Movements.{CountedEnd, over, back_over}
 use Rattle.ss_trace.specs.Movements.{ahead_end, is_met}
 
 -- the word of a movement forward from p to q: HALTED where the status isn't ready, its own where it met what it looks

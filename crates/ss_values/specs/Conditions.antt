@@ -49,7 +49,7 @@ owner_value readings set = subscript_value readings set.owner
 abbrev pub is_empty_list : Readings → SetRef → Result Bool RunFault
 is_empty_list readings set =
     owner_value readings set >>= λ o. count (set_of readings.tables set.set) readings.store (number_of o)
-        >>= λ n. Ok (n == 0)
+    >>= λ n. Ok (n == 0)
 
 -- whether a list has a member: both values first, then whether owner and member exist
 abbrev pub is_in_list : Readings → Expr → SetRef → Result Bool RunFault

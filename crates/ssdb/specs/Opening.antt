@@ -104,4 +104,4 @@ IsHeld model data_text seen end = (from : PromptState) × IsStart model data_tex
 abbrev pub IsStopped : List ℕ → List ℕ → Seen → PromptFault → Type 0
 IsStopped model data_text seen fault =
     ((from : PromptState) × IsStart model data_text from × StopsFrom from seen fault)
-        ⊎ IsRefusalWritten model seen fault
+    ⊎ IsRefusalWritten model seen fault

@@ -1,7 +1,7 @@
 //! A whole dialogue over a model and its data.
 ghost use Rattle.std.specs.Prelude.{◌≡◌, ◌-◌, ◌^◌, ◌<◌, OnOk, IfOk, IfErr};
 ghost use Rattle.std.specs.Vec.{vec_capacity};
-ghost use Rattle.ss_console.specs.declared.lines.TheConstants.{LINE_LIMIT};
+ghost use Rattle.ss_console.specs.declared.lines.TheConstants.{LONGEST_LINE};
 ghost use Rattle.ss_console.specs.Event.{Adds, write_events};
 ghost use Rattle.ss_machine.specs.Run.{run};
 ghost use Rattle.ss_prompt.specs.PromptState.{greeting};
@@ -11,7 +11,7 @@ ghost use Rattle.ssdb.specs.Seen.{seen_of};
 
 use crate::end::{PromptEnd, PromptFault};
 use crate::refused::refuse;
-use ss_console::{Console, Cut, LINE_LIMIT, converse, put_all};
+use ss_console::{Console, Cut, LONGEST_LINE, converse, put_all};
 use ss_links::SetBoard;
 use ss_machine::Status;
 use ss_prompt::{Prompt, source_lines};
@@ -80,7 +80,7 @@ fn hold<S: SetBoard, C: Console>(
     line: &mut Vec<u8>,
     console: &mut C,
 ) -> Result<PromptEnd, PromptFault>
-    requires room { LINE_LIMIT < vec_capacity line.old }
+    requires room { LONGEST_LINE < vec_capacity line.old }
     requires reads { (C.faults console.old).reads < 2 ^ 64 - 1 }
     requires puts { (C.faults console.old).puts < 2 ^ 64 - 1 }
     ensures ok { OnOk result (EndsWell prompt.old prompt.new (C.log console.old)
@@ -105,7 +105,7 @@ fn greet_and_hold<S: SetBoard, C: Console>(
     line: &mut Vec<u8>,
     console: &mut C,
 ) -> Result<PromptEnd, PromptFault>
-    requires room { LINE_LIMIT < vec_capacity line.old }
+    requires room { LONGEST_LINE < vec_capacity line.old }
     requires reads { (C.faults console.old).reads < 2 ^ 64 - 1 }
     requires puts { (C.faults console.old).puts < 2 ^ 64 - 1 }
     ensures ok { IfOk result (λ end. HoldsFrom prompt.entry (seen_of (C.terminal console.old)
@@ -139,7 +139,7 @@ pub fn open_prompt<C: Console>(
         (seen_of (C.terminal console.old) (C.left console.old) (C.left console.new)
         (C.log console.old) (C.log console.new)) fault) }
 {
-    let mut line = Vec::with_capacity(alloc, LINE_LIMIT + 1)?;
+    let mut line = Vec::with_capacity(alloc, LONGEST_LINE + 1)?;
     let lines = source_lines(alloc, model)?;
     match open_debugger(alloc, model, data_text) {
         Ok(debugger) => {

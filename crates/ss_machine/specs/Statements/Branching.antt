@@ -22,6 +22,6 @@ question_answer tables state WasNone = Ok (not state.frame.found)
 abbrev pub step_branch : Tables → State → Ways → Branch → State
 step_branch tables state ways (If q) =
     state_after_result state (question_answer tables state q)
-        (λ b. state_at_place (if b then ways.next else ways.exit) state)
+    (λ b. state_at_place (if b then ways.next else ways.exit) state)
 step_branch tables state ways Else = state_at_place ways.next state
 step_branch tables state ways Always = state_at_place ways.next state

@@ -54,7 +54,7 @@ abbrev pub state_after_return : ProgramTable → State → List FrameState → S
 state_after_return program state [] = state
 state_after_return program state (f ∷ fs) =
     state_after_result state
-        (state_behind_place program state.frame.locals (section_of program state.frame.section).given
+    (state_behind_place program state.frame.locals (section_of program state.frame.section).given
     (record state { frame = f; below = fs }) (spot_at program f.section f.place)) (λ r. r)
 
 -- the state in which an entry is over that ran: the data is passed up to and with the next mark; F22 where none is left

@@ -32,7 +32,7 @@ number_asked readings (Some e) count = value_of readings e
 abbrev pub state_after_create_every : Tables → State → ℕ → ℕ → ℤ → Result State RunFault
 state_after_create_every tables state c count n =
     with_class state.store c (class_of tables c) n
-        >>= λ st. Ok (state_after_assignment (state_with_store state st) (Global count) n)
+    >>= λ st. Ok (state_after_assignment (state_with_store state st) (Global count) n)
 
 -- the store without entity number k of class c; F7 where it is a pending notice, too
 abbrev pub store_without : Tables → State → ℕ → ℕ → Result Store RunFault
@@ -43,7 +43,7 @@ store_without tables state c k =
 abbrev pub state_after_destroy : Tables → State → ℕ → Expr → Result State RunFault
 state_after_destroy tables state c expression =
     value_of (readings tables state) expression >>= entity_named state.store c >>= store_without tables state c
-        >>= λ st. Ok (state_with_store state st)
+    >>= λ st. Ok (state_with_store state st)
 
 -- what a statement makes of the state that makes or ends entities
 abbrev pub state_after_making : Tables → State → Making → Result State RunFault

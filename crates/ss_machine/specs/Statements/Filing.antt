@@ -64,7 +64,7 @@ state_after_remove tables state set x =
 abbrev pub state_after_filing : Tables → State → Filing → Result State RunFault
 state_after_filing tables state (File e position r) =
     value_of (readings tables state) e >>= λ x. how_asked (readings tables state) position
-        >>= λ h. state_after_file tables state r x h
+    >>= λ h. state_after_file tables state r x h
 state_after_filing tables state (FileAt end e r) =
     value_of (readings tables state) e >>= λ x. state_after_file tables state r x (how_at end)
 state_after_filing tables state (RemoveAt end target r) = state_after_remove_end tables state r end target

@@ -55,7 +55,7 @@ state_after_closing place state = state_at_place place (state_with_loops state (
 abbrev pub state_with_candidate : State → ForPhrase → Option ℤ → ℤ → State
 state_with_candidate state phrase c x =
     state_after_assignment (state_with_loops state (loops_with_candidate c state.frame.loops))
-        (loop_variable phrase.phrase) x
+    (loop_variable phrase.phrase) x
 
 -- the state after what the qualifiers said
 abbrev pub state_after_verdict : Ways → State → Verdict → State
@@ -68,7 +68,7 @@ state_after_verdict ways state Closes = state_after_closing ways.exit state
 abbrev pub candidate_tried : Tables → State → ForPhrase → OpenLoop → ℤ → Result (State × Verdict) RunFault
 candidate_tried tables state phrase loop x =
     next_candidate (readings tables state) loop.walk x
-        >>= λ c. verdict_of (readings tables (state_with_candidate state phrase c x)) phrase.qualifiers
+    >>= λ c. verdict_of (readings tables (state_with_candidate state phrase c x)) phrase.qualifiers
     >>= λ v. Ok (state_with_candidate state phrase c x, v)
 
 -- the state after a turn of an open loop, by its candidate
@@ -120,7 +120,7 @@ abbrev pub state_after_telling : Tables → Statistics → State → List Tellin
 state_after_telling tables statistics state [] = Ok state
 state_after_telling tables statistics state (x ∷ xs) =
     state_with_value tables state x.target (statistic_value statistics x.statistic)
-        >>= λ r. state_after_telling tables statistics r xs
+    >>= λ r. state_after_telling tables statistics r xs
 
 -- one step of LOOP, FIND and the two places of COMPUTE: LOOP goes on to its phrase, FIND closes the loops of its chain
 abbrev pub step_looping : Tables → State → Ways → Looping → State

@@ -26,7 +26,7 @@ longer_report report text =
 abbrev pub state_after_print : Tables → State → ℕ → List Expr → List (List ℕ) → State
 state_after_print tables state next values picture =
     state_after_result state
-        (values_of (readings tables state) values >>= λ xs. longer_report state.report (picture_text picture xs))
+    (values_of (readings tables state) values >>= λ xs. longer_report state.report (picture_text picture xs))
     (λ report. state_at_place next (record state { report = report }))
 
 -- how many lines a value asks for, or F13

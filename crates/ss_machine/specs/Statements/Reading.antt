@@ -33,7 +33,7 @@ values_taken external items i (t ∷ ts) =
 abbrev pub state_after_read : ProgramTable → State → List Target → Result State RunFault
 state_after_read program state ts =
     refuse_if (is_waiting state.entry) OutsideEntry
-        >> values_taken (has_external program) state.feed.items state.feed.taken ts
+    >> values_taken (has_external program) state.feed.items state.feed.taken ts
     >>= λ xs. state_with_values (tables_of program) xs (state_with_taken state (state.feed.taken + length ts)) 0 ts
 
 -- one step of a READ

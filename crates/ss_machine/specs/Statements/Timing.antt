@@ -77,7 +77,7 @@ state_with_agenda state agenda = record state { agenda = agenda }
 abbrev pub state_with_notice : State → ℕ → ℕ → ℤ → List ℤ → Result State RunFault
 state_with_notice state c k time keys =
     may_schedule state.agenda k time state.clock
-        >> Ok (state_with_agenda state (agenda_after_scheduling state.agenda k time c keys))
+    >> Ok (state_with_agenda state (agenda_after_scheduling state.agenda k time c keys))
 
 -- the state in which notice k of class c has these first attributes, and is pending with its keys as they are then
 abbrev pub state_after_scheduling : ProgramTable → State → ℕ → ℕ → ℤ → List ℤ → Result State RunFault
@@ -109,13 +109,13 @@ state_after_schedule program state schedule =
 abbrev pub agenda_without : State → ℕ → Result Agenda RunFault
 agenda_without state k =
     refuse_if (waits_for k state.entry || not (is_pending state.agenda k)) NotScheduled
-        >> Ok (agenda_after_taking state.agenda k)
+    >> Ok (agenda_after_taking state.agenda k)
 
 -- the state after CANCEL of the notice that a value names
 abbrev pub state_after_cancel : Tables → State → ℕ → Expr → Result State RunFault
 state_after_cancel tables state c expression =
     value_of (readings tables state) expression >>= entity_named state.store c >>= agenda_without state
-        >>= λ a. Ok (state_with_agenda state a)
+    >>= λ a. Ok (state_with_agenda state a)
 
 -- ---- the timing routine
 
@@ -127,7 +127,7 @@ event_section program c = (event_of program c).section
 abbrev pub store_at_start : ProgramTable → Store → ℕ → ℕ → Result Store RunFault
 store_at_start program store c k =
     if (section_of program (event_section program c)).saving then Ok store
-        else without_entity (tables_of program) store c k
+    else without_entity (tables_of program) store c k
 
 -- the state in which notice k is taken off and the clock is at a time, over a store; an entry that waited for it runs
 abbrev pub state_at_time : State → ℕ → ℤ → Store → State
@@ -179,7 +179,7 @@ arrival_asked program state =
 abbrev pub state_after_load : ProgramTable → State → Result State RunFault
 state_after_load program state =
     arrival_asked program state
-        >>= λ a. state_after_arrival program (state_with_taken state (state.feed.taken + 2)) a.0 a.1
+    >>= λ a. state_after_arrival program (state_with_taken state (state.feed.taken + 2)) a.0 a.1
 
 -- whether an entry of the data is to be loaded
 abbrev pub loads : ProgramTable → State → Bool

@@ -1,7 +1,8 @@
 //! CALL, RETURN, END and STOP.
 ghost use Rattle.std.specs.Prelude.{◌≡◌, ◌+◌, ◌<◌, ◌≤◌, [], length, slice_get, OnOk, IfErr, OnErr};
+ghost use Rattle.ss_words.specs.declared.limits.TheConstants.{MOST_PARAMETERS};
 ghost use Rattle.ss_program.specs.Program.{section_of, spot_at};
-ghost use Rattle.ss_program.specs.ProgramSound.{IsSoundPlace, AreSoundExprs, IsCalledBy, parameter_limit};
+ghost use Rattle.ss_program.specs.ProgramSound.{IsSoundPlace, AreSoundExprs, IsCalledBy};
 ghost use Rattle.ss_store.specs.Tables.{tables_of};
 ghost use Rattle.ss_machine.specs.Noting.{Notes};
 ghost use Rattle.ss_machine.specs.Moment.{place_targets, yield_count};
@@ -74,8 +75,8 @@ impl<S: SetBoard> Executor<S> {
     /// Behind a CALL, to which the values kept from number `first` on came back.
     fn behind_call(&mut self, first: usize, next: usize, place: &Place) -> Result<(), RunFault>
         requires sound { InHeld self.old.held IsSoundPlace place.now }
-        requires parameters { first ≤ parameter_limit }
-        requires few { changes.call_targets place.now ≤ parameter_limit }
+        requires parameters { first ≤ MOST_PARAMETERS }
+        requires few { changes.call_targets place.now ≤ MOST_PARAMETERS }
         requires room { changes.call_targets place.now < self.old.journal.notes }
         ensures ok { OnOk result
             (state_behind_call self.old.held.beside.tables self.old.values.items first next
@@ -98,7 +99,7 @@ impl<S: SetBoard> Executor<S> {
         requires frame { IsWellFrame program.now self.old.held.state.frame }
         requires variables { length self.old.held.state.variables ≡ length program.now.globals }
         requires tables { self.old.held.beside.tables ≡ tables_of program.now }
-        requires parameters { first ≤ parameter_limit }
+        requires parameters { first ≤ MOST_PARAMETERS }
         requires room { place_targets program.now self.old.held.state < self.old.journal.notes }
         ensures ok { OnOk result
             (state_behind_place program.now self.old.values.items first self.old.held.state
@@ -125,7 +126,7 @@ impl<S: SetBoard> Executor<S> {
         requires well { IsInBounds program.now self.old.held.state }
         requires tables { self.old.held.beside.tables ≡ tables_of program.now }
         requires given { given ≡ (section_of program.now self.old.held.state.frame.section).given }
-        requires parameters { given ≤ parameter_limit }
+        requires parameters { given ≤ MOST_PARAMETERS }
         requires none { self.old.journal.current ≡ [] }
         requires room { 1 + yield_count program.now self.old.held.state.below
             < self.old.journal.notes }

@@ -3,8 +3,8 @@ pub mod candidates;
 pub mod verdict;
 
 ghost use Rattle.std.specs.Prelude.{◌≡◌, ◌+◌, ◌<◌, ◌≤◌, ◌∷◌, [], length, drop, true, OnOk, IfOk, IfErr};
+ghost use Rattle.ss_words.specs.declared.limits.TheConstants.{MOST_PHRASES};
 ghost use Rattle.ss_program.specs.ProgramSound.{IsSoundPhrase, AreSoundQualifiers, AreSoundTellings, IsSoundLooping};
-ghost use Rattle.ss_program.specs.ProgramSound.{loop_limit};
 ghost use Rattle.ss_machine.specs.Noting.{Notes};
 ghost use Rattle.ss_machine.specs.Moment as changes;
 ghost use Rattle.ss_machine.specs.Seen.{InHeld};
@@ -208,7 +208,7 @@ impl<S: SetBoard> Executor<S> {
 
     #[tactic(auto, using(crate::proofs::Parts::drop_one_more))]
     fn find(&mut self, ways: Ways)
-        requires few { ways.chain ≤ loop_limit }
+        requires few { ways.chain ≤ MOST_PHRASES }
         requires room { 1 + ways.chain < self.old.journal.notes }
         ensures state { self.new.held.state ≡ state_at_place ways.next
             (state_with_loops (state_with_found self.old.held.state true)
@@ -270,7 +270,7 @@ impl<S: SetBoard> Executor<S> {
         requires sound { InHeld self.old.held IsSoundLooping looping.now }
         requires walks { AreSoundWalks
             (length self.old.held.beside.tables.sets) self.old.held.state.frame.loops }
-        requires few { ways.chain ≤ loop_limit }
+        requires few { ways.chain ≤ MOST_PHRASES }
         requires none { self.old.journal.current ≡ [] }
         requires room { changes.most_looping_changes ways looping.now ≤ self.old.journal.notes }
         ensures state { OnOk result (self.new.held.state
@@ -305,7 +305,7 @@ impl<S: SetBoard> Executor<S> {
 /// For how many changes LOOP, FIND, COMPUTE and a FOR phrase ask for room: they note no more.
 #[inline(always)]
 pub fn looping_room(ways: Ways, looping: &Looping) -> usize
-    requires { ways.chain ≤ loop_limit }
+    requires { ways.chain ≤ MOST_PHRASES }
     ensures { changes.most_looping_changes ways looping.now ≤ result }
 {
     match looping {

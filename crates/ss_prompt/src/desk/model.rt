@@ -14,10 +14,9 @@ use crate::desk::PromptDesk;
 use crate::listing::{push_lines_about, push_lines_to};
 use crate::names::{push_names_said, push_warnings_said};
 use crate::sections::{
-    LAST_BREAK_LINE, find_section, head_line, last_line, line_of_section, present_line,
-    push_no_section,
+    find_section, head_line, last_line, line_of_section, present_line, push_no_section,
 };
-use ss_debug::{Command, Debugger, Name, obey};
+use ss_debug::{Command, Debugger, GREATEST_LINE, Name, obey};
 use ss_links::SetBoard;
 use std::alloc::AllocError;
 
@@ -38,7 +37,7 @@ fn break_line<S: SetBoard>(
     ensures memory { OnErr result (debugger_state_of debugger.new
         ≡ debugger_state_of debugger.old) }
 {
-    if line > LAST_BREAK_LINE as usize {
+    if line > GREATEST_LINE as usize {
         obey(debugger, Command::Bad, answer)?;
     } else {
         obey(debugger, Command::Break(line as u32), answer)?;
@@ -63,7 +62,7 @@ fn clear_line<S: SetBoard>(
     ensures memory { OnErr result (debugger_state_of debugger.new
         ≡ debugger_state_of debugger.old) }
 {
-    if line > LAST_BREAK_LINE as usize {
+    if line > GREATEST_LINE as usize {
         obey(debugger, Command::Bad, answer)?;
     } else {
         obey(debugger, Command::Clear(line as u32), answer)?;

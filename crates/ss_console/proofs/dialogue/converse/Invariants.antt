@@ -1,6 +1,6 @@
 use Rattle.std.proofs.Common.{◌≡◌, ◌<◌}
 use Rattle.std.specs.Vec.{vec_capacity}
-use Rattle.ss_console.specs.declared.lines.TheConstants.{LINE_LIMIT}
+use Rattle.ss_console.specs.declared.lines.TheConstants.{LONGEST_LINE}
 use Rattle.ss_console.proofs.Turns.{AreDone}
 use Rattle.ss_console.proofs.dialogue.converse.Given as goal
 
@@ -11,5 +11,5 @@ invariant-loop g l = record {
       (g.C.Console.left l.console) (g.C.Console.log l.initial.console) (g.C.Console.log l.console) l.counter;
   terminal : g.C.Console.terminal l.console ≡ g.C.Console.terminal l.initial.console;
   faults : g.C.Console.faults l.console ≡ g.C.Console.faults l.initial.console;
-  room : LINE_LIMIT < vec_capacity l.line;
+  room : LONGEST_LINE < vec_capacity l.line;
 }
