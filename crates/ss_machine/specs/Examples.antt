@@ -97,11 +97,11 @@ no_readings = record {
 
 -- LET variable = expression
 abbrev pub let_be : Variable → Expr → Place
-let_be variable expression = Assign (Let false (ToVariable variable) expression)
+let_be target expression = Assign (Let false (ToVariable target) expression)
 
 -- ADD expression TO variable
 abbrev pub add_to : Variable → Expr → Place
-add_to variable expression = Assign (Add expression (ToVariable variable))
+add_to target expression = Assign (Add expression (ToVariable target))
 
 -- END
 abbrev pub end_place : Place

@@ -75,7 +75,7 @@ behind_reserved standing _ ws = standing
 
 -- behind a name: a class is the owner of what HAS gives
 abbrev pub behind_name : Standing → Name → Standing
-behind_name standing name = elim standing.counted [ Classes ↦ record standing { owner = Some name } | _ ↦ standing ]
+behind_name standing named = elim standing.counted [ Classes ↦ record standing { owner = Some named } | _ ↦ standing ]
 
 -- behind a word, which the words ws follow
 abbrev pub behind_word : Standing → Plain → List Plain → Standing
@@ -90,11 +90,11 @@ owned_role (Some c) = AnAttribute c
 
 -- what a name counts to
 abbrev pub name_role : Standing → Name → Role
-name_role standing name = elim standing.counted [
+name_role standing named = elim standing.counted [
   | NoNames ↦ Nothing
-  | Classes ↦ AClass name
+  | Classes ↦ AClass named
   | Owned ↦ owned_role standing.owner
-  | Sets ↦ ASet name
+  | Sets ↦ ASet named
   | Variables ↦ AVariable
   | Keys ↦ AKey standing.keys
 ]

@@ -206,7 +206,7 @@ mutual
 
 -- a condition as its tokens
 abbrev pub tokens_of_condition : Condition → List Token
-tokens_of_condition condition = condition_tokens condition []
+tokens_of_condition tree = condition_tokens tree []
 
 -- and read back from them
 abbrev pub condition_of_tokens : List Token → Condition

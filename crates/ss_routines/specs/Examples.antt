@@ -113,9 +113,9 @@ ForControlsOneStatement =
 
 -- the words of a condition behind IF, and the tree of that IF
 abbrev pub AsksOnly : List Plain → Condition → Type 0
-AsksOnly ws condition =
+AsksOnly ws asked =
     SpellOnly (main_words (word r.If ∷ (ws ++ word r.Always ∷ [])))
-    (main_tree (one_statement (branch (Holds condition) no_statements no_else)))
+    (main_tree (one_statement (branch (Holds asked) no_statements no_else)))
 
 -- X = 1 OR Y = 1 AND S = 1: AND binds more tightly
 abbrev pub AndBindsMoreTightly : Type 0

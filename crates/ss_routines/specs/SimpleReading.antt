@@ -50,7 +50,7 @@ list_of (Some xs) = all_of xs
 
 -- [mark x {"," x}]
 unfoldable pub list_behind : {A : Type 0} → Mark → Reading A → Reading (List A)
-list_behind mark p = made list_of (if_mark mark (several p))
+list_behind wanted p = made list_of (if_mark wanted (several p))
 
 -- [GIVEN x {"," x} | "(" x {"," x} ")"], where inner reads in the parentheses
 unfoldable pub listing_with : {A : Type 0} → ℕ → Reading A → Reading A → Reading (Listing A)

@@ -23,13 +23,13 @@ use Rattle.ss_routines.specs.Simple.{Transfers, Times, Exchanges}
 
 -- one or more behind a word, or nothing
 abbrev pub spell_behind : {A : Type 0} → Mark → (A → List Plain) → List A → List Plain
-spell_behind mark spell [] = []
-spell_behind k spell (x ∷ xs) = mark k ∷ (spell x ++ spell_others spell xs)
+spell_behind before spell [] = []
+spell_behind k spell (x ∷ xs) = before k ∷ (spell x ++ spell_others spell xs)
 
 -- one behind a word, or nothing
 abbrev pub spell_option : {A : Type 0} → Mark → (A → List Plain) → Option A → List Plain
-spell_option mark spell None = []
-spell_option k spell (Some x) = mark k ∷ spell x
+spell_option before spell None = []
+spell_option k spell (Some x) = before k ∷ spell x
 
 -- nothing, or behind GIVEN, or in parentheses
 abbrev pub spell_listing : {A : Type 0} → (A → List Plain) → Listing A → List Plain

@@ -42,8 +42,8 @@ spell_names ns = spell_several (λ n. name n ∷ []) ns
 
 -- one or more names behind a mark, or nothing
 abbrev pub spell_names_behind : Mark → Option (Several Name) → List Plain
-spell_names_behind mark None = []
-spell_names_behind k (Some ns) = mark k ∷ spell_names ns
+spell_names_behind wanted None = []
+spell_names_behind k (Some ns) = wanted k ∷ spell_names ns
 
 -- a comma and a name, or nothing
 unfoldable pub next_name : Reading (Option Name)
@@ -59,4 +59,4 @@ names = a_name >>= λ n. other_names >>= λ ns. pure (record { first = n; others
 
 -- [mark name {"," name}]
 unfoldable pub names_behind : Mark → Reading (Option (Several Name))
-names_behind mark = eat mark >>= λ b. elim b [ true ↦ (names >>= λ ns. pure (Some ns)) | false ↦ pure None ]
+names_behind wanted = eat wanted >>= λ b. elim b [ true ↦ (names >>= λ ns. pure (Some ns)) | false ↦ pure None ]

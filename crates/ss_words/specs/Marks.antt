@@ -19,15 +19,15 @@ same_mark (m.Reserved a) (m.Sign b) = false
 -- whether the next word is this mark
 abbrev pub is : Mark → Option Plain → Bool
 is k (Some (mark j)) = same_mark k j
-is mark _ = false
+is wanted _ = false
 
 -- passes this mark, or refuses what stands in its place
 unfoldable pub expect : Mark → Reading (Unit {0})
-expect mark = look (λ w. elim (is mark w) [ true ↦ skip (pure tt) | false ↦ refuse Unexpected ])
+expect wanted = look (λ w. elim (is wanted w) [ true ↦ skip (pure tt) | false ↦ refuse Unexpected ])
 
 -- whether the next word is this mark, which is then passed
 unfoldable pub eat : Mark → Reading Bool
-eat mark = look (λ w. elim (is mark w) [ true ↦ skip (pure true) | false ↦ pure false ])
+eat wanted = look (λ w. elim (is wanted w) [ true ↦ skip (pure true) | false ↦ pure false ])
 
 -- passes a name, or refuses what stands in its place
 abbrev pub name_by : Option Plain → Reading (List ℕ)
