@@ -24,12 +24,12 @@ use Rattle.ss_routines.specs.Simple.{Transfers, Times, Exchanges}
 -- one or more behind a word, or nothing
 abbrev pub spell_behind : {A : Type 0} → Mark → (A → List Plain) → List A → List Plain
 spell_behind before spell [] = []
-spell_behind k spell (x ∷ xs) = before k ∷ (spell x ++ spell_others spell xs)
+spell_behind before spell (x ∷ xs) = mark before ∷ (spell x ++ spell_others spell xs)
 
 -- one behind a word, or nothing
 abbrev pub spell_option : {A : Type 0} → Mark → (A → List Plain) → Option A → List Plain
 spell_option before spell None = []
-spell_option k spell (Some x) = before k ∷ spell x
+spell_option before spell (Some x) = mark before ∷ spell x
 
 -- nothing, or behind GIVEN, or in parentheses
 abbrev pub spell_listing : {A : Type 0} → (A → List Plain) → Listing A → List Plain

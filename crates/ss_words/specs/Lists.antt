@@ -43,7 +43,7 @@ spell_names ns = spell_several (λ n. name n ∷ []) ns
 -- one or more names behind a mark, or nothing
 abbrev pub spell_names_behind : Mark → Option (Several Name) → List Plain
 spell_names_behind wanted None = []
-spell_names_behind k (Some ns) = wanted k ∷ spell_names ns
+spell_names_behind wanted (Some ns) = mark wanted ∷ spell_names ns
 
 -- a comma and a name, or nothing
 unfoldable pub next_name : Reading (Option Name)

@@ -18,7 +18,7 @@ same_mark (m.Reserved a) (m.Sign b) = false
 
 -- whether the next word is this mark
 abbrev pub is : Mark → Option Plain → Bool
-is k (Some (mark j)) = same_mark k j
+is wanted (Some (mark j)) = same_mark wanted j
 is wanted _ = false
 
 -- passes this mark, or refuses what stands in its place
