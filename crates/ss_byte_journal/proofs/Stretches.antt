@@ -1,5 +1,6 @@
 -- stretches of a list of bytes: the forgotten ones, those of closed steps, those of the open step
-use Rattle.std.proofs.Common.{◌≡◌, ℕ, ◌+◌, ◌-◌, ◌<◌, ◌≤◌, List, [], ◌∷◌, ◌++◌, length, take, drop, get_or, refl, ap, sym, ◌∙◌, arith}
+use Rattle.std.proofs.Common.{◌≡◌, ℕ, ◌+◌, ◌-◌, ◌<◌, ◌≤◌, List, [], ◌∷◌, ◌++◌, length, take, drop, get_or, refl, ap}
+use Rattle.std.proofs.Common.{sym, ◌∙◌, arith}
 use Rattle.std.proofs.Common.{length-take, length-drop}
 use Rattle.std.specs.Prelude.{reverse, sum, nat_lt}
 use Rattle.std.proofs.lemmas.List.{reverse-append, length-reverse, take-append-drop, drop-append-le, take_at, drop_at}

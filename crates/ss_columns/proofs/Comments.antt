@@ -1,5 +1,6 @@
 -- A line with blank comments, from its front.
-use Rattle.std.proofs.Common.{◌≡◌, ◌∙◌, ℕ, ◌<◌, Bool, true, false, not, List, [], ◌∷◌, ◌++◌, length, drop, append_assoc, append-nil, subst, sym, arith}
+use Rattle.std.proofs.Common.{◌≡◌, ◌∙◌, ℕ, ◌<◌, Bool, true, false, not, List, [], ◌∷◌, ◌++◌, length, drop, append_assoc}
+use Rattle.std.proofs.Common.{append-nil, subst, sym, arith}
 use Rattle.std.specs.Prelude.{slice_index, if◌then◌else◌}
 use Rattle.ss_words.specs.declared.characters.TheConstants.{BLANK}
 use Rattle.ss_words.specs.TextLines.{with_blank_comments}

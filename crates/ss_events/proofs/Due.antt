@@ -1,6 +1,7 @@
 -- How the times of the seats are kept.
 use Rattle.std.proofs.Common.{◌≡◌, ℕ, ℤ, pos, ◌+◌, ◌-◌, ◌<◌, ◌≤◌, ◌++◌, true, false, eqb, ltb, List, [], ◌∷◌, length}
-use Rattle.std.proofs.Common.{take, get_or, Option, Some, None, refl, sym, ap, ◌∙◌, arith, suc, zero, length-append, subst}
+use Rattle.std.proofs.Common.{take, get_or, Option, Some, None, refl, sym, ap, ◌∙◌, arith, suc, zero, length-append}
+use Rattle.std.proofs.Common.{subst}
 use Rattle.std.proofs.Math.ListN.{set, length-set, get_or-append}
 use Rattle.std.proofs.Math.Seq.{get_or-append_seam}
 use Rattle.std.proofs.lemmas.List.{get_or-set_same, get_or-set_other, get_or-take, length-take}

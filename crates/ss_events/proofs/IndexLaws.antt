@@ -1,5 +1,6 @@
 -- What the search in the index of a class's notices finds.
-use Rattle.std.proofs.Common.{◌≡◌, ℕ, ◌<◌, ◌≤◌, ◌++◌, ◌||◌, ◌&&◌, Bool, true, false, cond, eqb, List, [], ◌∷◌, length, get_or}
+use Rattle.std.proofs.Common.{◌≡◌, ℕ, ◌<◌, ◌≤◌, ◌++◌, ◌||◌, ◌&&◌, Bool, true, false, cond, eqb, List, [], ◌∷◌, length}
+use Rattle.std.proofs.Common.{get_or}
 use Rattle.std.proofs.Common.{Option, Some, None, refl, sym, ap, ◌∙◌, arith, subst, ◌-◌}
 use Rattle.std.proofs.Math.ListN.{set}
 use Rattle.std.proofs.lemmas.List.{get_or_default}
@@ -30,7 +31,8 @@ use Rattle.ss_events.proofs.BeforeLaws.{IsKeyed, IsOrder-is_before}
 use Rattle.ss_events.proofs.StateLaws.{seat_in-below, seat_in-notice}
 use Rattle.ss_events.proofs.EventLaws.{list_at-by, event-at}
 use Rattle.ss_events.proofs.BoardOf.{IsTold, class_seats, Each-order, AreKeyed-order, IsSorted-order, pending_in-class}
-use Rattle.ss_events.proofs.Stands.{told, sound_board, Each-pending_at, seats_of-append, once-between, each-between, length-lists}
+use Rattle.ss_events.proofs.Stands.{told, sound_board, Each-pending_at, seats_of-append, once-between, each-between}
+use Rattle.ss_events.proofs.Stands.{length-lists}
 use Rattle.ss_events.proofs.PutAndTakeOut.{pending-seat, has-row, row-is, taken-head}
 use Rattle.ss_events.proofs.Predecessors.{IsBetween, between}
 

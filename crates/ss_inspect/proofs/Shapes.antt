@@ -1,5 +1,6 @@
 -- What the store keeps of a set is what the program says of it.
-use Rattle.std.proofs.Common.{◌≡◌, ℕ, zero, suc, ◌+◌, ◌<◌, ◌≤◌, false, true, List, [], ◌∷◌, map, length, refl, ap, ◌∙◌, arith}
+use Rattle.std.proofs.Common.{◌≡◌, ℕ, zero, suc, ◌+◌, ◌<◌, ◌≤◌, false, true, List, [], ◌∷◌, map, length, refl, ap, ◌∙◌}
+use Rattle.std.proofs.Common.{arith}
 use Rattle.std.proofs.Common.{slice_get, unwrap_or, Option, Some, None, eqb, cond}
 use Rattle.std.specs.Prelude.{is_some, option_map}
 use Rattle.std.specs.List.{range_with_len}

@@ -13,7 +13,8 @@ use Rattle.ss_preamble.specs.Tree as t
 use Rattle.ss_preamble.specs.Tree.{EventRule, PriorityOrder, BreakTies, ExternalEvents, Item, Normally, Headed}
 use Rattle.ss_preamble.specs.Tree.{OfEvery, OfSystem, Defines, Orders, Preamble}
 use Rattle.ss_preamble.specs.Spelling.{word, spell_clause, spell_clauses, spell_other_clauses, spell_rank, spell_key}
-use Rattle.ss_preamble.specs.Spelling.{spell_keys, spell_other_keys, spell_set_discipline, spell_item, spell_items, spell}
+use Rattle.ss_preamble.specs.Spelling.{spell_keys, spell_other_keys, spell_set_discipline, spell_item, spell_items}
+use Rattle.ss_preamble.specs.Spelling.{spell}
 use Rattle.ss_preamble.specs.Roles.{CountedKind, NoNames, Classes, Owned, Sets, Variables, Keys}
 use Rattle.ss_preamble.specs.Roles.{Role, AClass, AVariable, ASet, AKey, Nothing, Standing, at_start, behind_name}
 use Rattle.ss_preamble.specs.Roles.{name_role, owned_role, kind_behind_define, kind_behind_as, roles_from, roles}

@@ -19,7 +19,8 @@ use Rattle.ss_preamble.specs.Tree.{Key, Clause, Has, Owns, BelongsTo, SetDiscipl
 use Rattle.ss_preamble.specs.Tree.{Variables, Sets, PriorityOrder, BreakTies, ExternalEvents, Item, Normally, Headed}
 use Rattle.ss_preamble.specs.Tree.{OfEvery, OfSystem, Defines, Orders, Preamble}
 use Rattle.ss_preamble.specs.Spelling.{word, spell_clause, spell_other_clauses, spell_clauses, spell_rank, spell_key}
-use Rattle.ss_preamble.specs.Spelling.{spell_other_keys, spell_keys, spell_set_discipline, spell_item, spell_items, spell}
+use Rattle.ss_preamble.specs.Spelling.{spell_other_keys, spell_keys, spell_set_discipline, spell_item, spell_items}
+use Rattle.ss_preamble.specs.Spelling.{spell}
 use Rattle.ss_preamble.specs.ItemReading.{clause_by, next_clause, a_clause, other_clauses, clauses, a_rank, a_key}
 use Rattle.ss_preamble.specs.ItemReading.{next_key, other_keys, keys, heading_with, definition_of, definition_with}
 use Rattle.ss_preamble.specs.ItemReading.{normally_with, every_with, priority_with, break_with, external_with}

@@ -21,7 +21,8 @@ use Rattle.ss_preamble.specs.Tree.{BreakTies, ExternalEvents, Item, Normally, He
 use Rattle.ss_preamble.specs.Tree.{Orders}
 use Rattle.ss_preamble.specs.Spelling.{word, spell_heading, spell_clause, spell_other_clauses, spell_clauses}
 use Rattle.ss_preamble.specs.Spelling.{spell_rank, spell_key, spell_next_key, spell_other_keys, spell_keys}
-use Rattle.ss_preamble.specs.Spelling.{spell_set_discipline, spell_definition, spell_event_rule, spell_item, spell_items}
+use Rattle.ss_preamble.specs.Spelling.{spell_set_discipline, spell_definition, spell_event_rule, spell_item}
+use Rattle.ss_preamble.specs.Spelling.{spell_items}
 use Rattle.ss_preamble.specs.Spelling.{spell}
 use Rattle.ss_preamble.specs.ItemReading.{clause_by, next_clause, a_clause, other_clauses, clauses, a_rank, a_key}
 use Rattle.ss_preamble.specs.ItemReading.{next_key, other_keys, keys, heading_with, definition_by, definition_of}

@@ -23,7 +23,8 @@ use Rattle.ss_store.specs.Tables.{IsSet, owned_by}
 use Rattle.ss_store.specs.Parts.{entity_with, reference_with, made_with, zip_table, state_of}
 use Rattle.ss_store.proofs.Core.{some_eq, found, map_some, Found, one_seat, owner_of_seat, seat_number, head_entry}
 use Rattle.ss_store.proofs.Core.{seat_entry, made_none}
-use Rattle.ss_store.proofs.OneListChanges.{zipped_get, zipped_none, zipped_short, zipped_some, index_map, reference_class}
+use Rattle.ss_store.proofs.OneListChanges.{zipped_get, zipped_none, zipped_short, zipped_some, index_map}
+use Rattle.ss_store.proofs.OneListChanges.{reference_class}
 use Rattle.ss_store.proofs.Boards.{Apart, has-map}
 
 -- the entity of a row

@@ -25,8 +25,10 @@ use Rattle.ss_store.specs.Finding.{spot_before, spot_after, spot_by, place_by}
 use Rattle.ss_store.specs.Parts.{value_of, number_at}
 use Rattle.ss_store.proofs.Boards.{relisted_set}
 use Rattle.ss_store.proofs.Agree.{get_read, owner_is, member_is, is_filed_is, head_below, seat_below}
-use Rattle.ss_store.proofs.FilingChanges.{Spots, Puts, placed, unplaced, spotted, unspotted, put_store, put_state, put_back}
-use Rattle.ss_store.proofs.FilingChanges.{put_stands, spot_eq, filed_ok, no_owner, no_member, none_named, already, not_there}
+use Rattle.ss_store.proofs.FilingChanges.{Spots, Puts, placed, unplaced, spotted, unspotted, put_store, put_state}
+use Rattle.ss_store.proofs.FilingChanges.{put_back}
+use Rattle.ss_store.proofs.FilingChanges.{put_stands, spot_eq, filed_ok, no_owner, no_member, none_named, already}
+use Rattle.ss_store.proofs.FilingChanges.{not_there}
 
 -- a call on a set of a store
 pub record Case (g : StoreParts) (v : StoreValue) (set : ℕ) (rule : SetShape) : Type 0 where

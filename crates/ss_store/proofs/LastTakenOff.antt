@@ -26,7 +26,8 @@ use Rattle.ss_store.proofs.Agree.{get_below, length_mapped}
 use Rattle.ss_store.proofs.More.{split_get, length_more, same_fronts, tail_is, length_rep, change_change}
 use Rattle.ss_store.proofs.More.{change_none, index_get, IsTable, table_case, table_here, table_made, used_grown}
 use Rattle.ss_store.proofs.OneMoreEntity.{Grows, length_heads, length_seats, get_heads, get_seats, heads_of_one}
-use Rattle.ss_store.proofs.OneMoreEntity.{seats_of_one, seat_numbers, map_both, list_more, list_past, row_kept, value_kept}
+use Rattle.ss_store.proofs.OneMoreEntity.{seats_of_one, seat_numbers, map_both, list_more, list_past, row_kept}
+use Rattle.ss_store.proofs.OneMoreEntity.{value_kept}
 use Rattle.ss_store.proofs.OneMoreEntity.{row_was, value_was, refound}
 
 -- ---- what was there before an entity was made is a store

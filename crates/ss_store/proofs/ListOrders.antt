@@ -1,7 +1,8 @@
 -- Lists that are known to be in order stay so.
 use Rattle.std.proofs.lemmas.Bool.Decides.{nat_tests}
 use Rattle.std.proofs.Common.{◌≡◌, ◌≢◌, ◌⊎◌, inl, inr, ℕ, ℤ, pos, zero, suc, ◌+◌, ◌-◌, ◌<◌, ◌≤◌}
-use Rattle.std.proofs.Common.{◌==◌, ◌&&◌, ◌||◌, List, [], ◌∷◌, ◌++◌, length, map, refl, ap, sym, subst, ◌∙◌, arith, slice_get, slice_index_or, replicate}
+use Rattle.std.proofs.Common.{◌==◌, ◌&&◌, ◌||◌, List, [], ◌∷◌, ◌++◌, length, map, refl, ap, sym, subst, ◌∙◌, arith}
+use Rattle.std.proofs.Common.{slice_get, slice_index_or, replicate}
 use Rattle.std.proofs.Common.{Option, Some, None, Bool, true, false, cond, set}
 use Rattle.std.specs.Prelude.{Ok, is_some, unwrap_or, slice_set}
 use Rattle.std.specs.List.{list_any}

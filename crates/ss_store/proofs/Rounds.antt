@@ -1,6 +1,7 @@
 -- Which lists are known in a round.
 use Rattle.std.proofs.lemmas.Bool.Decides.{nat_tests}
-use Rattle.std.proofs.Common.{◌≡◌, ℕ, zero, suc, ◌+◌, ◌<◌, ◌≤◌, ◌==◌, ◌++◌, List, [], ◌∷◌, length, map, Bool, true, false}
+use Rattle.std.proofs.Common.{◌≡◌, ℕ, zero, suc, ◌+◌, ◌<◌, ◌≤◌, ◌==◌, ◌++◌, List, [], ◌∷◌, length, map, Bool, true}
+use Rattle.std.proofs.Common.{false}
 use Rattle.std.proofs.Common.{refl, ap, sym, ◌∙◌, arith, replicate, slice_index_or}
 use Rattle.std.specs.Prelude.{slice_set}
 use Rattle.ss_store.specs.Order.{known_at, known_in, AreRounds}

@@ -36,7 +36,8 @@ use Rattle.ss_store.specs.Parts.{made_with, zip_rows, zip_table, layout_of, stat
 use Rattle.ss_store.specs.Making.{numbering_by, with_table}
 use Rattle.ss_store.specs.Writing.{with_values}
 use Rattle.ss_store.proofs.Core.{some_eq, found, map_some, made_none}
-use Rattle.ss_store.proofs.OneListChanges.{is_or_not, zipped_some, reference_class, reference_other, index_map, change_same}
+use Rattle.ss_store.proofs.OneListChanges.{is_or_not, zipped_some, reference_class, reference_other, index_map}
+use Rattle.ss_store.proofs.OneListChanges.{change_same}
 use Rattle.ss_store.proofs.OneListChanges.{zipped_none}
 use Rattle.ss_store.proofs.Agree.{entity_is}
 use Rattle.ss_store.proofs.More.{change_change, change_none, map_change, index_get, IsTable, table_case, table_here}

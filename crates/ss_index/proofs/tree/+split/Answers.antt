@@ -1,7 +1,8 @@
 use Rattle.std.proofs.Common.{◌≡◌, true, false, ap, arith, rules}
 use Rattle.ss_index.specs.Trees.{inorder}
 use Rattle.ss_index.proofs.FilingLaws.{seats_passed-behind, rest-behind, seats_passed-front, rest-front}
-use Rattle.ss_index.proofs.ForkLaws.{known-here, known-left, known-right, divided-left, divided-right, fewer-left, fewer-right}
+use Rattle.ss_index.proofs.ForkLaws.{known-here, known-left, known-right, divided-left, divided-right, fewer-left}
+use Rattle.ss_index.proofs.ForkLaws.{fewer-right}
 use Rattle.ss_index.proofs.tree.+split.Goals as goal
 
 pub is_behind-requires : goal.is_behind-requires

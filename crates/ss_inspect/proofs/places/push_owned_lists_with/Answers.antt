@@ -1,4 +1,5 @@
-use Rattle.std.proofs.Common.{◌≡◌, ℕ, ℤ, suc, ◌+◌, ◌++◌, refl, arith, ap, ◌∙◌, List, subst, rules, w64, FitsSigned, to_z, of_z}
+use Rattle.std.proofs.Common.{◌≡◌, ℕ, ℤ, suc, ◌+◌, ◌++◌, refl, arith, ap, ◌∙◌, List, subst, rules, w64, FitsSigned}
+use Rattle.std.proofs.Common.{to_z, of_z}
 use Rattle.std.specs.Prelude.{codes, decimal}
 use Rattle.std.proofs.lemmas.Int.{to_z-of_z}
 use Rattle.ss_store.specs.Store.{number_of, greatest_number}

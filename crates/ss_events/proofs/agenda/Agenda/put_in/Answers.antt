@@ -6,7 +6,8 @@ use Rattle.ss_events.specs.State.{AgendaState}
 use Rattle.ss_events.specs.Views.{notice_of}
 use Rattle.ss_events.specs.Changes.{CanPend}
 use Rattle.ss_events.proofs.IndexLaws.{put_in-ranked, head-within, place-is, index-put}
-use Rattle.ss_events.proofs.PutAndTakeOut.{put_in-relink, put_in-closed, put_in-read_set, node-there, node-is, view-with}
+use Rattle.ss_events.proofs.PutAndTakeOut.{put_in-relink, put_in-closed, put_in-read_set, node-there, node-is}
+use Rattle.ss_events.proofs.PutAndTakeOut.{view-with}
 use Rattle.ss_events.proofs.PutAndTakeOut.{seat-read}
 use Rattle.ss_events.proofs.StateLaws.{seat_in-below}
 use Rattle.ss_events.proofs.Due.{due-ranked, due-put}

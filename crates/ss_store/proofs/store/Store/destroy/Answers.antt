@@ -2,7 +2,8 @@ use Rattle.std.proofs.Common.{rules, w64, FitsSigned, ap, sym, ◌∙◌, ◌-�
 use Rattle.std.proofs.lemmas.Int.{to_z-of_z}
 use Rattle.ss_store.specs.Store.{number_of}
 use Rattle.ss_store.proofs.MakingAnswers.{at_of}
-use Rattle.ss_store.proofs.EndingAnswers.{lives, seats_below, heads_below, index_below, end_fault, none_ends, member_stays}
+use Rattle.ss_store.proofs.EndingAnswers.{lives, seats_below, heads_below, index_below, end_fault, none_ends}
+use Rattle.ss_store.proofs.EndingAnswers.{member_stays}
 use Rattle.ss_store.proofs.EndingAnswers.{owner_stays, found_out, ended_pair, taken_out, ended_outcome}
 use Rattle.ss_store.proofs.EndingAnswers.{lives}
 use Rattle.ss_store.proofs.ListOrders.{ended_order}

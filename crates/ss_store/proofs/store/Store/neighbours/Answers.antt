@@ -4,7 +4,8 @@ use Rattle.std.proofs.lemmas.Int.{to_z-of_z}
 use Rattle.ss_store.specs.Store.{number_of}
 use Rattle.ss_store.specs.Parts.{number_at}
 use Rattle.ss_store.proofs.Calls.{case_of, seat_small}
-use Rattle.ss_store.proofs.KeptAttributes.{kept_seat, predecessor_below, successor_below, neighbours_none, neighbours_are}
+use Rattle.ss_store.proofs.KeptAttributes.{kept_seat, predecessor_below, successor_below, neighbours_none}
+use Rattle.ss_store.proofs.KeptAttributes.{neighbours_are}
 use Rattle.ss_store.proofs.store.Store.neighbours.Goals as goal
 
 pub seat_of-requires : goal.seat_of-requires

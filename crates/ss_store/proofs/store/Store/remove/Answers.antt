@@ -9,7 +9,8 @@ use Rattle.std.proofs.Common.{ap, sym, ◌∙◌, length, arith, ℕ}
 use Rattle.ss_store.specs.Parts.{number_at}
 use Rattle.ss_store.proofs.Calls.{case_of, head_small}
 use Rattle.ss_store.proofs.Agree.{head_below, seat_below}
-use Rattle.ss_store.proofs.RemovedMembers.{remove_no_owner, remove_unnamed, remove_store, remove_left, named_below, named_linked}
+use Rattle.ss_store.proofs.RemovedMembers.{remove_no_owner, remove_unnamed, remove_store, remove_left, named_below}
+use Rattle.ss_store.proofs.RemovedMembers.{named_linked}
 use Rattle.ss_store.proofs.RemovedMembers.{named_number, before_below, remove_to}
 use Rattle.std.proofs.Common.{subst}
 use Rattle.ss_store.specs.Order.{AreInOrder}
