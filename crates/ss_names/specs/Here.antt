@@ -143,7 +143,7 @@ at_name here line = if begins_assignment here then record here {
   line = line;
   before = Some (Reserved r.Let);
   last = Some r.Let;
-} else h
+} else here
 
 -- ---- what names are declared as
 
