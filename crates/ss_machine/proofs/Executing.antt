@@ -1,5 +1,5 @@
 -- what the statements on entities come to, by what the store said
-use Rattle.std.proofs.Common.{◌≡◌, ℕ, ℤ, pos, List, [], Bool, true, false, Option, Result, Ok, Err, OnOk, IfErr, refl}
+use Rattle.std.proofs.Common.{◌≡◌, ℕ, ℤ, pos, List, [], Bool, true, false, Option, Result, Ok, Err, refl}
 use Rattle.std.proofs.Common.{ap, sym, ◌∙◌}
 use Rattle.std.specs.Prelude.{not, int_lt, if◌then◌else◌}
 use Rattle.ss_words.specs.declared.fault.RunFault.{RunFault}
@@ -22,7 +22,6 @@ use Rattle.ss_values.specs.Values.{value_of, subscript_value, number_value, Faul
 use Rattle.ss_machine.specs.State.{State}
 use Rattle.ss_machine.specs.Held.{Held}
 use Rattle.ss_machine.specs.Readings.{readings}
-use Rattle.ss_machine.specs.declared.status.Status.TheVariants.{Faulted}
 use Rattle.ss_machine.specs.Statements.{state_after_result, state_at_place, state_with_store, state_after_assignment}
 use Rattle.ss_machine.specs.Statements.{entity_named, state_with_value}
 use Rattle.ss_machine.specs.Statements.Entities.{number_asked, state_after_making, state_after_destroy}
@@ -33,6 +32,7 @@ use Rattle.ss_machine.specs.Statements.Timing.{state_with_agenda, agenda_without
 use Rattle.ss_machine.specs.Statements.Timing.{time_asked, state_after_notice, state_after_schedule}
 use Rattle.ss_machine.specs.declared.state.change.Change.{Change}
 use Rattle.ss_machine.specs.declared.entry.Entry.TheVariants.{Waiting}
+use Rattle.ss_machine.specs.Outcome.{LeadsTo, LeadsToOrRefuses, IsSettled}
 use Rattle.ss_machine.specs.Storing.{LeavesStore, IsRefused, IsCreating, IsMakingAll, IsScheduling, IsCancelling}
 
 -- ---- what the store said
@@ -272,30 +272,21 @@ time_there : (p : ProgramTable) (t : Tables) (s : State) (x : Schedule) (q : Res
     time_asked (readings t s) x.when ≡ q → time_asked (readings (tables_of p) s) x.when ≡ q
 time_there p t s x q a o = ap (λ (v : Tables). time_asked (readings v s) x.when) (sym a) ∙ o
 
-pub schedule_ends : (p : ProgramTable) (t : Tables) (s new : State) (x : Schedule) (n time : ℤ) (xs : List ℤ)
+pub schedule_goes_on : (p : ProgramTable) (t : Tables) (s new : State) (x : Schedule) (n time : ℤ) (xs : List ℤ)
     (done : Result (Unit {0}) StepFault) → t ≡ tables_of p →
     arguments_asked (readings t s) x.notice x.arguments x.listing ≡ Ok (n, xs) →
     time_asked (readings t s) x.when ≡ Ok time →
-    OnOk done (state_after_notice p s x.class x.notice n time xs ≡ Ok new) →
-    OnOk done (state_after_schedule p s x ≡ Ok new)
-schedule_ends p t s new x n time xs (Ok _) a o w h =
+    LeadsToOrRefuses done (state_after_notice p s x.class x.notice n time xs) new →
+    LeadsToOrRefuses done (state_after_schedule p s x) new
+schedule_goes_on p t s new x n time xs (Ok _) a o w h =
     let u = arguments_there p t s x (Ok (n, xs)) a o in
     let v = time_there p t s x (Ok time) a w in
     rw (u, v) h
-schedule_ends p t s new x n time xs (Err _) a o w h = tt
-
-pub schedule_fails : (p : ProgramTable) (t : Tables) (s : State) (x : Schedule) (n time : ℤ) (xs : List ℤ)
-    (done : Result (Unit {0}) StepFault) → t ≡ tables_of p →
-    arguments_asked (readings t s) x.notice x.arguments x.listing ≡ Ok (n, xs) →
-    time_asked (readings t s) x.when ≡ Ok time →
-    IfErr done (λ e. FaultIs e (state_after_notice p s x.class x.notice n time xs)) →
-    IfErr done (λ e. FaultIs e (state_after_schedule p s x))
-schedule_fails p t s x n time xs (Err (Fault f)) a o w h =
+schedule_goes_on p t s new x n time xs (Err (Fault f)) a o w h =
     let u = arguments_there p t s x (Ok (n, xs)) a o in
     let v = time_there p t s x (Ok time) a w in
     rw (u, v) h
-schedule_fails p t s x n time xs (Err Memory) a o w h = tt
-schedule_fails p t s x n time xs (Ok _) a o w h = tt
+schedule_goes_on p t s new x n time xs (Err Memory) a o w h = tt
 
 pub schedule_untimed : (p : ProgramTable) (t : Tables) (s : State) (x : Schedule) (n : ℤ) (xs : List ℤ) (e : RunFault) →
     t ≡ tables_of p → arguments_asked (readings t s) x.notice x.arguments x.listing ≡ Ok (n, xs) →
@@ -337,7 +328,7 @@ attribute_ends t s new target class a index x v st g o w n = rw (g, o, w, n) ref
 -- ---- a statement that is settled
 
 pub settled_by : (done : Result (Unit {0}) RunFault) (s mid new : State) (q : Result State RunFault) (next : ℕ) →
-    OnOk done (q ≡ Ok mid) → IfErr done (λ e. q ≡ Err e) → OnOk done (new ≡ state_at_place next mid) →
-    IfErr done (λ e. new ≡ record s { status = Faulted e }) → new ≡ state_after_result s q (state_at_place next)
-settled_by (Ok x) s mid new q next a b c d = rw a c
-settled_by (Err e) s mid new q next a b c d = rw b d
+    LeadsTo done q mid → IsSettled done (state_at_place next mid) s new →
+    new ≡ state_after_result s q (state_at_place next)
+settled_by (Ok x) s mid new q next a b = rw a b
+settled_by (Err e) s mid new q next a b = rw a b

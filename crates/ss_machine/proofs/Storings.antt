@@ -1,5 +1,5 @@
 -- What a change of the store leaves of what is held.
-use Rattle.std.proofs.Common.{◌≡◌, ◌<◌, ◌^◌, ℕ, ℤ, pos, List, Bool, true, false, Result, Ok, Err, IfErr, OnOk, arith}
+use Rattle.std.proofs.Common.{◌≡◌, ◌<◌, ◌^◌, ℕ, ℤ, pos, List, Bool, true, false, Result, Ok, Err, OnOk, arith}
 use Rattle.std.proofs.Common.{refl, ap, sym, ◌∙◌}
 use Rattle.std.specs.Prelude.{nat_lt, if◌then◌else◌}
 use Rattle.std.proofs.lemmas.Bool.{lt-ltb}
@@ -22,7 +22,7 @@ use Rattle.ss_events.specs.State.{AgendaState}
 use Rattle.ss_events.specs.Changes as notices
 use Rattle.ss_events.specs.Changes.{Went, IsScheduled, after_scheduling}
 use Rattle.ss_values.specs.Faults.{◌>>◌}
-use Rattle.ss_values.specs.Values.{subscript_value, number_value, FaultIs}
+use Rattle.ss_values.specs.Values.{subscript_value, number_value}
 use Rattle.ss_machine.specs.State.{State}
 use Rattle.ss_machine.specs.Readings.{readings}
 use Rattle.ss_machine.specs.Statements.{state_after_result, state_at_place, state_with_store, state_with_value}
@@ -36,7 +36,8 @@ use Rattle.ss_machine.specs.declared.state.change.Change.{Change}
 use Rattle.ss_machine.specs.declared.state.change.Change.TheVariants as c
 use Rattle.ss_machine.specs.Held.{Held, store_of, with_store, agenda_of, with_agenda}
 use Rattle.ss_machine.specs.Storing.{LeavesStore, IsStoring, IsRemoving, IsRefused, IsCreating, IsMakingAll}
-use Rattle.ss_machine.specs.Storing.{LeavesState, IsScheduling, IsMarked}
+use Rattle.ss_machine.specs.Storing.{LeavesState, IsScheduling}
+use Rattle.ss_machine.specs.Outcome.{LeadsTo, LeadsToOrRefuses, IsSettledOrRefused}
 
 pub leaves_store : (change : StoreChange) (st : Store) (h : Held) (v : StoreValue) → Leaves change st (store_of h) v →
     LeavesStore (c.Store change) st h (with_store h v)
@@ -182,14 +183,13 @@ counted_small n h = chosen (nat_lt n (2 ^ 63)) (lt-ltb n (2 ^ 63) (omega (arith,
     chosen false e = cc
 
 pub remove_end_then : (t v : Tables) (s u : State) (r : SetRef) (end : SetEnd) (target : Target) (o x : ℤ) (n : ℕ)
-    (st : Store) (done : Result (Unit {0}) RunFault) →
+    (st : Store) (done : Result (Unit {0}) RunFault) (new : State) →
     subscript_value (readings t s) r.owner ≡ Ok o →
     after_removing (set_of t r.set) s.store (number_of o) (which_at end) ≡ Ok (n, st) →
     number_value n ≡ Ok (pos n) → u ≡ state_with_store s st → v ≡ t → x ≡ pos n →
-    IfErr done (λ e. state_with_value v u target x ≡ Err e) →
-    IfErr done (λ e. state_after_remove_end t s r end target ≡ Err e)
-remove_end_then t v s u r end target o x n st (Ok _) a b d e f g h = tt
-remove_end_then t v s u r end target o x n st (Err _) a b d e f g h = rw (a, b, d, ← e, ← f, ← g) h
+    LeadsTo done (state_with_value v u target x) new → LeadsTo done (state_after_remove_end t s r end target) new
+remove_end_then t v s u r end target o x n st (Ok _) new a b d e f g h = rw (a, b, d, ← e, ← f, ← g) h
+remove_end_then t v s u r end target o x n st (Err _) new a b d e f g h = rw (a, b, d, ← e, ← f, ← g) h
 
 -- ---- notices scheduled and taken off
 
@@ -236,11 +236,11 @@ scheduling_both r class k time keys h v o = by r (may_schedule h.state.agenda k 
 
 pub settled_as : {E : Type 0} (done : Result (Unit {0}) StepFault) (r : Result (Unit {0}) E) (s mid new : State)
     (q : Result State RunFault) (next : ℕ) →
-    OnOk done (q ≡ Ok mid) → IfErr done (λ e. FaultIs e q) → OnOk done (new ≡ state_at_place next mid) →
-    IfErr done (λ e. OnOk r (IsMarked e s new)) → OnOk r (new ≡ state_after_result s q (state_at_place next))
-settled_as (Ok x) (Ok y) s mid new q next a b c d = rw a c
-settled_as (Ok x) (Err y) s mid new q next a b c d = tt
-settled_as (Err (Fault e)) (Ok y) s mid new q next a b c d = rw b d
-settled_as (Err (Fault e)) (Err y) s mid new q next a b c d = tt
-settled_as (Err Memory) (Ok y) s mid new q next a b c d = absurd d
-settled_as (Err Memory) (Err y) s mid new q next a b c d = tt
+    LeadsToOrRefuses done q mid → IsSettledOrRefused done r (state_at_place next mid) s new →
+    OnOk r (new ≡ state_after_result s q (state_at_place next))
+settled_as (Ok x) (Ok y) s mid new q next a b = rw a b
+settled_as (Ok x) (Err y) s mid new q next a b = tt
+settled_as (Err (Fault e)) (Ok y) s mid new q next a b = rw a b
+settled_as (Err (Fault e)) (Err y) s mid new q next a b = tt
+settled_as (Err Memory) (Ok y) s mid new q next a b = absurd b
+settled_as (Err Memory) (Err y) s mid new q next a b = tt

@@ -19,4 +19,5 @@ pub mod Examples
 pub mod Seen
 pub mod Noting
 pub mod Storing
+pub mod Outcome
 pub mod History

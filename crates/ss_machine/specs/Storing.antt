@@ -7,7 +7,6 @@ use Rattle.ss_store.specs.Store.{Store, last_reference}
 use Rattle.ss_events.specs.Agenda.{Agenda}
 use Rattle.ss_machine.specs.declared.state.change.Change.{Change}
 use Rattle.ss_machine.specs.ChangeView.{as_change}
-use Rattle.ss_machine.specs.declared.status.Status.TheVariants.{Faulted}
 use Rattle.ss_machine.specs.Held.{Held}
 use Rattle.ss_machine.specs.Change.{unapply, Fits}
 use Rattle.ss_machine.specs.State.{State}
@@ -72,11 +71,6 @@ pub record LeavesState (change : Change) (s : State) (old new : Held) : Type 0 w
   pub fits : Fits (as_change change) new
   -- and leads back
   pub back : unapply (as_change change) new ≡ old
-
--- a fault was marked in a state; a want of memory is not
-abbrev pub IsMarked : StepFault → State → State → Type 0
-IsMarked (Fault e) state t = t ≡ record state { status = Faulted e }
-IsMarked Memory state t = ⊥
 
 -- a notice was scheduled, or not; a refusal changes nothing, and memory is refused only where there is no fault
 abbrev pub IsScheduling : Result Change StepFault → Result State RunFault → Held → Held → Type 0

@@ -1,6 +1,6 @@
 //! What each step of a run shares: what it writes, what it notes, and how it ends.
 ghost use Rattle.std.specs.Prelude.{◌≡◌, ◌+◌, ◌<◌, ◌≤◌, ◌^◌, [], length, slice_get, slice_index_or, pos, Some, OnOk};
-ghost use Rattle.std.specs.Prelude.{IfOk, IfErr};
+ghost use Rattle.std.specs.Prelude.{IfOk};
 ghost use Rattle.ss_words.specs.declared.limits.TheConstants.{MOST_PHRASES};
 ghost use Rattle.ss_program.specs.Match.{ways_of};
 ghost use Rattle.ss_program.specs.Program.{places_of, section_of, spot_at};
@@ -11,13 +11,12 @@ ghost use Rattle.ss_store.specs.Tables.{tables_of};
 ghost use Rattle.ss_events.specs.Rules.{rules_of};
 ghost use Rattle.ss_machine.specs.Change.{Fits, unapply};
 ghost use Rattle.ss_machine.specs.Noting.{Notes};
-ghost use Rattle.ss_machine.specs.Storing.{IsMarked};
+ghost use Rattle.ss_machine.specs.Outcome.{LeadsTo, IsMarked, IsSettled, IsSettledOrRefused};
 ghost use Rattle.ss_machine.specs.Moment.{most_changes, change_bound};
 ghost use Rattle.ss_machine.specs.Seen.{InHeld, scope_held};
 ghost use Rattle.ss_machine.specs.Statements.{state_after_assignment, state_with_value, state_at_place};
 ghost use Rattle.ss_machine.specs.Statements.{state_with_values};
 ghost use Rattle.ss_machine.specs.Step.{step, step_at};
-ghost use Rattle.ss_machine.specs.declared.status.Status.TheVariants.{Faulted};
 ghost use Rattle.ss_machine.specs.Run.{start};
 ghost use Rattle.ss_machine.specs.Well.{IsInBounds};
 
@@ -119,12 +118,9 @@ impl<S: SetBoard> Executor<S> {
     pub fn assign_target(&mut self, target: &Target, value: i64) -> Result<(), RunFault>
         requires target { InHeld self.old.held IsTarget target.now }
         requires room { 0 < self.old.journal.notes }
-        ensures ok { OnOk result
-            (state_with_value self.old.held.beside.tables self.old.held.state target.now value
-            ≡ Ok self.new.held.state) }
-        ensures err { IfErr result
-            (λ e. state_with_value self.old.held.beside.tables self.old.held.state target.now value
-            ≡ Err e) }
+        ensures outcome { LeadsTo result
+            (state_with_value self.old.held.beside.tables self.old.held.state target.now value)
+            self.new.held.state }
         ensures tables { self.new.held.beside.tables ≡ self.old.held.beside.tables }
         ensures scope { OnOk result (scope_held self.new.held ≡ scope_held self.old.held) }
         ensures values { self.new.values ≡ self.old.values }
@@ -153,12 +149,9 @@ impl<S: SetBoard> Executor<S> {
         requires sound { InHeld self.old.held AreTargets targets.now }
         requires few { first + length targets.now < 2 ^ 64 }
         requires room { length targets.now < self.old.journal.notes }
-        ensures ok { OnOk result
+        ensures outcome { LeadsTo result
             (state_with_values self.old.held.beside.tables self.old.values.items self.old.held.state
-            first targets.now ≡ Ok self.new.held.state) }
-        ensures err { IfErr result
-            (λ e. state_with_values self.old.held.beside.tables self.old.values.items
-            self.old.held.state first targets.now ≡ Err e) }
+            first targets.now) self.new.held.state }
         ensures notes { Notes (length targets.now) self.old self.new }
     {
         let mut number = first;
@@ -186,11 +179,9 @@ impl<S: SetBoard> Executor<S> {
     pub fn settle(&mut self, next: usize, done: Result<(), RunFault>)
         requires fits { FitsAll Fits unapply self.old.journal.current self.old.held }
         requires room { 0 < self.old.journal.notes }
-        ensures ok { OnOk done (self.new.held.state ≡ state_at_place next self.old.held.state) }
-        ensures err { IfErr done (λ e. self.new.held.state
-            ≡ record (unapply_all unapply self.old.journal.current self.old.held).state {
-              status = Faulted e;
-            }) }
+        ensures state { IsSettled done (state_at_place next self.old.held.state)
+            (unapply_all unapply self.old.journal.current self.old.held).state
+            self.new.held.state }
         ensures notes { Notes 1 self.old self.new }
     {
         match done {
@@ -210,10 +201,9 @@ impl<S: SetBoard> Executor<S> {
     ) -> Result<(), AllocError>
         requires fits { FitsAll Fits unapply self.old.journal.current self.old.held }
         requires room { 0 < self.old.journal.notes }
-        ensures ok { OnOk done (self.new.held.state ≡ state_at_place next self.old.held.state) }
-        ensures err { IfErr done (λ e. OnOk result (IsMarked e
+        ensures state { IsSettledOrRefused done result (state_at_place next self.old.held.state)
             (unapply_all unapply self.old.journal.current self.old.held).state
-            self.new.held.state)) }
+            self.new.held.state }
         ensures notes { Notes 1 self.old self.new }
     {
         let Err(fault) = done else {

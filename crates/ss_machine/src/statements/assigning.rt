@@ -1,7 +1,8 @@
 //! LET, ADD and SUBTRACT.
-ghost use Rattle.std.specs.Prelude.{◌≡◌, ◌<◌, [], OnOk, IfErr};
+ghost use Rattle.std.specs.Prelude.{◌≡◌, ◌<◌, []};
 ghost use Rattle.ss_program.specs.ProgramSound.{IsSoundAssign};
 ghost use Rattle.ss_machine.specs.Noting.{Notes};
+ghost use Rattle.ss_machine.specs.Outcome.{LeadsTo};
 ghost use Rattle.ss_machine.specs.Seen.{InHeld};
 ghost use Rattle.ss_machine.specs.Statements.Assigning.{target_of, state_after_assign, step_assign};
 
@@ -16,12 +17,9 @@ impl<S: SetBoard> Executor<S> {
     fn assign_value(&mut self, assign: &Assign) -> Result<(), RunFault>
         requires sound { InHeld self.old.held IsSoundAssign assign.now }
         requires room { 0 < self.old.journal.notes }
-        ensures ok { OnOk result
-            (state_after_assign self.old.held.beside.tables self.old.held.state assign.now
-            ≡ Ok self.new.held.state) }
-        ensures err { IfErr result
-            (λ e. state_after_assign self.old.held.beside.tables self.old.held.state assign.now
-            ≡ Err e) }
+        ensures outcome { LeadsTo result
+            (state_after_assign self.old.held.beside.tables self.old.held.state assign.now)
+            self.new.held.state }
         ensures notes { Notes 1 self.old self.new }
     {
         let value = assigned_value(self.held.view(), assign)?;

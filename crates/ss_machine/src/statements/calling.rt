@@ -1,10 +1,11 @@
 //! CALL, RETURN, END and STOP.
-ghost use Rattle.std.specs.Prelude.{◌≡◌, ◌+◌, ◌<◌, ◌≤◌, [], length, slice_get, OnOk, IfErr, OnErr};
+ghost use Rattle.std.specs.Prelude.{◌≡◌, ◌+◌, ◌<◌, ◌≤◌, [], length, slice_get, OnOk, OnErr};
 ghost use Rattle.ss_words.specs.declared.limits.TheConstants.{MOST_PARAMETERS};
 ghost use Rattle.ss_program.specs.Program.{section_of, spot_at};
 ghost use Rattle.ss_program.specs.ProgramSound.{IsSoundPlace, AreSoundExprs, IsCalledBy};
 ghost use Rattle.ss_store.specs.Tables.{tables_of};
 ghost use Rattle.ss_machine.specs.Noting.{Notes};
+ghost use Rattle.ss_machine.specs.Outcome.{LeadsTo};
 ghost use Rattle.ss_machine.specs.Moment.{place_targets, yield_count};
 ghost use Rattle.ss_machine.specs.Moment as changes;
 ghost use Rattle.ss_machine.specs.Dropping.{HasDropped};
@@ -78,12 +79,9 @@ impl<S: SetBoard> Executor<S> {
         requires parameters { first ≤ MOST_PARAMETERS }
         requires few { changes.call_targets place.now ≤ MOST_PARAMETERS }
         requires room { changes.call_targets place.now < self.old.journal.notes }
-        ensures ok { OnOk result
+        ensures outcome { LeadsTo result
             (state_behind_call self.old.held.beside.tables self.old.values.items first next
-            self.old.held.state place.now ≡ Ok self.new.held.state) }
-        ensures err { IfErr result
-            (λ e. state_behind_call self.old.held.beside.tables self.old.values.items first next
-            self.old.held.state place.now ≡ Err e) }
+            self.old.held.state place.now) self.new.held.state }
         ensures notes { Notes (1 + changes.call_targets place.now) self.old self.new }
         ensures fewer { OnErr result (Notes (changes.call_targets place.now) self.old self.new) }
     {
@@ -101,14 +99,10 @@ impl<S: SetBoard> Executor<S> {
         requires tables { self.old.held.beside.tables ≡ tables_of program.now }
         requires parameters { first ≤ MOST_PARAMETERS }
         requires room { place_targets program.now self.old.held.state < self.old.journal.notes }
-        ensures ok { OnOk result
+        ensures outcome { LeadsTo result
             (state_behind_place program.now self.old.values.items first self.old.held.state
-            (spot_at program.now self.old.held.state.frame.section self.old.held.state.frame.place)
-            ≡ Ok self.new.held.state) }
-        ensures err { IfErr result
-            (λ e. state_behind_place program.now self.old.values.items first self.old.held.state
-            (spot_at program.now self.old.held.state.frame.section self.old.held.state.frame.place)
-            ≡ Err e) }
+            (spot_at program.now self.old.held.state.frame.section self.old.held.state.frame.place))
+            self.new.held.state }
         ensures notes { Notes
             (1 + place_targets program.now self.old.held.state) self.old self.new }
         ensures fewer { OnErr result
@@ -152,10 +146,8 @@ impl<S: SetBoard> Executor<S> {
     /// Passes the data of an entry that runs up to and with its mark; then there is no entry.
     fn end_entry(&mut self) -> Result<(), RunFault>
         requires room { 1 < self.old.journal.notes }
-        ensures ok { OnOk result (state_without_entry self.old.held.state self.old.held.state.entry
-            ≡ Ok self.new.held.state) }
-        ensures err { IfErr result
-            (λ e. state_without_entry self.old.held.state self.old.held.state.entry ≡ Err e) }
+        ensures outcome { LeadsTo result
+            (state_without_entry self.old.held.state self.old.held.state.entry) self.new.held.state }
         ensures notes { Notes 2 self.old self.new }
     {
         if let Entry::Running { .. } = self.held.entry() {

@@ -1,13 +1,13 @@
 //! CREATE, CREATE EVERY and DESTROY.
-ghost use Rattle.std.specs.Prelude.{◌≡◌, ◌<◌, [], length, true, OnOk, IfErr, false};
+ghost use Rattle.std.specs.Prelude.{◌≡◌, ◌<◌, [], length, true, OnOk, false};
 ghost use Rattle.ss_program.specs.ProgramSound.{IsTarget, IsSoundOption, IsSoundExpr, IsSoundMaking};
 ghost use Rattle.ss_machine.specs.Noting.{Notes};
+ghost use Rattle.ss_machine.specs.Outcome.{LeadsTo, LeadsToOrRefuses};
 ghost use Rattle.ss_machine.specs.Seen.{InHeld};
 ghost use Rattle.ss_machine.specs.Statements.Entities.{step_making, state_after_create, state_after_making};
 ghost use Rattle.ss_machine.specs.Statements.Entities.{state_after_destroy};
 ghost use Rattle.ss_program.specs.declared.making.Making.TheVariants as making;
 ghost use Rattle.ss_store.specs.Tables.{class_of};
-ghost use Rattle.ss_values.specs.Values.{FaultIs};
 ghost use Rattle.ss_machine.specs.Statements.Entities as steps;
 ghost use Rattle.ss_values.specs.Seen.{view_readings, InView};
 
@@ -25,12 +25,9 @@ impl<S: SetBoard> Executor<S> {
         requires kind { (class_of self.old.held.beside.tables class).permanent ≡ false }
         requires target { InHeld self.old.held IsTarget target.now }
         requires room { 1 < self.old.journal.notes }
-        ensures ok { OnOk result
-            (state_after_create self.old.held.beside.tables self.old.held.state class target.now
-            ≡ Ok self.new.held.state) }
-        ensures err { IfErr result
-            (λ e. FaultIs e
-            (state_after_create self.old.held.beside.tables self.old.held.state class target.now)) }
+        ensures outcome { LeadsToOrRefuses result
+            (state_after_create self.old.held.beside.tables self.old.held.state class target.now)
+            self.new.held.state }
         ensures notes { Notes 2 self.old self.new }
     {
         let (number, change) = self.held.create(class)?;
@@ -51,11 +48,9 @@ impl<S: SetBoard> Executor<S> {
         requires number { InHeld self.old.held IsSoundOption number.now }
         requires count { count < length self.old.held.state.variables }
         requires room { 1 < self.old.journal.notes }
-        ensures ok { OnOk result (state_after_making self.old.held.beside.tables self.old.held.state
-            (making.CreateEvery class number.now count) ≡ Ok self.new.held.state) }
-        ensures err { IfErr result
-            (λ e. FaultIs e (state_after_making self.old.held.beside.tables self.old.held.state
-            (making.CreateEvery class number.now count))) }
+        ensures outcome { LeadsToOrRefuses result
+            (state_after_making self.old.held.beside.tables self.old.held.state
+            (making.CreateEvery class number.now count)) self.new.held.state }
         ensures notes { Notes 2 self.old self.new }
     {
         let asked = number_asked(self.held.view(), number, count)?;
@@ -71,12 +66,9 @@ impl<S: SetBoard> Executor<S> {
         requires kind { (class_of self.old.held.beside.tables class).permanent ≡ false }
         requires entity { InHeld self.old.held IsSoundExpr entity.now }
         requires room { 0 < self.old.journal.notes }
-        ensures ok { OnOk result
-            (state_after_destroy self.old.held.beside.tables self.old.held.state class entity.now
-            ≡ Ok self.new.held.state) }
-        ensures err { IfErr result
-            (λ e. state_after_destroy self.old.held.beside.tables self.old.held.state class entity.now
-            ≡ Err e) }
+        ensures outcome { LeadsTo result
+            (state_after_destroy self.old.held.beside.tables self.old.held.state class entity.now)
+            self.new.held.state }
         ensures notes { Notes 1 self.old self.new }
     {
         let x = value(self.held.view(), entity)?;
@@ -93,12 +85,9 @@ impl<S: SetBoard> Executor<S> {
     fn make(&mut self, making: &Making) -> Result<(), StepFault>
         requires sound { InHeld self.old.held IsSoundMaking making.now }
         requires room { 1 < self.old.journal.notes }
-        ensures ok { OnOk result
-            (state_after_making self.old.held.beside.tables self.old.held.state making.now
-            ≡ Ok self.new.held.state) }
-        ensures err { IfErr result
-            (λ e. FaultIs e
-            (state_after_making self.old.held.beside.tables self.old.held.state making.now)) }
+        ensures outcome { LeadsToOrRefuses result
+            (state_after_making self.old.held.beside.tables self.old.held.state making.now)
+            self.new.held.state }
         ensures notes { Notes 2 self.old self.new }
     {
         match making {

@@ -1,7 +1,8 @@
 //! FILE and REMOVE.
-ghost use Rattle.std.specs.Prelude.{◌≡◌, ◌<◌, [], OnOk, IfErr};
+ghost use Rattle.std.specs.Prelude.{◌≡◌, ◌<◌, []};
 ghost use Rattle.ss_program.specs.ProgramSound.{IsTarget, IsSoundSetRef, IsSoundFiling, IsSoundPosition};
 ghost use Rattle.ss_machine.specs.Noting.{Notes};
+ghost use Rattle.ss_machine.specs.Outcome.{LeadsTo};
 ghost use Rattle.ss_machine.specs.Seen.{InHeld};
 ghost use Rattle.ss_machine.specs.Statements.Filing.{step_filing, state_after_file, state_after_remove_end};
 ghost use Rattle.ss_machine.specs.Statements.Filing.{state_after_remove, state_after_filing};
@@ -21,12 +22,9 @@ impl<S: SetBoard> Executor<S> {
     fn file(&mut self, set: &SetRef, member: i64, how: How) -> Result<(), RunFault>
         requires sound { InHeld self.old.held IsSoundSetRef set.now }
         requires room { 0 < self.old.journal.notes }
-        ensures ok { OnOk result
-            (state_after_file self.old.held.beside.tables self.old.held.state set.now member how
-            ≡ Ok self.new.held.state) }
-        ensures err { IfErr result
-            (λ e. state_after_file self.old.held.beside.tables self.old.held.state set.now member how
-            ≡ Err e) }
+        ensures outcome { LeadsTo result
+            (state_after_file self.old.held.beside.tables self.old.held.state set.now member how)
+            self.new.held.state }
         ensures notes { Notes 1 self.old self.new }
     {
         let owner = owner_value(self.held.view(), set)?;
@@ -40,13 +38,9 @@ impl<S: SetBoard> Executor<S> {
         requires sound { InHeld self.old.held IsSoundSetRef set.now }
         requires target { InHeld self.old.held IsTarget target.now }
         requires room { 1 < self.old.journal.notes }
-        ensures ok { OnOk result
+        ensures outcome { LeadsTo result
             (state_after_remove_end self.old.held.beside.tables self.old.held.state set.now end
-            target.now
-            ≡ Ok self.new.held.state) }
-        ensures err { IfErr result (λ e.
-            state_after_remove_end self.old.held.beside.tables self.old.held.state set.now end
-            target.now ≡ Err e) }
+            target.now) self.new.held.state }
         ensures notes { Notes 2 self.old self.new }
     {
         let owner = owner_value(self.held.view(), set)?;
@@ -59,12 +53,9 @@ impl<S: SetBoard> Executor<S> {
     fn remove(&mut self, member: i64, set: &SetRef) -> Result<(), RunFault>
         requires sound { InHeld self.old.held IsSoundSetRef set.now }
         requires room { 0 < self.old.journal.notes }
-        ensures ok { OnOk result
-            (state_after_remove self.old.held.beside.tables self.old.held.state set.now member
-            ≡ Ok self.new.held.state) }
-        ensures err { IfErr result
-            (λ e. state_after_remove self.old.held.beside.tables self.old.held.state set.now member
-            ≡ Err e) }
+        ensures outcome { LeadsTo result
+            (state_after_remove self.old.held.beside.tables self.old.held.state set.now member)
+            self.new.held.state }
         ensures notes { Notes 1 self.old self.new }
     {
         let owner = owner_value(self.held.view(), set)?;
@@ -76,12 +67,9 @@ impl<S: SetBoard> Executor<S> {
     fn file_or_remove(&mut self, filing: &Filing) -> Result<(), RunFault>
         requires sound { InHeld self.old.held IsSoundFiling filing.now }
         requires room { 1 < self.old.journal.notes }
-        ensures ok { OnOk result
-            (state_after_filing self.old.held.beside.tables self.old.held.state filing.now
-            ≡ Ok self.new.held.state) }
-        ensures err { IfErr result
-            (λ e. state_after_filing self.old.held.beside.tables self.old.held.state filing.now
-            ≡ Err e) }
+        ensures outcome { LeadsTo result
+            (state_after_filing self.old.held.beside.tables self.old.held.state filing.now)
+            self.new.held.state }
         ensures notes { Notes 2 self.old self.new }
     {
         match filing {

@@ -2,10 +2,11 @@
 pub mod candidates;
 pub mod verdict;
 
-ghost use Rattle.std.specs.Prelude.{◌≡◌, ◌+◌, ◌<◌, ◌≤◌, ◌∷◌, [], length, drop, true, OnOk, IfOk, IfErr};
+ghost use Rattle.std.specs.Prelude.{◌≡◌, ◌+◌, ◌<◌, ◌≤◌, ◌∷◌, [], length, drop, true, OnOk};
 ghost use Rattle.ss_words.specs.declared.limits.TheConstants.{MOST_PHRASES};
 ghost use Rattle.ss_program.specs.ProgramSound.{IsSoundPhrase, AreSoundQualifiers, AreSoundTellings, IsSoundLooping};
 ghost use Rattle.ss_machine.specs.Noting.{Notes};
+ghost use Rattle.ss_machine.specs.Outcome.{LeadsTo, Gives};
 ghost use Rattle.ss_machine.specs.Moment as changes;
 ghost use Rattle.ss_machine.specs.Seen.{InHeld};
 ghost use Rattle.ss_machine.specs.Loops.{loops_with_candidate, IsSoundWalk, AreSoundWalks};
@@ -140,12 +141,9 @@ impl<S: SetBoard> Executor<S> {
         requires walk { IsSoundWalk (length self.old.held.beside.tables.sets) open_loop.walk }
         requires there { 0 < length self.old.held.state.frame.loops }
         requires room { 1 < self.old.journal.notes }
-        ensures ok { IfOk result (λ v.
-            candidate_tried self.old.held.beside.tables self.old.held.state phrase.now open_loop x
-            ≡ Ok (self.new.held.state, as_verdict v)) }
-        ensures err { IfErr result (λ e.
-            candidate_tried self.old.held.beside.tables self.old.held.state phrase.now open_loop x
-            ≡ Err e) }
+        ensures outcome { Gives result
+            (candidate_tried self.old.held.beside.tables self.old.held.state phrase.now open_loop x)
+            (λ verdict. (self.new.held.state, as_verdict verdict)) }
         ensures there { 0 < length self.new.held.state.frame.loops }
         ensures notes { Notes 2 self.old self.new }
     {
@@ -226,13 +224,9 @@ impl<S: SetBoard> Executor<S> {
     fn tell(&mut self, tellings: &Tellings, statistics: Statistics) -> Result<(), RunFault>
         requires sound { InHeld self.old.held AreSoundTellings tellings.now }
         requires room { length tellings.now < self.old.journal.notes }
-        ensures ok { OnOk result
+        ensures outcome { LeadsTo result
             (state_after_telling self.old.held.beside.tables statistics self.old.held.state
-            tellings.now
-            ≡ Ok self.new.held.state) }
-        ensures err { IfErr result (λ e.
-            state_after_telling self.old.held.beside.tables statistics self.old.held.state
-            tellings.now ≡ Err e) }
+            tellings.now) self.new.held.state }
         ensures notes { Notes (length tellings.now) self.old self.new }
     {
         for telling in &tellings.list {

@@ -1,11 +1,11 @@
 //! READ of the data.
-ghost use Rattle.std.specs.Prelude.{◌≡◌, ◌+◌, ◌<◌, [], length, OnOk, IfErr};
+ghost use Rattle.std.specs.Prelude.{◌≡◌, ◌+◌, ◌<◌, [], length, OnOk};
 ghost use Rattle.ss_program.specs.ProgramSound.{AreTargets};
 ghost use Rattle.ss_store.specs.Tables.{tables_of};
 ghost use Rattle.ss_machine.specs.Noting.{Notes};
+ghost use Rattle.ss_machine.specs.Outcome.{LeadsToOrRefuses};
 ghost use Rattle.ss_machine.specs.Seen.{InHeld};
 ghost use Rattle.ss_machine.specs.Statements.Reading.{step_read, state_after_read};
-ghost use Rattle.ss_values.specs.Values.{FaultIs};
 
 use crate::entry::Entry;
 use crate::executor::Executor;
@@ -22,10 +22,8 @@ impl<S: SetBoard> Executor<S> {
         requires tables { self.old.held.beside.tables ≡ tables_of program.now }
         requires sound { InHeld self.old.held AreTargets targets.now }
         requires room { 1 + length targets.now < self.old.journal.notes }
-        ensures ok { OnOk result (state_after_read program.now self.old.held.state targets.now
-            ≡ Ok self.new.held.state) }
-        ensures err { IfErr result
-            (λ e. FaultIs e (state_after_read program.now self.old.held.state targets.now)) }
+        ensures outcome { LeadsToOrRefuses result
+            (state_after_read program.now self.old.held.state targets.now) self.new.held.state }
         ensures notes { Notes (1 + length targets.now) self.old self.new }
     {
         if let Entry::Waiting { .. } = self.held.entry() {

@@ -1,16 +1,16 @@
 //! SCHEDULE, CANCEL and START SIMULATION.
 pub mod simulating;
 
-ghost use Rattle.std.specs.Prelude.{◌≡◌, ◌+◌, ◌<◌, ◌≤◌, [], length, OnOk, IfOk, IfErr, false, Ok, Err};
+ghost use Rattle.std.specs.Prelude.{◌≡◌, ◌+◌, ◌<◌, ◌≤◌, [], length, OnOk, false};
 ghost use Rattle.ss_program.specs.Program.{section_of, event_of};
 ghost use Rattle.ss_program.specs.ProgramSound.{IsTarget, IsSoundExpr, AreSoundExprs, IsTimed, IsSoundTiming};
 ghost use Rattle.ss_program.specs.ProgramSound.{IsSoundNotice, IsSoundWhen, IsEventClass};
 ghost use Rattle.ss_store.specs.Tables.{tables_of};
 ghost use Rattle.ss_events.specs.Rules.{rules_of};
 ghost use Rattle.ss_machine.specs.Noting.{Notes};
+ghost use Rattle.ss_machine.specs.Outcome.{LeadsTo, LeadsToOrRefuses, GivesOrRefuses};
 ghost use Rattle.ss_machine.specs.Moment as changes;
 ghost use Rattle.ss_machine.specs.Seen.{InHeld, scope_held};
-ghost use Rattle.ss_values.specs.Values.{FaultIs};
 ghost use Rattle.ss_machine.specs.Well.{IsInBounds};
 ghost use Rattle.ss_program.specs.declared.place.Place.TheVariants as places;
 ghost use Rattle.ss_program.specs.declared.timing.Timing.TheVariants as timings;
@@ -36,12 +36,9 @@ impl<S: SetBoard> Executor<S> {
     fn set_attributes(&mut self, class: usize, entity: u32) -> Result<(), RunFault>
         requires class { class < length self.old.held.beside.tables.classes }
         requires room { length self.old.values.items < self.old.journal.notes }
-        ensures ok { OnOk result
-            (state_with_attributes self.old.held.state class entity 0 self.old.values.items
-            ≡ Ok self.new.held.state) }
-        ensures err { IfErr result
-            (λ e. state_with_attributes self.old.held.state class entity 0 self.old.values.items
-            ≡ Err e) }
+        ensures outcome { LeadsTo result
+            (state_with_attributes self.old.held.state class entity 0 self.old.values.items)
+            self.new.held.state }
         ensures tables { self.new.held.beside.tables ≡ self.old.held.beside.tables }
         ensures rules { self.new.held.beside.rules ≡ self.old.held.beside.rules }
         ensures scope { scope_held self.new.held ≡ scope_held self.old.held }
@@ -71,13 +68,9 @@ impl<S: SetBoard> Executor<S> {
         requires number { 0 < notice }
         requires small { notice ≤ MOST_REFERENCES }
         requires room { 1 + length self.old.values.items < self.old.journal.notes }
-        ensures ok { OnOk result
+        ensures outcome { LeadsToOrRefuses result
             (state_after_scheduling program.now self.old.held.state class notice time
-            self.old.values.items
-            ≡ Ok self.new.held.state) }
-        ensures err { IfErr result (λ e. FaultIs e
-            (state_after_scheduling program.now self.old.held.state class notice time
-            self.old.values.items)) }
+            self.old.values.items) self.new.held.state }
         ensures tables { self.new.held.beside.tables ≡ self.old.held.beside.tables }
         ensures scope { OnOk result (scope_held self.new.held ≡ scope_held self.old.held) }
         ensures notes { Notes (1 + length self.old.values.items) self.old self.new }
@@ -108,13 +101,9 @@ impl<S: SetBoard> Executor<S> {
         requires kind { (shapes.class_of self.old.held.beside.tables class).permanent ≡ false }
         requires target { InHeld self.old.held IsTarget target.now }
         requires room { 3 + length self.old.values.items < self.old.journal.notes }
-        ensures ok { OnOk result
+        ensures outcome { LeadsToOrRefuses result
             (state_after_new program.now self.old.held.state class target.now time
-            self.old.values.items
-            ≡ Ok self.new.held.state) }
-        ensures err { IfErr result (λ e. FaultIs e
-            (state_after_new program.now self.old.held.state class target.now time
-            self.old.values.items)) }
+            self.old.values.items) self.new.held.state }
         ensures notes { Notes (3 + length self.old.values.items) self.old self.new }
     {
         if time < self.held.clock() {
@@ -143,12 +132,9 @@ impl<S: SetBoard> Executor<S> {
             ≡ false }
         requires notice { InHeld self.old.held IsSoundNotice schedule.now.notice }
         requires room { 3 + length self.old.values.items < self.old.journal.notes }
-        ensures ok { OnOk result
+        ensures outcome { LeadsToOrRefuses result
             (state_after_notice program.now self.old.held.state schedule.now.class
-            schedule.now.notice named time self.old.values.items ≡ Ok self.new.held.state) }
-        ensures err { IfErr result
-            (λ e. FaultIs e (state_after_notice program.now self.old.held.state
-            schedule.now.class schedule.now.notice named time self.old.values.items)) }
+            schedule.now.notice named time self.old.values.items) self.new.held.state }
         ensures notes { Notes (3 + length self.old.values.items) self.old self.new }
     {
         match &schedule.notice {
@@ -168,11 +154,8 @@ impl<S: SetBoard> Executor<S> {
         requires rules { self.old.held.beside.rules ≡ rules_of program.now }
         requires sound { InHeld self.old.held IsSoundTiming (timings.Schedule schedule.now) }
         requires room { 3 + length schedule.now.arguments < self.old.journal.notes }
-        ensures ok { OnOk result
-            (state_after_schedule program.now self.old.held.state schedule.now
-            ≡ Ok self.new.held.state) }
-        ensures err { IfErr result
-            (λ e. FaultIs e (state_after_schedule program.now self.old.held.state schedule.now)) }
+        ensures outcome { LeadsToOrRefuses result
+            (state_after_schedule program.now self.old.held.state schedule.now) self.new.held.state }
         ensures notes { Notes (3 + length schedule.now.arguments) self.old self.new }
     {
         let named = arguments_asked(self.held.view(), schedule, &mut self.values)?;
@@ -184,12 +167,9 @@ impl<S: SetBoard> Executor<S> {
     fn cancel(&mut self, class: usize, notice: &Expr) -> Result<(), RunFault>
         requires notice { InHeld self.old.held IsSoundExpr notice.now }
         requires room { 0 < self.old.journal.notes }
-        ensures ok { OnOk result
-            (state_after_cancel self.old.held.beside.tables self.old.held.state class notice.now
-            ≡ Ok self.new.held.state) }
-        ensures err { IfErr result
-            (λ e. state_after_cancel self.old.held.beside.tables self.old.held.state class notice.now
-            ≡ Err e) }
+        ensures outcome { LeadsTo result
+            (state_after_cancel self.old.held.beside.tables self.old.held.state class notice.now)
+            self.new.held.state }
         ensures notes { Notes 1 self.old self.new }
     {
         let x = value(self.held.view(), notice)?;
@@ -255,12 +235,10 @@ pub fn arguments_asked<S: SetBoard>(
 ) -> Result<i64, StepFault>
     requires notice { InView view IsSoundNotice schedule.now.notice }
     requires sound { InView view AreSoundExprs schedule.now.arguments }
-    ensures ok { IfOk result
-        (λ x. steps.arguments_asked (view_readings view.entry) schedule.now.notice
-        schedule.now.arguments schedule.now.listing ≡ Ok (x, arguments.new.items)) }
-    ensures err { IfErr result
-        (λ e. FaultIs e (steps.arguments_asked (view_readings view.entry) schedule.now.notice
-        schedule.now.arguments schedule.now.listing)) }
+    ensures { GivesOrRefuses result
+        (steps.arguments_asked (view_readings view.entry) schedule.now.notice
+        schedule.now.arguments schedule.now.listing)
+        (λ named. (named, arguments.new.items)) }
 {
     match schedule.listing {
         Listing::InParentheses => {

@@ -1,4 +1,4 @@
-ghost use Rattle.std.specs.Prelude.{◌≡◌, ◌<◌, length, Ok, Err, IfOk, IfErr};
+ghost use Rattle.std.specs.Prelude.{◌≡◌, ◌<◌, length, Ok};
 ghost use Rattle.ss_program.specs.ProgramSound.{IsSoundPhrase, IsSoundExpr, IsSoundSetRef, IsSoundOption, IsSoundBegin};
 ghost use Rattle.ss_program.specs.ProgramSound.{AreSoundQualifiers};
 ghost use Rattle.ss_values.specs.Faults.{◌>>=◌ as and_then};
@@ -6,6 +6,7 @@ ghost use Rattle.ss_values.specs.Values.{value_of, subscript_value};
 ghost use Rattle.ss_values.specs.Seen.{view_readings, InView};
 ghost use Rattle.ss_machine.specs.Loops as loops;
 ghost use Rattle.ss_machine.specs.View.{as_walk, as_verdict};
+ghost use Rattle.ss_machine.specs.Outcome.{Gives};
 
 use crate::state::loops::{OpenLoop, Walk};
 use crate::statements::looping::verdict::Verdict;
@@ -294,10 +295,8 @@ pub fn loop_variable(phrase: &Phrase) -> Variable
 /// What the qualifiers say, in written order, or the first fault.
 pub fn verdict<S: SetBoard>(view: View<'_, S>, qualifiers: &Qualifiers) -> Result<Verdict, RunFault>
     requires { InView view AreSoundQualifiers qualifiers.now }
-    ensures ok { IfOk result
-        (λ v. loops.verdict_of (view_readings view.entry) qualifiers.now ≡ Ok (as_verdict v)) }
-    ensures err { IfErr result
-        (λ e. loops.verdict_of (view_readings view.entry) qualifiers.now ≡ Err e) }
+    ensures { Gives result (loops.verdict_of (view_readings view.entry) qualifiers.now)
+        as_verdict }
 {
     for qualifier in &qualifiers.list {
         let truth = holds(view, &qualifier.condition)?;

@@ -1,11 +1,11 @@
 //! The timing routine: entries of the data are loaded, and events start.
-ghost use Rattle.std.specs.Prelude.{◌≡◌, ◌<◌, ◌≤◌, [], length, slice_get, true, OnOk, IfErr, false, OnErr, Ok, Err};
+ghost use Rattle.std.specs.Prelude.{◌≡◌, ◌<◌, ◌≤◌, [], length, slice_get, true, OnOk, false, OnErr, Ok};
 ghost use Rattle.std.specs.Prelude.{if◌then◌else◌};
 ghost use Rattle.ss_program.specs.Program.{section_of, class_of, locals_of, is_main};
 ghost use Rattle.ss_store.specs.Tables.{tables_of};
 ghost use Rattle.ss_events.specs.Rules.{rules_of};
 ghost use Rattle.ss_machine.specs.Noting.{Notes};
-ghost use Rattle.ss_values.specs.Values.{FaultIs};
+ghost use Rattle.ss_machine.specs.Outcome.{LeadsTo, LeadsToOrRefuses};
 ghost use Rattle.ss_machine.specs.Well.{IsInBounds};
 ghost use Rattle.ss_program.specs.ProgramSound.{IsEventClass};
 ghost use Rattle.ss_store.specs.Tables as shapes;
@@ -53,12 +53,10 @@ impl<S: SetBoard> Executor<S> {
         requires class { class < length self.old.held.beside.tables.classes }
         requires kind { (shapes.class_of self.old.held.beside.tables class).permanent ≡ false }
         requires room { 0 < self.old.journal.notes }
-        ensures ok { OnOk result ((if saving then Ok self.old.held.state.store
+        ensures outcome { LeadsTo result
+            (if saving then Ok self.old.held.state.store
             else without_entity self.old.held.beside.tables self.old.held.state.store class notice)
-            ≡ Ok self.new.held.state.store) }
-        ensures err { IfErr result (λ e. (if saving then Ok self.old.held.state.store
-            else without_entity self.old.held.beside.tables self.old.held.state.store class notice)
-            ≡ Err e) }
+            self.new.held.state.store }
         ensures rest { self.new.held.state
             ≡ state_with_store self.old.held.state self.new.held.state.store }
         ensures tables { self.new.held.beside.tables ≡ self.old.held.beside.tables }
@@ -80,12 +78,9 @@ impl<S: SetBoard> Executor<S> {
         requires pending { is_pending self.old.held.state.agenda notice ≡ true }
         requires below { self.old.held.state.below ≡ [] }
         requires room { 5 < self.old.journal.notes }
-        ensures ok { OnOk result
-            (state_after_start program.now self.old.held.state notice slot.class slot.time
-            ≡ Ok self.new.held.state) }
-        ensures err { IfErr result
-            (λ e. FaultIs e
-            (state_after_start program.now self.old.held.state notice slot.class slot.time)) }
+        ensures outcome { LeadsToOrRefuses result
+            (state_after_start program.now self.old.held.state notice slot.class slot.time)
+            self.new.held.state }
         ensures notes { Notes 6 self.old self.new }
         ensures fewer { OnErr result (Notes 5 self.old self.new) }
     {
@@ -135,10 +130,8 @@ impl<S: SetBoard> Executor<S> {
         requires class { class < length self.old.held.beside.tables.classes }
         requires kind { (shapes.class_of self.old.held.beside.tables class).permanent ≡ false }
         requires room { 2 < self.old.journal.notes }
-        ensures ok { OnOk result (state_after_arrival program.now self.old.held.state class time
-            ≡ Ok self.new.held.state) }
-        ensures err { IfErr result
-            (λ e. FaultIs e (state_after_arrival program.now self.old.held.state class time)) }
+        ensures outcome { LeadsToOrRefuses result
+            (state_after_arrival program.now self.old.held.state class time) self.new.held.state }
         ensures notes { Notes 3 self.old self.new }
     {
         if self.held.clock() > time {
@@ -159,10 +152,8 @@ impl<S: SetBoard> Executor<S> {
         requires tables { self.old.held.beside.tables ≡ tables_of program.now }
         requires rules { self.old.held.beside.rules ≡ rules_of program.now }
         requires room { 3 < self.old.journal.notes }
-        ensures ok { OnOk result
-            (state_after_load program.now self.old.held.state ≡ Ok self.new.held.state) }
-        ensures err { IfErr result
-            (λ e. FaultIs e (state_after_load program.now self.old.held.state)) }
+        ensures outcome { LeadsToOrRefuses result
+            (state_after_load program.now self.old.held.state) self.new.held.state }
         ensures notes { Notes 4 self.old self.new }
     {
         let (class, time, change) = self.held.take_arrival(program)?;

@@ -63,14 +63,14 @@ loop-target-preserved g c =
           c.loop-target.number x (to_z w64 (of_z w64 c.value_at-value.result))
           (state_with_values c.args.self.now.held.beside.tables c.args.self.now.values.items c.args.self.now.held.state
           c.args.first c.args.targets.now) d u.tables (a ∙ rw u.values at c.value_at-value.ensures)
-          c.in_ok-assign_target.ensures.ok u.state;
+          c.in_ok-assign_target.ensures.outcome u.state;
       notes =
           notes_both i 1 (i + 1) c.args.self.now c.loop-target.self c.assign_target.new.self u.notes
           c.assign_target.ensures.notes (omega arith);
     }
 
-pub returns-in_err-assign_target-clause-err : goal.returns-in_err-assign_target-clause-err
-returns-in_err-assign_target-clause-err g c =
+pub returns-in_err-assign_target-clause-outcome : goal.returns-in_err-assign_target-clause-outcome
+returns-in_err-assign_target-clause-outcome g c =
     let e : RunFault = c.in_err-assign_target.field-0.0 in
     let xs = c.args.targets.now in
     let i = c.loop-target.target-index in
@@ -87,7 +87,7 @@ returns-in_err-assign_target-clause-err g c =
     c.loop-target.self.held.state xs i c.loop-target.number x (to_z w64 (of_z w64 c.value_at-value.result)) e
     (state_with_values c.args.self.now.held.beside.tables c.args.self.now.values.items c.args.self.now.held.state
     c.args.first c.args.targets.now) d u.tables
-    (a ∙ rw u.values at c.value_at-value.ensures) c.in_err-assign_target.ensures.err u.state)
+    (a ∙ rw u.values at c.value_at-value.ensures) c.in_err-assign_target.ensures.outcome u.state)
 
 pub returns-in_err-assign_target-clause-notes : goal.returns-in_err-assign_target-clause-notes
 returns-in_err-assign_target-clause-notes g c =
@@ -96,8 +96,8 @@ returns-in_err-assign_target-clause-notes g c =
     notes_both i 1 (length c.args.targets.now) c.args.self.now c.loop-target.self c.assign_target.new.self
     c.loop-target.invariant.notes c.assign_target.ensures.notes (omega (arith, ap length here, c.loop-target-test.true))
 
-pub returns-clause-ok : goal.returns-clause-ok
-returns-clause-ok g c =
+pub returns-clause-outcome : goal.returns-clause-outcome
+returns-clause-outcome g c =
     let xs = c.args.targets.now in
     let i = c.loop-target.target-index in
     let here : c.deref-target-items.result.now ≡ xs = search rules in

@@ -8,8 +8,8 @@ use Rattle.ss_machine.proofs.Storings.{refusal_is, storing_is}
 use Rattle.ss_machine.proofs.Executing.{attribute_fails, attribute_ends}
 use Rattle.ss_machine.proofs.executor.Executor.assign_target.Goals as goal
 
-pub returns-in_err-change-in-Attribute-clause-err : goal.returns-in_err-change-in-Attribute-clause-err
-returns-in_err-change-in-Attribute-clause-err g c =
+pub returns-in_err-change-in-Attribute-clause-outcome : goal.returns-in_err-change-in-Attribute-clause-outcome
+returns-in_err-change-in-Attribute-clause-outcome g c =
     let e : RunFault = c.in_err-change-in-Attribute.field-0.0 in
     let h = c.args.self.now.held in
     let i = c.in-Attribute in
@@ -24,8 +24,8 @@ returns-in_err-change-in-Attribute-clause-err g c =
     rw r (attribute_fails h.beside.tables h.state c.args.target.now i.class i.attribute i.index x c.args.value e t o
     (refusal_is e _ h c.set_attribute.new.self (rw (a, b) at c.in_err-change-in-Attribute.ensures)).0)
 
-pub returns-in_ok-change-in-Attribute-clause-ok : goal.returns-in_ok-change-in-Attribute-clause-ok
-returns-in_ok-change-in-Attribute-clause-ok g c =
+pub returns-in_ok-change-in-Attribute-clause-outcome : goal.returns-in_ok-change-in-Attribute-clause-outcome
+returns-in_ok-change-in-Attribute-clause-outcome g c =
     let h = c.args.self.now.held in
     let i = c.in-Attribute in
     let x = c.in_ok-entity-in-Attribute.entity in

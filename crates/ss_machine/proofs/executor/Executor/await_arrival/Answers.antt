@@ -6,8 +6,8 @@ use Rattle.ss_machine.proofs.Notings.{notes_none}
 use Rattle.ss_machine.proofs.Executing.{refused_is, creating_is, arrival_refused, arrival_unscheduled, arrival_ends}
 use Rattle.ss_machine.proofs.executor.Executor.await_arrival.Goals as goal
 
-pub returns-in_err-notice-clause-err : goal.returns-in_err-notice-clause-err
-returns-in_err-notice-clause-err g c =
+pub returns-in_err-notice-clause-outcome : goal.returns-in_err-notice-clause-outcome
+returns-in_err-notice-clause-outcome g c =
     let e : StepFault = c.in_err-notice.field-0.0 in
     let h = c.args.self.now.held in
     let b : int_lt c.args.time h.state.clock ≡ false = search rules in
@@ -20,8 +20,8 @@ returns-in_err-notice-clause-notes g c =
     notes_none 3 c.args.self.now.held c.create.new.self c.args.self.now.journal
     (refused_is c.in_err-notice.field-0.0 _ c.args.self.now.held c.create.new.self c.in_err-notice.ensures).1
 
-pub returns-in_err-schedule_notice-clause-err : goal.returns-in_err-schedule_notice-clause-err
-returns-in_err-schedule_notice-clause-err g c =
+pub returns-in_err-schedule_notice-clause-outcome : goal.returns-in_err-schedule_notice-clause-outcome
+returns-in_err-schedule_notice-clause-outcome g c =
     let e : StepFault = c.in_err-schedule_notice.field-0.0 in
     let h = c.args.self.now.held in
     let k = c.in_ok-notice.notice in
@@ -33,10 +33,10 @@ returns-in_err-schedule_notice-clause-err g c =
     let s = creating_is k c.in_ok-notice.change _ h c.create.new.self c.in_ok-notice.ensures in
     rw r (arrival_unscheduled c.args.program.now h.beside.tables h.state c.create.new.self.state c.args.class k
     c.args.time c.clear.new.self.items s.0 e none c.requires.tables b s.1 s.2 s.3.state
-    (rw y at c.in_err-schedule_notice.ensures.err))
+    (rw y at c.in_err-schedule_notice.ensures.outcome))
 
-pub returns-clause-ok : goal.returns-clause-ok
-returns-clause-ok g c =
+pub returns-clause-outcome : goal.returns-clause-outcome
+returns-clause-outcome g c =
     let h = c.args.self.now.held in
     let k = c.in_ok-notice.notice in
     let b : int_lt c.args.time h.state.clock ≡ false = search rules in
@@ -47,4 +47,4 @@ returns-clause-ok g c =
     arrival_ends c.args.program.now h.beside.tables h.state c.create.new.self.state
     c.schedule_notice.new.self.held.state c.set_entry-change.new.self.state c.args.class k c.args.time
     c.clear.new.self.items s.0 none c.requires.tables b s.1 s.2 s.3.state
-    (rw y at c.in_ok-schedule_notice.ensures.ok) c.set_entry-change.ensures.state
+    (rw y at c.in_ok-schedule_notice.ensures.outcome) c.set_entry-change.ensures.state

@@ -7,8 +7,8 @@ use Rattle.ss_machine.proofs.Notings.{notes_none}
 use Rattle.ss_machine.proofs.Executing.{refused_is, making_all_is, create_every_fails, create_every_ends}
 use Rattle.ss_machine.proofs.executor.Executor.create_every.Goals as goal
 
-pub returns-in_err-change-clause-err : goal.returns-in_err-change-clause-err
-returns-in_err-change-clause-err g c =
+pub returns-in_err-change-clause-outcome : goal.returns-in_err-change-clause-outcome
+returns-in_err-change-clause-outcome g c =
     let e : StepFault = c.in_err-change.field-0.0 in
     let h = c.args.self.now.held in
     let n = c.in_ok-asked.asked in
@@ -24,8 +24,8 @@ returns-in_err-change-clause-notes g c =
     notes_none 2 c.args.self.now.held c.create_all.new.self c.args.self.now.journal
     (refused_is c.in_err-change.field-0.0 _ c.args.self.now.held c.create_all.new.self c.in_err-change.ensures).1
 
-pub returns-clause-ok : goal.returns-clause-ok
-returns-clause-ok g c =
+pub returns-clause-outcome : goal.returns-clause-outcome
+returns-clause-outcome g c =
     let h = c.args.self.now.held in
     let n = c.in_ok-asked.asked in
     let fits : FitsSigned w64 n = search rules in

@@ -10,8 +10,8 @@ use Rattle.ss_machine.proofs.Storings.{refusal_is, storing_is}
 use Rattle.ss_machine.proofs.Executing.{destroy_fails, destroy_ends}
 use Rattle.ss_machine.proofs.executor.Executor.destroy.Goals as goal
 
-pub returns-in_err-change-clause-err : goal.returns-in_err-change-clause-err
-returns-in_err-change-clause-err g c =
+pub returns-in_err-change-clause-outcome : goal.returns-in_err-change-clause-outcome
+returns-in_err-change-clause-outcome g c =
     let e : RunFault = c.in_err-change.field-0.0 in
     let h = c.args.self.now.held in
     let x = c.in_ok-x.x in
@@ -30,8 +30,8 @@ returns-in_err-change-clause-notes g c =
     notes_none 1 c.args.self.now.held c.destroy.new.self c.args.self.now.journal
     (refusal_is c.in_err-change.field-0.0 _ c.args.self.now.held c.destroy.new.self c.in_err-change.ensures).1
 
-pub returns-clause-ok : goal.returns-clause-ok
-returns-clause-ok g c =
+pub returns-clause-outcome : goal.returns-clause-outcome
+returns-clause-outcome g c =
     let h = c.args.self.now.held in
     let x = c.in_ok-x.x in
     let k = c.in_ok-number.number in

@@ -8,8 +8,8 @@ use Rattle.ss_machine.proofs.Storings.{refusal_is, storing_is}
 use Rattle.ss_machine.proofs.Executing.{unsaved, stored_alone}
 use Rattle.ss_machine.proofs.executor.Executor.end_unless_saved.Goals as goal
 
-pub returns-in_err-change-clause-err : goal.returns-in_err-change-clause-err
-returns-in_err-change-clause-err g c =
+pub returns-in_err-change-clause-outcome : goal.returns-in_err-change-clause-outcome
+returns-in_err-change-clause-outcome g c =
     let e : RunFault = c.in_err-change.field-0.0 in
     let h = c.args.self.now.held in
     let b : c.args.saving ≡ false = search rules in
@@ -30,8 +30,8 @@ returns-in_err-change-clause-rest g c =
     (ap (λ (h : Held). h.state) (refusal_is c.in_err-change.field-0.0 _ c.args.self.now.held c.destroy.new.self
     c.in_err-change.ensures).1)
 
-pub returns-in_ok-change-clause-ok : goal.returns-in_ok-change-clause-ok
-returns-in_ok-change-clause-ok g c =
+pub returns-in_ok-change-clause-outcome : goal.returns-in_ok-change-clause-outcome
+returns-in_ok-change-clause-outcome g c =
     let h = c.args.self.now.held in
     let b : c.args.saving ≡ false = search rules in
     let whole : FitsSigned w64 c.from.result = search rules in

@@ -7,8 +7,8 @@ use Rattle.ss_machine.proofs.Notings.{notes_none}
 use Rattle.ss_machine.proofs.Storings.{refusal_is, storing_is, file_fails, file_ends}
 use Rattle.ss_machine.proofs.executor.Executor.file.Goals as goal
 
-pub returns-in_err-change-clause-err : goal.returns-in_err-change-clause-err
-returns-in_err-change-clause-err g c =
+pub returns-in_err-change-clause-outcome : goal.returns-in_err-change-clause-outcome
+returns-in_err-change-clause-outcome g c =
     let e : RunFault = c.in_err-change.field-0.0 in
     let h = c.args.self.now.held in
     let fits : FitsSigned w64 c.in_ok-owner.owner = search rules in
@@ -26,8 +26,8 @@ returns-in_err-change-clause-notes g c =
     notes_none 1 c.args.self.now.held c.file.new.self c.args.self.now.journal
     (refusal_is c.in_err-change.field-0.0 _ c.args.self.now.held c.file.new.self c.in_err-change.ensures).1
 
-pub returns-clause-ok : goal.returns-clause-ok
-returns-clause-ok g c =
+pub returns-clause-outcome : goal.returns-clause-outcome
+returns-clause-outcome g c =
     let h = c.args.self.now.held in
     let fits : FitsSigned w64 c.in_ok-owner.owner = search rules in
     let small : FitsSigned w64 c.args.member = search rules in

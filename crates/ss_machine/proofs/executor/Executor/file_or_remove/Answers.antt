@@ -7,8 +7,8 @@ use Rattle.ss_machine.specs.Statements.Filing.{how_asked}
 use Rattle.ss_machine.proofs.Notings.{notes_within, notes_none}
 use Rattle.ss_machine.proofs.executor.Executor.file_or_remove.Goals as goal
 
-pub returns-in_err-x-in-File-clause-err : goal.returns-in_err-x-in-File-clause-err
-returns-in_err-x-in-File-clause-err g c =
+pub returns-in_err-x-in-File-clause-outcome : goal.returns-in_err-x-in-File-clause-outcome
+returns-in_err-x-in-File-clause-outcome g c =
     let h = c.args.self.now.held in
     let e : RunFault = c.in_err-x-in-File.field-0.0 in
     let v : value_of (readings h.beside.tables h.state) c.in-File.member ≡ Err e = search rules in
@@ -19,8 +19,8 @@ pub returns-in_err-x-in-File-clause-notes : goal.returns-in_err-x-in-File-clause
 returns-in_err-x-in-File-clause-notes g c =
     notes_none 2 c.args.self.now.held c.args.self.now.held c.args.self.now.journal refl
 
-pub returns-in_err-how-in-File-clause-err : goal.returns-in_err-how-in-File-clause-err
-returns-in_err-how-in-File-clause-err g c =
+pub returns-in_err-how-in-File-clause-outcome : goal.returns-in_err-how-in-File-clause-outcome
+returns-in_err-how-in-File-clause-outcome g c =
     let h = c.args.self.now.held in
     let x = c.in_ok-x-in-File.x in
     let e : RunFault = c.in_err-how-in-File.field-0.0 in
@@ -33,8 +33,8 @@ pub returns-in_err-how-in-File-clause-notes : goal.returns-in_err-how-in-File-cl
 returns-in_err-how-in-File-clause-notes g c =
     notes_none 2 c.args.self.now.held c.args.self.now.held c.args.self.now.journal refl
 
-pub returns-in_ok-how-in-File-clause-ok : goal.returns-in_ok-how-in-File-clause-ok
-returns-in_ok-how-in-File-clause-ok g c =
+pub returns-in_ok-how-in-File-clause-outcome : goal.returns-in_ok-how-in-File-clause-outcome
+returns-in_ok-how-in-File-clause-outcome g c =
     let h = c.args.self.now.held in
     let x = c.in_ok-x-in-File.x in
     let fits : FitsSigned w64 x = search rules in
@@ -42,25 +42,14 @@ returns-in_ok-how-in-File-clause-ok g c =
     let v : value_of (readings h.beside.tables h.state) c.in-File.member ≡ Ok x = search rules in
     let w : how_asked (readings h.beside.tables h.state) c.in-File.position ≡ Ok c.in_ok-how-in-File.how =
     search rules in
-    rw (c.in-File.is, v, w) (rw a at c.file.ensures.ok)
-
-pub returns-in_ok-how-in-File-clause-err : goal.returns-in_ok-how-in-File-clause-err
-returns-in_ok-how-in-File-clause-err g c =
-    let h = c.args.self.now.held in
-    let x = c.in_ok-x-in-File.x in
-    let fits : FitsSigned w64 x = search rules in
-    let a : to_z w64 (of_z w64 x) ≡ x = to_z-of_z w64 _ fits in
-    let v : value_of (readings h.beside.tables h.state) c.in-File.member ≡ Ok x = search rules in
-    let w : how_asked (readings h.beside.tables h.state) c.in-File.position ≡ Ok c.in_ok-how-in-File.how =
-    search rules in
-    rw (c.in-File.is, v, w) (rw a at c.file.ensures.err)
+    rw (c.in-File.is, v, w) (rw a at c.file.ensures.outcome)
 
 pub returns-in_ok-how-in-File-clause-notes : goal.returns-in_ok-how-in-File-clause-notes
 returns-in_ok-how-in-File-clause-notes g c =
     notes_within 1 2 c.args.self.now c.file.new.self c.file.ensures.notes (omega arith)
 
-pub returns-in_err-x-in-FileAt-clause-err : goal.returns-in_err-x-in-FileAt-clause-err
-returns-in_err-x-in-FileAt-clause-err g c =
+pub returns-in_err-x-in-FileAt-clause-outcome : goal.returns-in_err-x-in-FileAt-clause-outcome
+returns-in_err-x-in-FileAt-clause-outcome g c =
     let h = c.args.self.now.held in
     let e : RunFault = c.in_err-x-in-FileAt.field-0.0 in
     let v : value_of (readings h.beside.tables h.state) c.in-FileAt.member ≡ Err e = search rules in
@@ -71,38 +60,25 @@ pub returns-in_err-x-in-FileAt-clause-notes : goal.returns-in_err-x-in-FileAt-cl
 returns-in_err-x-in-FileAt-clause-notes g c =
     notes_none 2 c.args.self.now.held c.args.self.now.held c.args.self.now.journal refl
 
-pub returns-in_ok-x-in-FileAt-clause-ok : goal.returns-in_ok-x-in-FileAt-clause-ok
-returns-in_ok-x-in-FileAt-clause-ok g c =
+pub returns-in_ok-x-in-FileAt-clause-outcome : goal.returns-in_ok-x-in-FileAt-clause-outcome
+returns-in_ok-x-in-FileAt-clause-outcome g c =
     let h = c.args.self.now.held in
     let x = c.in_ok-x-in-FileAt.x in
     let fits : FitsSigned w64 x = search rules in
     let a : to_z w64 (of_z w64 x) ≡ x = to_z-of_z w64 _ fits in
     let v : value_of (readings h.beside.tables h.state) c.in-FileAt.member ≡ Ok x = search rules in
-    rw (c.in-FileAt.is, v) (rw (a, c.how_at.ensures) at c.file-in-FileAt.ensures.ok)
-
-pub returns-in_ok-x-in-FileAt-clause-err : goal.returns-in_ok-x-in-FileAt-clause-err
-returns-in_ok-x-in-FileAt-clause-err g c =
-    let h = c.args.self.now.held in
-    let x = c.in_ok-x-in-FileAt.x in
-    let fits : FitsSigned w64 x = search rules in
-    let a : to_z w64 (of_z w64 x) ≡ x = to_z-of_z w64 _ fits in
-    let v : value_of (readings h.beside.tables h.state) c.in-FileAt.member ≡ Ok x = search rules in
-    rw (c.in-FileAt.is, v) (rw (a, c.how_at.ensures) at c.file-in-FileAt.ensures.err)
+    rw (c.in-FileAt.is, v) (rw (a, c.how_at.ensures) at c.file-in-FileAt.ensures.outcome)
 
 pub returns-in_ok-x-in-FileAt-clause-notes : goal.returns-in_ok-x-in-FileAt-clause-notes
 returns-in_ok-x-in-FileAt-clause-notes g c =
     notes_within 1 2 c.args.self.now c.file-in-FileAt.new.self c.file-in-FileAt.ensures.notes (omega arith)
 
-pub returns-in-RemoveAt-clause-ok : goal.returns-in-RemoveAt-clause-ok
-returns-in-RemoveAt-clause-ok g c =
-    rw c.in-RemoveAt.is c.remove_end.ensures.ok
+pub returns-in-RemoveAt-clause-outcome : goal.returns-in-RemoveAt-clause-outcome
+returns-in-RemoveAt-clause-outcome g c =
+    rw c.in-RemoveAt.is c.remove_end.ensures.outcome
 
-pub returns-in-RemoveAt-clause-err : goal.returns-in-RemoveAt-clause-err
-returns-in-RemoveAt-clause-err g c =
-    rw c.in-RemoveAt.is c.remove_end.ensures.err
-
-pub returns-in_err-x-in-Remove-clause-err : goal.returns-in_err-x-in-Remove-clause-err
-returns-in_err-x-in-Remove-clause-err g c =
+pub returns-in_err-x-in-Remove-clause-outcome : goal.returns-in_err-x-in-Remove-clause-outcome
+returns-in_err-x-in-Remove-clause-outcome g c =
     let h = c.args.self.now.held in
     let e : RunFault = c.in_err-x-in-Remove.field-0.0 in
     let v : value_of (readings h.beside.tables h.state) c.in-Remove.member ≡ Err e = search rules in
@@ -113,23 +89,14 @@ pub returns-in_err-x-in-Remove-clause-notes : goal.returns-in_err-x-in-Remove-cl
 returns-in_err-x-in-Remove-clause-notes g c =
     notes_none 2 c.args.self.now.held c.args.self.now.held c.args.self.now.journal refl
 
-pub returns-in_ok-x-in-Remove-clause-ok : goal.returns-in_ok-x-in-Remove-clause-ok
-returns-in_ok-x-in-Remove-clause-ok g c =
+pub returns-in_ok-x-in-Remove-clause-outcome : goal.returns-in_ok-x-in-Remove-clause-outcome
+returns-in_ok-x-in-Remove-clause-outcome g c =
     let h = c.args.self.now.held in
     let x = c.in_ok-x-in-Remove.x in
     let fits : FitsSigned w64 x = search rules in
     let a : to_z w64 (of_z w64 x) ≡ x = to_z-of_z w64 _ fits in
     let v : value_of (readings h.beside.tables h.state) c.in-Remove.member ≡ Ok x = search rules in
-    rw (c.in-Remove.is, v) (rw a at c.remove.ensures.ok)
-
-pub returns-in_ok-x-in-Remove-clause-err : goal.returns-in_ok-x-in-Remove-clause-err
-returns-in_ok-x-in-Remove-clause-err g c =
-    let h = c.args.self.now.held in
-    let x = c.in_ok-x-in-Remove.x in
-    let fits : FitsSigned w64 x = search rules in
-    let a : to_z w64 (of_z w64 x) ≡ x = to_z-of_z w64 _ fits in
-    let v : value_of (readings h.beside.tables h.state) c.in-Remove.member ≡ Ok x = search rules in
-    rw (c.in-Remove.is, v) (rw a at c.remove.ensures.err)
+    rw (c.in-Remove.is, v) (rw a at c.remove.ensures.outcome)
 
 pub returns-in_ok-x-in-Remove-clause-notes : goal.returns-in_ok-x-in-Remove-clause-notes
 returns-in_ok-x-in-Remove-clause-notes g c =

@@ -18,11 +18,8 @@ create-requires-clause-kind g c =
 pub create-requires-clause-target : goal.create-requires-clause-target
 create-requires-clause-target g c = (rw c.in-Create.is at c.requires.sound).1
 
-pub returns-in-Create-clause-ok : goal.returns-in-Create-clause-ok
-returns-in-Create-clause-ok g c = rw c.in-Create.is c.create.ensures.ok
-
-pub returns-in-Create-clause-err : goal.returns-in-Create-clause-err
-returns-in-Create-clause-err g c = rw c.in-Create.is c.create.ensures.err
+pub returns-in-Create-clause-outcome : goal.returns-in-Create-clause-outcome
+returns-in-Create-clause-outcome g c = rw c.in-Create.is c.create.ensures.outcome
 
 pub create_every-requires-clause-class : goal.create_every-requires-clause-class
 create_every-requires-clause-class g c =
@@ -40,11 +37,8 @@ create_every-requires-clause-number g c = (rw c.in-CreateEvery.is at c.requires.
 pub create_every-requires-clause-count : goal.create_every-requires-clause-count
 create_every-requires-clause-count g c = (rw c.in-CreateEvery.is at c.requires.sound).2
 
-pub returns-in-CreateEvery-clause-ok : goal.returns-in-CreateEvery-clause-ok
-returns-in-CreateEvery-clause-ok g c = rw c.in-CreateEvery.is c.create_every.ensures.ok
-
-pub returns-in-CreateEvery-clause-err : goal.returns-in-CreateEvery-clause-err
-returns-in-CreateEvery-clause-err g c = rw c.in-CreateEvery.is c.create_every.ensures.err
+pub returns-in-CreateEvery-clause-outcome : goal.returns-in-CreateEvery-clause-outcome
+returns-in-CreateEvery-clause-outcome g c = rw c.in-CreateEvery.is c.create_every.ensures.outcome
 
 pub destroy-requires-clause-class : goal.destroy-requires-clause-class
 destroy-requires-clause-class g c =
@@ -59,18 +53,18 @@ destroy-requires-clause-kind g c =
 pub destroy-requires-clause-entity : goal.destroy-requires-clause-entity
 destroy-requires-clause-entity g c = (rw c.in-Destroy.is at c.requires.sound).1
 
-pub returns-in_err-destroy-in-Destroy-clause-err : goal.returns-in_err-destroy-in-Destroy-clause-err
-returns-in_err-destroy-in-Destroy-clause-err g c =
+pub returns-in_err-destroy-in-Destroy-clause-outcome : goal.returns-in_err-destroy-in-Destroy-clause-outcome
+returns-in_err-destroy-in-Destroy-clause-outcome g c =
     let e : RunFault = c.in_err-destroy-in-Destroy.field-0.0 in
     let r : c.from_residual.result ≡ Err (Fault e) = search rules in
-    rw (r, c.in-Destroy.is) c.in_err-destroy-in-Destroy.ensures.err
+    rw (r, c.in-Destroy.is) c.in_err-destroy-in-Destroy.ensures.outcome
 
 pub returns-in_err-destroy-in-Destroy-clause-notes : goal.returns-in_err-destroy-in-Destroy-clause-notes
 returns-in_err-destroy-in-Destroy-clause-notes g c =
     notes_within 1 2 c.args.self.now c.destroy.new.self c.destroy.ensures.notes (omega arith)
 
-pub returns-in_ok-destroy-in-Destroy-clause-ok : goal.returns-in_ok-destroy-in-Destroy-clause-ok
-returns-in_ok-destroy-in-Destroy-clause-ok g c = rw c.in-Destroy.is c.in_ok-destroy-in-Destroy.ensures.ok
+pub returns-in_ok-destroy-in-Destroy-clause-outcome : goal.returns-in_ok-destroy-in-Destroy-clause-outcome
+returns-in_ok-destroy-in-Destroy-clause-outcome g c = rw c.in-Destroy.is c.in_ok-destroy-in-Destroy.ensures.outcome
 
 pub returns-in_ok-destroy-in-Destroy-clause-notes : goal.returns-in_ok-destroy-in-Destroy-clause-notes
 returns-in_ok-destroy-in-Destroy-clause-notes g c =

@@ -7,8 +7,8 @@ use Rattle.ss_machine.proofs.Notings.{notes_none}
 use Rattle.ss_machine.proofs.Storings.{removal_refused, remove_fails}
 use Rattle.ss_machine.proofs.executor.Executor.remove.Goals as goal
 
-pub returns-in_err-change-clause-err : goal.returns-in_err-change-clause-err
-returns-in_err-change-clause-err g c =
+pub returns-in_err-change-clause-outcome : goal.returns-in_err-change-clause-outcome
+returns-in_err-change-clause-outcome g c =
     let e : RunFault = c.in_err-change.field-0.0 in
     let h = c.args.self.now.held in
     let fits : FitsSigned w64 c.in_ok-owner.owner = search rules in

@@ -8,8 +8,8 @@ use Rattle.ss_machine.proofs.Notings.{notes_none}
 use Rattle.ss_machine.proofs.Storings.{removal_refused, removing_is, remove_end_fails, remove_end_then, counted_small}
 use Rattle.ss_machine.proofs.executor.Executor.remove_end.Goals as goal
 
-pub returns-in_err-number-clause-err : goal.returns-in_err-number-clause-err
-returns-in_err-number-clause-err g c =
+pub returns-in_err-number-clause-outcome : goal.returns-in_err-number-clause-outcome
+returns-in_err-number-clause-outcome g c =
     let e : RunFault = c.in_err-number.field-0.0 in
     let h = c.args.self.now.held in
     let fits : FitsSigned w64 c.in_ok-owner.owner = search rules in
@@ -26,8 +26,8 @@ returns-in_err-number-clause-notes g c =
     notes_none 2 c.args.self.now.held c.remove.new.self c.args.self.now.journal
     (removal_refused c.in_err-number.field-0.0 _ c.args.self.now.held c.remove.new.self c.in_err-number.ensures).1
 
-pub returns-clause-err : goal.returns-clause-err
-returns-clause-err g c =
+pub returns-clause-outcome : goal.returns-clause-outcome
+returns-clause-outcome g c =
     let h = c.args.self.now.held in
     let n = c.in_ok-number.number in
     let fits : FitsSigned w64 c.in_ok-owner.owner = search rules in
@@ -41,5 +41,5 @@ returns-clause-err g c =
     let whole : FitsSigned w64 c.from.result = search rules in
     let b : to_z w64 (of_z w64 c.from.result) ≡ c.from.result = to_z-of_z w64 _ whole in
     remove_end_then h.beside.tables _ h.state _ c.args.set.now c.args.end c.args.target.now c.in_ok-owner.owner _ n r.0
-    c.assign_target.result o r.1
-    (counted_small n small) r.2.state r.2.tables x (rw b at c.assign_target.ensures.err)
+    c.assign_target.result c.assign_target.new.self.held.state o r.1
+    (counted_small n small) r.2.state r.2.tables x (rw b at c.assign_target.ensures.outcome)

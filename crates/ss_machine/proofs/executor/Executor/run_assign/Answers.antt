@@ -13,7 +13,7 @@ returns-clause-state g c =
     search rules in
     settled_by c.assign_value-done.result h.state c.assign_value-done.new.self.held.state c.settle.new.self.held.state
     (state_after_assign h.beside.tables h.state c.args.assign.now) c.args.next
-    c.assign_value-done.ensures.ok c.assign_value-done.ensures.err c.settle.ensures.ok (rw o at c.settle.ensures.err)
+    c.assign_value-done.ensures.outcome (rw o at c.settle.ensures.state)
 
 pub returns-clause-notes : goal.returns-clause-notes
 returns-clause-notes g c =

@@ -14,8 +14,7 @@ returns-clause-state g c =
     settled_by c.file_or_remove-done.result h.state c.file_or_remove-done.new.self.held.state
     c.settle.new.self.held.state
     (state_after_filing h.beside.tables h.state c.args.filing.now) c.args.next
-    c.file_or_remove-done.ensures.ok c.file_or_remove-done.ensures.err c.settle.ensures.ok
-    (rw o at c.settle.ensures.err)
+    c.file_or_remove-done.ensures.outcome (rw o at c.settle.ensures.state)
 
 pub returns-clause-notes : goal.returns-clause-notes
 returns-clause-notes g c =

@@ -40,9 +40,7 @@ returns-in-Tell-clause-state g c =
     rw c.in-Tell.is
     (settled_by c.tell-done.result h.state c.tell-done.new.self.held.state c.settle.new.self.held.state
     (state_after_telling h.beside.tables h.state.frame.statistics h.state c.in-Tell.tellings) c.args.ways.next
-    (rw c.statistics-statistics.ensures at c.tell-done.ensures.ok)
-    (rw c.statistics-statistics.ensures at c.tell-done.ensures.err) c.settle.ensures.ok
-    (rw o at c.settle.ensures.err))
+    (rw c.statistics-statistics.ensures at c.tell-done.ensures.outcome) (rw o at c.settle.ensures.state))
 
 pub returns-in-Tell-clause-notes : goal.returns-in-Tell-clause-notes
 returns-in-Tell-clause-notes g c =

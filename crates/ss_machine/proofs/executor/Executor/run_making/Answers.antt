@@ -11,8 +11,7 @@ returns-clause-state g c =
     let o : unapply_all unapply c.make-done.new.self.journal.current c.make-done.new.self.held ≡ h = search rules in
     settled_as c.make-done.result c.settle_or_refuse.result h.state c.make-done.new.self.held.state
     c.settle_or_refuse.new.self.held.state _ c.args.next
-    c.make-done.ensures.ok c.make-done.ensures.err c.settle_or_refuse.ensures.ok
-    (rw o at c.settle_or_refuse.ensures.err)
+    c.make-done.ensures.outcome (rw o at c.settle_or_refuse.ensures.state)
 
 pub returns-clause-notes : goal.returns-clause-notes
 returns-clause-notes g c =

@@ -7,7 +7,7 @@ use Rattle.ss_values.specs.Seen.{view_readings}
 use Rattle.ss_machine.specs.Readings.{readings}
 use Rattle.ss_machine.specs.Statements.Timing.{arguments_asked, time_asked}
 use Rattle.ss_machine.proofs.Starts.{arguments_count, noted_same}
-use Rattle.ss_machine.proofs.Executing.{schedule_ends, schedule_fails, schedule_untimed}
+use Rattle.ss_machine.proofs.Executing.{schedule_goes_on, schedule_untimed}
 use Rattle.ss_machine.proofs.executor.Executor.schedule.Goals as goal
 
 pub schedule_said-requires-clause-room : goal.schedule_said-requires-clause-room
@@ -18,7 +18,7 @@ schedule_said-requires-clause-room g c =
       c.requires.room,
       arguments_count (view_readings c.view.result) x.notice x.arguments x.listing c.in_ok-named.named
           c.arguments_asked.new.arguments.items
-          c.in_ok-named.ensures.ok,
+          c.in_ok-named.ensures,
     )
 
 pub returns-clause-notes : goal.returns-clause-notes
@@ -29,13 +29,13 @@ returns-clause-notes g c =
     let e : m ≡ n =
     arguments_count (view_readings c.view.result) x.notice x.arguments x.listing c.in_ok-named.named
     c.arguments_asked.new.arguments.items
-    c.in_ok-named.ensures.ok in
+    c.in_ok-named.ensures in
     noted_same (3 + m) (3 + n) c.args.self.now.held c.schedule_said.new.self.held c.schedule_said.new.self.held
     c.args.self.now.journal
     c.schedule_said.new.self.journal refl (omega (arith, e)) c.schedule_said.ensures.notes
 
-pub returns-in_err-time-clause-err : goal.returns-in_err-time-clause-err
-returns-in_err-time-clause-err g c =
+pub returns-in_err-time-clause-outcome : goal.returns-in_err-time-clause-outcome
+returns-in_err-time-clause-outcome g c =
     let h = c.args.self.now.held in
     let x = c.args.schedule.now in
     let n = c.in_ok-named.named in
@@ -47,8 +47,8 @@ returns-in_err-time-clause-err g c =
     let r : c.from_residual-in_err-time.result ≡ Err (Fault e) = search rules in
     rw r (schedule_untimed c.args.program.now h.beside.tables h.state x n xs e c.requires.tables o t)
 
-pub returns-clause-ok : goal.returns-clause-ok
-returns-clause-ok g c =
+pub returns-clause-outcome : goal.returns-clause-outcome
+returns-clause-outcome g c =
     let h = c.args.self.now.held in
     let x = c.args.schedule.now in
     let n = c.in_ok-named.named in
@@ -61,22 +61,5 @@ returns-clause-ok g c =
     let o : ◌≡◌ {A = Result (ℤ × List ℤ) RunFault}
     (arguments_asked (readings h.beside.tables h.state) x.notice x.arguments x.listing) (Ok (n, xs)) = search rules in
     let t : time_asked (readings h.beside.tables h.state) x.when ≡ Ok time = search rules in
-    schedule_ends c.args.program.now h.beside.tables h.state c.schedule_said.new.self.held.state x n time xs
-    c.schedule_said.result c.requires.tables o t (rw (a, b) at c.schedule_said.ensures.ok)
-
-pub returns-clause-err : goal.returns-clause-err
-returns-clause-err g c =
-    let h = c.args.self.now.held in
-    let x = c.args.schedule.now in
-    let n = c.in_ok-named.named in
-    let xs = c.arguments_asked.new.arguments.items in
-    let time = c.in_ok-time.time in
-    let fits : FitsSigned w64 n = search rules in
-    let a : to_z w64 (of_z w64 n) ≡ n = to_z-of_z w64 _ fits in
-    let long : FitsSigned w64 time = search rules in
-    let b : to_z w64 (of_z w64 time) ≡ time = to_z-of_z w64 _ long in
-    let o : ◌≡◌ {A = Result (ℤ × List ℤ) RunFault}
-    (arguments_asked (readings h.beside.tables h.state) x.notice x.arguments x.listing) (Ok (n, xs)) = search rules in
-    let t : time_asked (readings h.beside.tables h.state) x.when ≡ Ok time = search rules in
-    schedule_fails c.args.program.now h.beside.tables h.state x n time xs c.schedule_said.result c.requires.tables o t
-    (rw (a, b) at c.schedule_said.ensures.err)
+    schedule_goes_on c.args.program.now h.beside.tables h.state c.schedule_said.new.self.held.state x n time xs
+    c.schedule_said.result c.requires.tables o t (rw (a, b) at c.schedule_said.ensures.outcome)

@@ -43,8 +43,8 @@ returns-in_err-change-clause-notes g c =
     c.in_err-change.ensures) few
     c.set_attributes.ensures.notes
 
-pub returns-in_err-keys-clause-err : goal.returns-in_err-keys-clause-err
-returns-in_err-keys-clause-err g c =
+pub returns-in_err-keys-clause-outcome : goal.returns-in_err-keys-clause-outcome
+returns-in_err-keys-clause-outcome g c =
     let p = c.args.program.now in
     let h = c.args.self.now.held in
     let e : StepFault = c.in_err-keys.field-0.0 in
@@ -53,10 +53,10 @@ returns-in_err-keys-clause-err g c =
     search rules in
     let r : c.from_residual-in_err-keys.result ≡ Err e = search rules in
     rw r (keys_fail p h.state m c.args.class c.args.notice c.args.time c.args.self.now.values.items e
-    c.in_ok-set_attributes.ensures.ok f)
+    c.in_ok-set_attributes.ensures.outcome f)
 
-pub returns-in_err-change-clause-err : goal.returns-in_err-change-clause-err
-returns-in_err-change-clause-err g c =
+pub returns-in_err-change-clause-outcome : goal.returns-in_err-change-clause-outcome
+returns-in_err-change-clause-outcome g c =
     let p = c.args.program.now in
     let h = c.args.self.now.held in
     let e : StepFault = c.in_err-change.field-0.0 in
@@ -67,11 +67,11 @@ returns-in_err-change-clause-err g c =
     let y : to_z w64 (of_z w64 c.args.time) ≡ c.args.time = to_z-of_z w64 _ long in
     let r : c.from_residual-in_err-change.result ≡ Err e = search rules in
     rw r (notice_fails p h.state m.state c.args.class c.args.notice c.args.time c.args.self.now.values.items
-    c.keys.new.values.items e c.in_ok-set_attributes.ensures.ok f
+    c.keys.new.values.items e c.in_ok-set_attributes.ensures.outcome f
     (scheduling_refused e _ m c.schedule.new.self (rw (y, c.as_slice.ensures.value) at c.in_err-change.ensures)))
 
-pub returns-clause-ok : goal.returns-clause-ok
-returns-clause-ok g c =
+pub returns-clause-outcome : goal.returns-clause-outcome
+returns-clause-outcome g c =
     let p = c.args.program.now in
     let h = c.args.self.now.held in
     let m = c.set_attributes.new.self.held in
@@ -80,6 +80,6 @@ returns-clause-ok g c =
     let long : FitsSigned w64 c.args.time = search rules in
     let y : to_z w64 (of_z w64 c.args.time) ≡ c.args.time = to_z-of_z w64 _ long in
     notice_ends p h.state m.state c.schedule.new.self.state c.args.class c.args.notice c.args.time
-    c.args.self.now.values.items c.keys.new.values.items c.in_ok-set_attributes.ensures.ok f
+    c.args.self.now.values.items c.keys.new.values.items c.in_ok-set_attributes.ensures.outcome f
     (scheduling_is c.in_ok-change.change _ m c.schedule.new.self
     (rw (y, c.as_slice.ensures.value) at c.in_ok-change.ensures))

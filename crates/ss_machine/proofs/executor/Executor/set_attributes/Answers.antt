@@ -57,8 +57,8 @@ loop-number-preserved g c =
           c.note.ensures.steps c.note.ensures.current c.note.ensures.notes c.note.ensures.closes);
     }
 
-pub returns-in_err-change-clause-err : goal.returns-in_err-change-clause-err
-returns-in_err-change-clause-err g c =
+pub returns-in_err-change-clause-outcome : goal.returns-in_err-change-clause-outcome
+returns-in_err-change-clause-outcome g c =
     let e : RunFault = c.in_err-change.field-0.0 in
     let h = c.loop-number.self.held in
     let xs = c.args.self.now.values.items in
@@ -104,8 +104,8 @@ returns-in_err-change-clause-notes g c =
     (refusal_is c.in_err-change.field-0.0 _ c.loop-number.self.held c.set_attribute.new.self c.in_err-change.ensures).1
     (omega (arith, c.loop-number.auto.number-end, c.len-number-end.ensures)) c.loop-number.invariant.notes
 
-pub returns-clause-ok : goal.returns-clause-ok
-returns-clause-ok g c =
+pub returns-clause-outcome : goal.returns-clause-outcome
+returns-clause-outcome g c =
     let xs = c.args.self.now.values.items in
     let n = c.loop-number.number in
     let none : drop n xs ≡ [] =

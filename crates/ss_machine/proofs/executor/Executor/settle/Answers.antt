@@ -4,8 +4,8 @@ use Rattle.ss_machine.specs.Held.{Held}
 use Rattle.ss_machine.proofs.Notings.{noted_anew}
 use Rattle.ss_machine.proofs.executor.Executor.settle.Goals as goal
 
-pub returns-in-Err-clause-err : goal.returns-in-Err-clause-err
-returns-in-Err-clause-err g c =
+pub returns-in-Err-clause-state : goal.returns-in-Err-clause-state
+returns-in-Err-clause-state g c =
     rw c.in-Err.is
     (c.mark.ensures.state
     ∙ ap (λ (h : Held). record h.state { status = Faulted c.in-Err.fault }) c.roll_back.ensures.held)

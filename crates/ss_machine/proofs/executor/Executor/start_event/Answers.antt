@@ -45,8 +45,8 @@ new-requires-clause-few g c =
     c.in_ok-first_attributes.ensures.ok in
     omega (arith, n, length-range_with_len 0 given, e, c.event_section-number.ensures.few)
 
-pub returns-clause-ok : goal.returns-clause-ok
-returns-clause-ok g c =
+pub returns-clause-outcome : goal.returns-clause-outcome
+returns-clause-outcome g c =
     let p = c.args.program.now in
     let s = c.args.self.now.held.state in
     let k = c.args.notice in
@@ -71,7 +71,7 @@ returns-clause-ok g c =
     let tables : m.beside.tables ≡ tables_of p = c.advance.ensures.tables ∙ c.requires.tables in
     let store : m.state.store ≡ s.store = ap (λ (x : State). x.store) at in
     let b : store_at_start p s.store class k ≡ Ok u.store =
-    rw (saving, tables, store) at c.in_ok-end_unless_saved.ensures.ok in
+    rw (saving, tables, store) at c.in_ok-end_unless_saved.ensures.outcome in
     let left : c.open_frame-change.new.self.state
     ≡ state_with_frame p (state_after_assignment (state_at_time s k c.args.slot.time u.store)
     (Global (class_of p class).variable) (pos k)) (event_section p class) xs =

@@ -59,14 +59,14 @@ loop-telling-preserved g c =
           (to_z w64 (of_z w64 c.statistic_value.result))
           (state_after_telling c.args.self.now.held.beside.tables c.args.statistics c.args.self.now.held.state
           c.args.tellings.now) d u.tables
-          (a ∙ c.statistic_value.ensures) c.in_ok-assign_target.ensures.ok u.state;
+          (a ∙ c.statistic_value.ensures) c.in_ok-assign_target.ensures.outcome u.state;
       notes =
           notes_both i 1 (i + 1) c.args.self.now c.loop-telling.self c.assign_target.new.self u.notes
           c.assign_target.ensures.notes (omega arith);
     }
 
-pub returns-in_err-assign_target-clause-err : goal.returns-in_err-assign_target-clause-err
-returns-in_err-assign_target-clause-err g c =
+pub returns-in_err-assign_target-clause-outcome : goal.returns-in_err-assign_target-clause-outcome
+returns-in_err-assign_target-clause-outcome g c =
     let e : RunFault = c.in_err-assign_target.field-0.0 in
     let xs = c.args.tellings.now in
     let i = c.loop-telling.telling-index in
@@ -82,7 +82,7 @@ returns-in_err-assign_target-clause-err g c =
     c.loop-telling.self.held.state xs i x (to_z w64 (of_z w64 c.statistic_value.result)) e
     (state_after_telling c.args.self.now.held.beside.tables c.args.statistics c.args.self.now.held.state
     c.args.tellings.now) d c.loop-telling.invariant.tables (a ∙ c.statistic_value.ensures)
-    c.in_err-assign_target.ensures.err c.loop-telling.invariant.state)
+    c.in_err-assign_target.ensures.outcome c.loop-telling.invariant.state)
 
 pub returns-in_err-assign_target-clause-notes : goal.returns-in_err-assign_target-clause-notes
 returns-in_err-assign_target-clause-notes g c =
@@ -92,8 +92,8 @@ returns-in_err-assign_target-clause-notes g c =
     c.loop-telling.invariant.notes c.assign_target.ensures.notes
     (omega (arith, ap length here, c.loop-telling-test.true))
 
-pub returns-clause-ok : goal.returns-clause-ok
-returns-clause-ok g c =
+pub returns-clause-outcome : goal.returns-clause-outcome
+returns-clause-outcome g c =
     let xs = c.args.tellings.now in
     let i = c.loop-telling.telling-index in
     let here : c.deref-telling-items.result.now ≡ xs = search rules in
