@@ -18,6 +18,7 @@ pub mod Laws
 pub mod Examples
 pub mod Seen
 pub mod Noting
+pub mod Executor
 pub mod Storing
 pub mod Outcome
 pub mod History

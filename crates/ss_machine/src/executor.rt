@@ -9,6 +9,7 @@ ghost use Rattle.ss_journal.specs.Undoing.{unapply_all, FitsAll};
 ghost use Rattle.ss_links.specs.Board.{empty_board};
 ghost use Rattle.ss_store.specs.Tables.{tables_of};
 ghost use Rattle.ss_events.specs.Rules.{rules_of};
+ghost use Rattle.ss_machine.specs.Executor.{rules, state, state_before, tables};
 ghost use Rattle.ss_machine.specs.Change.{Fits, unapply};
 ghost use Rattle.ss_machine.specs.Noting.{Notes};
 ghost use Rattle.ss_machine.specs.Outcome.{LeadsTo, IsMarked, IsSettled, IsSettledOrRefused};
@@ -60,13 +61,10 @@ impl<S: SetBoard> Executor<S> {
         requires taken { feed.taken ≡ 0 }
         requires sets { S.board sets ≡ empty_board }
         requires pending { S.board pending ≡ empty_board }
-        ensures state { IfOk result
-            (λ executor. executor.held.state
+        ensures state { IfOk result (λ executor. state executor
             ≡ start (record { program = program.now; items = feed.items })) }
-        ensures tables { IfOk result
-            (λ executor. executor.held.beside.tables ≡ tables_of program.now) }
-        ensures rules { IfOk result
-            (λ executor. executor.held.beside.rules ≡ rules_of program.now) }
+        ensures tables { IfOk result (λ executor. tables executor ≡ tables_of program.now) }
+        ensures rules { IfOk result (λ executor. rules executor ≡ rules_of program.now) }
         ensures steps { IfOk result (λ executor. executor.journal.steps ≡ []) }
         ensures current { IfOk result (λ executor. executor.journal.current ≡ []) }
     {
@@ -82,8 +80,7 @@ impl<S: SetBoard> Executor<S> {
     pub fn assign(&mut self, target: Variable, value: i64)
         requires target { InHeld self.old.held IsSettable target }
         requires room { 0 < self.old.journal.notes }
-        ensures state { self.new.held.state
-            ≡ state_after_assignment self.old.held.state target value }
+        ensures state { state self.new ≡ state_after_assignment (state self.old) target value }
         ensures beside { self.new.held.beside ≡ self.old.held.beside }
         ensures values { self.new.values ≡ self.old.values }
         ensures notes { Notes 1 self.old self.new }
@@ -95,7 +92,7 @@ impl<S: SetBoard> Executor<S> {
     #[inline(always)]
     pub fn go_to(&mut self, place: usize)
         requires room { 0 < self.old.journal.notes }
-        ensures state { self.new.held.state ≡ state_at_place place self.old.held.state }
+        ensures state { state self.new ≡ state_at_place place (state self.old) }
         ensures notes { Notes 1 self.old self.new }
     {
         let change = self.held.go_to(place);
@@ -105,7 +102,7 @@ impl<S: SetBoard> Executor<S> {
     #[inline(never)]
     pub fn mark(&mut self, status: Status)
         requires room { 0 < self.old.journal.notes }
-        ensures state { self.new.held.state ≡ record self.old.held.state { status = status } }
+        ensures state { state self.new ≡ record (state self.old) { status = status } }
         ensures notes { Notes 1 self.old self.new }
     {
         let change = self.held.mark(status);
@@ -119,9 +116,9 @@ impl<S: SetBoard> Executor<S> {
         requires target { InHeld self.old.held IsTarget target.now }
         requires room { 0 < self.old.journal.notes }
         ensures outcome { LeadsTo result
-            (state_with_value self.old.held.beside.tables self.old.held.state target.now value)
-            self.new.held.state }
-        ensures tables { self.new.held.beside.tables ≡ self.old.held.beside.tables }
+            (state_with_value (tables self.old) (state self.old) target.now value)
+            (state self.new) }
+        ensures tables { tables self.new ≡ tables self.old }
         ensures scope { OnOk result (scope_held self.new.held ≡ scope_held self.old.held) }
         ensures values { self.new.values ≡ self.old.values }
         ensures notes { Notes 1 self.old self.new }
@@ -150,8 +147,8 @@ impl<S: SetBoard> Executor<S> {
         requires few { first + length targets.now < 2 ^ 64 }
         requires room { length targets.now < self.old.journal.notes }
         ensures outcome { LeadsTo result
-            (state_with_values self.old.held.beside.tables self.old.values.items self.old.held.state
-            first targets.now) self.new.held.state }
+            (state_with_values (tables self.old) self.old.values.items (state self.old) first
+            targets.now) (state self.new) }
         ensures notes { Notes (length targets.now) self.old self.new }
     {
         let mut number = first;
@@ -179,9 +176,8 @@ impl<S: SetBoard> Executor<S> {
     pub fn settle(&mut self, next: usize, done: Result<(), RunFault>)
         requires fits { FitsAll Fits unapply self.old.journal.current self.old.held }
         requires room { 0 < self.old.journal.notes }
-        ensures state { IsSettled done (state_at_place next self.old.held.state)
-            (unapply_all unapply self.old.journal.current self.old.held).state
-            self.new.held.state }
+        ensures state { IsSettled done
+            (state_at_place next (state self.old)) (state_before self.old) (state self.new) }
         ensures notes { Notes 1 self.old self.new }
     {
         match done {
@@ -201,9 +197,8 @@ impl<S: SetBoard> Executor<S> {
     ) -> Result<(), AllocError>
         requires fits { FitsAll Fits unapply self.old.journal.current self.old.held }
         requires room { 0 < self.old.journal.notes }
-        ensures state { IsSettledOrRefused done result (state_at_place next self.old.held.state)
-            (unapply_all unapply self.old.journal.current self.old.held).state
-            self.new.held.state }
+        ensures state { IsSettledOrRefused done result
+            (state_at_place next (state self.old)) (state_before self.old) (state self.new) }
         ensures notes { Notes 1 self.old self.new }
     {
         let Err(fault) = done else {
@@ -218,9 +213,7 @@ impl<S: SetBoard> Executor<S> {
     pub fn fail_or_refuse(&mut self, fault: StepFault) -> Result<(), AllocError>
         requires fits { FitsAll Fits unapply self.old.journal.current self.old.held }
         requires room { 0 < self.old.journal.notes }
-        ensures state { OnOk result (IsMarked fault
-            (unapply_all unapply self.old.journal.current self.old.held).state
-            self.new.held.state) }
+        ensures state { OnOk result (IsMarked fault (state_before self.old) (state self.new)) }
         ensures notes { Notes 1 self.old self.new }
     {
         match fault {
@@ -236,23 +229,23 @@ impl<S: SetBoard> Executor<S> {
     /// Runs a place. After an error the changes made so far stand in the open step.
     #[inline(always)]
     fn run_place(&mut self, program: &Program, ways: Ways, place: &Place) -> Result<(), AllocError>
-        requires well { IsInBounds program.now self.old.held.state }
+        requires well { IsInBounds program.now (state self.old) }
         requires sound { InHeld self.old.held IsSoundPlace place.now }
-        requires tables { self.old.held.beside.tables ≡ tables_of program.now }
-        requires rules { self.old.held.beside.rules ≡ rules_of program.now }
+        requires tables { tables self.old ≡ tables_of program.now }
+        requires rules { rules self.old ≡ rules_of program.now }
         requires timed { IsTimed program.now
-            (section_of program.now self.old.held.state.frame.section) place.now }
+            (section_of program.now (state self.old).frame.section) place.now }
         requires leads { LeadsOn program.now.sections
-            (length (places_of
-            (slice_get program.now.sections self.old.held.state.frame.section))) ways place.now }
+            (length (places_of (slice_get program.now.sections (state self.old).frame.section)))
+            ways place.now }
         requires few { ways.chain ≤ MOST_PHRASES }
         requires none { self.old.journal.current ≡ [] }
-        requires room { most_changes program.now self.old.held.state ways place.now
+        requires room { most_changes program.now (state self.old) ways place.now
             ≤ self.old.journal.notes }
         ensures state { OnOk result
-            (self.new.held.state ≡ step_at program.now self.old.held.state ways place.now) }
+            (state self.new ≡ step_at program.now (state self.old) ways place.now) }
         ensures notes { Notes
-            (most_changes program.now self.old.held.state ways place.now) self.old self.new }
+            (most_changes program.now (state self.old) ways place.now) self.old self.new }
     {
         match place {
             Place::Assign(assign) => {
@@ -281,12 +274,12 @@ impl<S: SetBoard> Executor<S> {
     /// changes made so far stand in the open step.
     #[inline(always)]
     pub fn run(&mut self, program: &Program) -> Result<(), AllocError>
-        requires well { IsInBounds program.now self.old.held.state }
-        requires tables { self.old.held.beside.tables ≡ tables_of program.now }
-        requires rules { self.old.held.beside.rules ≡ rules_of program.now }
+        requires well { IsInBounds program.now (state self.old) }
+        requires tables { tables self.old ≡ tables_of program.now }
+        requires rules { rules self.old ≡ rules_of program.now }
         requires none { self.old.journal.current ≡ [] }
-        ensures state { OnOk result (self.new.held.state ≡ step program.now self.old.held.state) }
-        ensures notes { Notes (change_bound program.now self.old.held.state) self.old self.new }
+        ensures state { OnOk result (state self.new ≡ step program.now (state self.old)) }
+        ensures notes { Notes (change_bound program.now (state self.old)) self.old self.new }
         ensures closes { OnOk result (0 < self.new.journal.closes) }
     {
         program.known();
@@ -301,13 +294,13 @@ impl<S: SetBoard> Executor<S> {
     #[inline(always)]
     fn make_room(&mut self, program: &Program, ways: Ways, place: &Place) -> Result<(), AllocError>
         requires timed { IsTimed program.now
-            (section_of program.now self.old.held.state.frame.section) place.now }
+            (section_of program.now (state self.old).frame.section) place.now }
         requires few { ways.chain ≤ MOST_PHRASES }
         ensures held { self.new.held ≡ self.old.held }
         ensures current { self.new.journal.current ≡ self.old.journal.current }
         ensures notes { Notes 0 self.old self.new }
-        ensures room { OnOk result (most_changes program.now self.old.held.state ways place.now
-            ≤ self.new.journal.notes) }
+        ensures room { OnOk result
+            (most_changes program.now (state self.old) ways place.now ≤ self.new.journal.notes) }
         ensures closes { OnOk result (0 < self.new.journal.closes) }
     {
         let room = self.room_asked(program, ways, place);
@@ -319,9 +312,9 @@ impl<S: SetBoard> Executor<S> {
     #[inline(always)]
     fn room_asked(&self, program: &Program, ways: Ways, place: &Place) -> usize
         requires timed { IsTimed program.now
-            (section_of program.now self.now.held.state.frame.section) place.now }
+            (section_of program.now (state self.now).frame.section) place.now }
         requires few { ways.chain ≤ MOST_PHRASES }
-        ensures { most_changes program.now self.now.held.state ways place.now ≤ result }
+        ensures { most_changes program.now (state self.now) ways place.now ≤ result }
     {
         program.known();
         match place {

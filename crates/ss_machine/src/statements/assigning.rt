@@ -1,6 +1,7 @@
 //! LET, ADD and SUBTRACT.
 ghost use Rattle.std.specs.Prelude.{◌≡◌, ◌<◌, []};
 ghost use Rattle.ss_program.specs.ProgramSound.{IsSoundAssign};
+ghost use Rattle.ss_machine.specs.Executor.{state, tables};
 ghost use Rattle.ss_machine.specs.Noting.{Notes};
 ghost use Rattle.ss_machine.specs.Outcome.{LeadsTo};
 ghost use Rattle.ss_machine.specs.Seen.{InHeld};
@@ -18,8 +19,7 @@ impl<S: SetBoard> Executor<S> {
         requires sound { InHeld self.old.held IsSoundAssign assign.now }
         requires room { 0 < self.old.journal.notes }
         ensures outcome { LeadsTo result
-            (state_after_assign self.old.held.beside.tables self.old.held.state assign.now)
-            self.new.held.state }
+            (state_after_assign (tables self.old) (state self.old) assign.now) (state self.new) }
         ensures notes { Notes 1 self.old self.new }
     {
         let value = assigned_value(self.held.view(), assign)?;
@@ -31,8 +31,8 @@ impl<S: SetBoard> Executor<S> {
         requires sound { InHeld self.old.held IsSoundAssign assign.now }
         requires none { self.old.journal.current ≡ [] }
         requires room { 1 < self.old.journal.notes }
-        ensures state { self.new.held.state
-            ≡ step_assign self.old.held.beside.tables self.old.held.state next assign.now }
+        ensures state { state self.new
+            ≡ step_assign (tables self.old) (state self.old) next assign.now }
         ensures notes { Notes 2 self.old self.new }
     {
         let done = self.assign_value(assign);

@@ -1,6 +1,7 @@
 //! IF, ELSE and ALWAYS.
 ghost use Rattle.std.specs.Prelude.{◌≡◌, ◌<◌};
 ghost use Rattle.ss_program.specs.ProgramSound.{IsSoundQuestion, IsSoundBranch};
+ghost use Rattle.ss_machine.specs.Executor.{state, tables};
 ghost use Rattle.ss_machine.specs.Noting.{Notes};
 ghost use Rattle.ss_machine.specs.Seen.{InHeld};
 ghost use Rattle.ss_machine.specs.Statements.Branching.{step_branch, question_answer};
@@ -15,8 +16,7 @@ use ss_words::RunFault;
 impl<S: SetBoard> Executor<S> {
     fn answer(&self, question: &Question) -> Result<bool, RunFault>
         requires { InHeld self.now.held IsSoundQuestion question.now }
-        ensures { result
-            ≡ question_answer self.now.held.beside.tables self.now.held.state question.now }
+        ensures { result ≡ question_answer (tables self.now) (state self.now) question.now }
     {
         match question {
             Question::Whether(condition) => holds(self.held.view(), condition),
@@ -29,8 +29,8 @@ impl<S: SetBoard> Executor<S> {
     pub fn run_branch(&mut self, ways: Ways, branch: &Branch)
         requires sound { InHeld self.old.held IsSoundBranch branch.now }
         requires room { 0 < self.old.journal.notes }
-        ensures state { self.new.held.state
-            ≡ step_branch self.old.held.beside.tables self.old.held.state ways branch.now }
+        ensures state { state self.new
+            ≡ step_branch (tables self.old) (state self.old) ways branch.now }
         ensures notes { Notes 1 self.old self.new }
     {
         match branch {

@@ -4,6 +4,7 @@ ghost use Rattle.ss_words.specs.declared.limits.TheConstants.{MOST_PARAMETERS};
 ghost use Rattle.ss_program.specs.Program.{section_of, spot_at};
 ghost use Rattle.ss_program.specs.ProgramSound.{IsSoundPlace, AreSoundExprs, IsCalledBy};
 ghost use Rattle.ss_store.specs.Tables.{tables_of};
+ghost use Rattle.ss_machine.specs.Executor.{state, tables};
 ghost use Rattle.ss_machine.specs.Noting.{Notes};
 ghost use Rattle.ss_machine.specs.Outcome.{LeadsTo};
 ghost use Rattle.ss_machine.specs.Moment.{place_targets, yield_count};
@@ -30,11 +31,11 @@ impl<S: SetBoard> Executor<S> {
     #[inline(never)]
     pub fn run_call(&mut self, program: &Program, call: &Call) -> Result<(), AllocError>
         requires called { IsCalledBy call.now (slice_get program.now.sections call.now.section) }
-        requires tables { self.old.held.beside.tables ≡ tables_of program.now }
+        requires tables { tables self.old ≡ tables_of program.now }
         requires sound { InHeld self.old.held AreSoundExprs call.now.given }
         requires room { 0 < self.old.journal.notes }
         ensures state { OnOk result
-            (self.new.held.state ≡ step_call program.now self.old.held.state call.now) }
+            (state self.new ≡ step_call program.now (state self.old) call.now) }
         ensures notes { Notes 1 self.old self.new }
     {
         program.known();
@@ -59,10 +60,10 @@ impl<S: SetBoard> Executor<S> {
     }
 
     fn drop_frame(&mut self)
-        requires some { 0 < length self.old.held.state.below }
-        requires few { length self.old.held.state.below ≤ MOST_BELOW }
+        requires some { 0 < length (state self.old).below }
+        requires few { length (state self.old).below ≤ MOST_BELOW }
         requires room { 0 < self.old.journal.notes }
-        ensures state { HasDropped self.old.held.state self.new.held.state }
+        ensures state { HasDropped (state self.old) (state self.new) }
         ensures beside { self.new.held.beside ≡ self.old.held.beside }
         ensures values { self.new.values ≡ self.old.values }
         ensures notes { Notes 1 self.old self.new }
@@ -80,8 +81,8 @@ impl<S: SetBoard> Executor<S> {
         requires few { changes.call_targets place.now ≤ MOST_PARAMETERS }
         requires room { changes.call_targets place.now < self.old.journal.notes }
         ensures outcome { LeadsTo result
-            (state_behind_call self.old.held.beside.tables self.old.values.items first next
-            self.old.held.state place.now) self.new.held.state }
+            (state_behind_call (tables self.old) self.old.values.items first next (state self.old)
+            place.now) (state self.new) }
         ensures notes { Notes (1 + changes.call_targets place.now) self.old self.new }
         ensures fewer { OnErr result (Notes (changes.call_targets place.now) self.old self.new) }
     {
@@ -94,19 +95,18 @@ impl<S: SetBoard> Executor<S> {
 
     /// In the frame to which a RETURN came back.
     fn come_back(&mut self, program: &Program, first: usize) -> Result<(), RunFault>
-        requires frame { IsWellFrame program.now self.old.held.state.frame }
-        requires variables { length self.old.held.state.variables ≡ length program.now.globals }
-        requires tables { self.old.held.beside.tables ≡ tables_of program.now }
+        requires frame { IsWellFrame program.now (state self.old).frame }
+        requires variables { length (state self.old).variables ≡ length program.now.globals }
+        requires tables { tables self.old ≡ tables_of program.now }
         requires parameters { first ≤ MOST_PARAMETERS }
-        requires room { place_targets program.now self.old.held.state < self.old.journal.notes }
+        requires room { place_targets program.now (state self.old) < self.old.journal.notes }
         ensures outcome { LeadsTo result
-            (state_behind_place program.now self.old.values.items first self.old.held.state
-            (spot_at program.now self.old.held.state.frame.section self.old.held.state.frame.place))
-            self.new.held.state }
-        ensures notes { Notes
-            (1 + place_targets program.now self.old.held.state) self.old self.new }
+            (state_behind_place program.now self.old.values.items first (state self.old)
+            (spot_at program.now (state self.old).frame.section (state self.old).frame.place))
+            (state self.new) }
+        ensures notes { Notes (1 + place_targets program.now (state self.old)) self.old self.new }
         ensures fewer { OnErr result
-            (Notes (place_targets program.now self.old.held.state) self.old self.new) }
+            (Notes (place_targets program.now (state self.old)) self.old self.new) }
     {
         program.known();
         let (section, place) = self.held.place();
@@ -117,18 +117,17 @@ impl<S: SetBoard> Executor<S> {
 
     /// RETURN or END of a routine, which is given so many values.
     fn run_return(&mut self, program: &Program, given: usize) -> Result<(), AllocError>
-        requires well { IsInBounds program.now self.old.held.state }
-        requires tables { self.old.held.beside.tables ≡ tables_of program.now }
-        requires given { given ≡ (section_of program.now self.old.held.state.frame.section).given }
+        requires well { IsInBounds program.now (state self.old) }
+        requires tables { tables self.old ≡ tables_of program.now }
+        requires given { given ≡ (section_of program.now (state self.old).frame.section).given }
         requires parameters { given ≤ MOST_PARAMETERS }
         requires none { self.old.journal.current ≡ [] }
-        requires room { 1 + yield_count program.now self.old.held.state.below
+        requires room { 1 + yield_count program.now (state self.old).below
             < self.old.journal.notes }
-        ensures state { OnOk result
-            (self.new.held.state
-            ≡ state_after_return program.now self.old.held.state self.old.held.state.below) }
+        ensures state { OnOk result (state self.new
+            ≡ state_after_return program.now (state self.old) (state self.old).below) }
         ensures notes { Notes
-            (2 + yield_count program.now self.old.held.state.below) self.old self.new }
+            (2 + yield_count program.now (state self.old).below) self.old self.new }
     {
         if self.held.below() == 0 {
             return Ok(());
@@ -147,7 +146,7 @@ impl<S: SetBoard> Executor<S> {
     fn end_entry(&mut self) -> Result<(), RunFault>
         requires room { 1 < self.old.journal.notes }
         ensures outcome { LeadsTo result
-            (state_without_entry self.old.held.state self.old.held.state.entry) self.new.held.state }
+            (state_without_entry (state self.old) (state self.old).entry) (state self.new) }
         ensures notes { Notes 2 self.old self.new }
     {
         if let Entry::Running { .. } = self.held.entry() {
@@ -161,11 +160,10 @@ impl<S: SetBoard> Executor<S> {
 
     /// RETURN or END of an event.
     fn end_event(&mut self)
-        requires few { length self.old.held.state.below ≤ MOST_BELOW }
+        requires few { length (state self.old).below ≤ MOST_BELOW }
         requires none { self.old.journal.current ≡ [] }
         requires room { 2 < self.old.journal.notes }
-        ensures state { self.new.held.state
-            ≡ state_after_event self.old.held.state self.old.held.state.below }
+        ensures state { state self.new ≡ state_after_event (state self.old) (state self.old).below }
         ensures notes { Notes 3 self.old self.new }
     {
         if self.held.below() == 0 {
@@ -182,15 +180,15 @@ impl<S: SetBoard> Executor<S> {
 
     #[inline(never)]
     pub fn run_control(&mut self, program: &Program, control: Control) -> Result<(), AllocError>
-        requires well { IsInBounds program.now self.old.held.state }
-        requires tables { self.old.held.beside.tables ≡ tables_of program.now }
+        requires well { IsInBounds program.now (state self.old) }
+        requires tables { tables self.old ≡ tables_of program.now }
         requires none { self.old.journal.current ≡ [] }
-        requires room { 2 + yield_count program.now self.old.held.state.below
+        requires room { 2 + yield_count program.now (state self.old).below
             < self.old.journal.notes }
         ensures state { OnOk result
-            (self.new.held.state ≡ step_control program.now self.old.held.state control) }
+            (state self.new ≡ step_control program.now (state self.old) control) }
         ensures notes { Notes
-            (3 + yield_count program.now self.old.held.state.below) self.old self.new }
+            (3 + yield_count program.now (state self.old).below) self.old self.new }
     {
         match control {
             Control::Stop => {
@@ -203,16 +201,16 @@ impl<S: SetBoard> Executor<S> {
 
     #[tactic(auto, using(crate::proofs::Sounds::section_found, crate::proofs::Sounds::few_parameters))]
     fn end_section(&mut self, program: &Program) -> Result<(), AllocError>
-        requires well { IsInBounds program.now self.old.held.state }
-        requires tables { self.old.held.beside.tables ≡ tables_of program.now }
+        requires well { IsInBounds program.now (state self.old) }
+        requires tables { tables self.old ≡ tables_of program.now }
         requires none { self.old.journal.current ≡ [] }
-        requires room { 2 + yield_count program.now self.old.held.state.below
+        requires room { 2 + yield_count program.now (state self.old).below
             < self.old.journal.notes }
-        ensures state { OnOk result
-            (self.new.held.state ≡ state_after_section program.now self.old.held.state
-            (section_of program.now self.old.held.state.frame.section).kind) }
+        ensures state { OnOk result (state self.new
+            ≡ state_after_section program.now (state self.old)
+            (section_of program.now (state self.old).frame.section).kind) }
         ensures notes { Notes
-            (3 + yield_count program.now self.old.held.state.below) self.old self.new }
+            (3 + yield_count program.now (state self.old).below) self.old self.new }
     {
         program.known();
         let (section, _) = self.held.place();

@@ -1,6 +1,7 @@
 //! CREATE, CREATE EVERY and DESTROY.
 ghost use Rattle.std.specs.Prelude.{◌≡◌, ◌<◌, [], length, true, OnOk, false};
 ghost use Rattle.ss_program.specs.ProgramSound.{IsTarget, IsSoundOption, IsSoundExpr, IsSoundMaking};
+ghost use Rattle.ss_machine.specs.Executor.{state, tables};
 ghost use Rattle.ss_machine.specs.Noting.{Notes};
 ghost use Rattle.ss_machine.specs.Outcome.{LeadsTo, LeadsToOrRefuses};
 ghost use Rattle.ss_machine.specs.Seen.{InHeld};
@@ -21,13 +22,13 @@ use std::alloc::{AllocError, Global};
 impl<S: SetBoard> Executor<S> {
     /// CREATE: makes the entity, then assigns its reference.
     fn create(&mut self, class: usize, target: &Target) -> Result<(), StepFault>
-        requires class { class < length self.old.held.beside.tables.classes }
-        requires kind { (class_of self.old.held.beside.tables class).permanent ≡ false }
+        requires class { class < length (tables self.old).classes }
+        requires kind { (class_of (tables self.old) class).permanent ≡ false }
         requires target { InHeld self.old.held IsTarget target.now }
         requires room { 1 < self.old.journal.notes }
         ensures outcome { LeadsToOrRefuses result
-            (state_after_create self.old.held.beside.tables self.old.held.state class target.now)
-            self.new.held.state }
+            (state_after_create (tables self.old) (state self.old) class target.now)
+            (state self.new) }
         ensures notes { Notes 2 self.old self.new }
     {
         let (number, change) = self.held.create(class)?;
@@ -43,14 +44,14 @@ impl<S: SetBoard> Executor<S> {
         number: &Option<Expr>,
         count: usize,
     ) -> Result<(), StepFault>
-        requires class { class < length self.old.held.beside.tables.classes }
-        requires kind { (class_of self.old.held.beside.tables class).permanent ≡ true }
+        requires class { class < length (tables self.old).classes }
+        requires kind { (class_of (tables self.old) class).permanent ≡ true }
         requires number { InHeld self.old.held IsSoundOption number.now }
-        requires count { count < length self.old.held.state.variables }
+        requires count { count < length (state self.old).variables }
         requires room { 1 < self.old.journal.notes }
         ensures outcome { LeadsToOrRefuses result
-            (state_after_making self.old.held.beside.tables self.old.held.state
-            (making.CreateEvery class number.now count)) self.new.held.state }
+            (state_after_making (tables self.old) (state self.old)
+            (making.CreateEvery class number.now count)) (state self.new) }
         ensures notes { Notes 2 self.old self.new }
     {
         let asked = number_asked(self.held.view(), number, count)?;
@@ -62,13 +63,13 @@ impl<S: SetBoard> Executor<S> {
 
     /// DESTROY: ends the entity that a value names.
     fn destroy(&mut self, class: usize, entity: &Expr) -> Result<(), RunFault>
-        requires class { class < length self.old.held.beside.tables.classes }
-        requires kind { (class_of self.old.held.beside.tables class).permanent ≡ false }
+        requires class { class < length (tables self.old).classes }
+        requires kind { (class_of (tables self.old) class).permanent ≡ false }
         requires entity { InHeld self.old.held IsSoundExpr entity.now }
         requires room { 0 < self.old.journal.notes }
         ensures outcome { LeadsTo result
-            (state_after_destroy self.old.held.beside.tables self.old.held.state class entity.now)
-            self.new.held.state }
+            (state_after_destroy (tables self.old) (state self.old) class entity.now)
+            (state self.new) }
         ensures notes { Notes 1 self.old self.new }
     {
         let x = value(self.held.view(), entity)?;
@@ -86,8 +87,7 @@ impl<S: SetBoard> Executor<S> {
         requires sound { InHeld self.old.held IsSoundMaking making.now }
         requires room { 1 < self.old.journal.notes }
         ensures outcome { LeadsToOrRefuses result
-            (state_after_making self.old.held.beside.tables self.old.held.state making.now)
-            self.new.held.state }
+            (state_after_making (tables self.old) (state self.old) making.now) (state self.new) }
         ensures notes { Notes 2 self.old self.new }
     {
         match making {
@@ -110,8 +110,7 @@ impl<S: SetBoard> Executor<S> {
         requires none { self.old.journal.current ≡ [] }
         requires room { 2 < self.old.journal.notes }
         ensures state { OnOk result
-            (self.new.held.state
-            ≡ step_making self.old.held.beside.tables self.old.held.state next making.now) }
+            (state self.new ≡ step_making (tables self.old) (state self.old) next making.now) }
         ensures notes { Notes 3 self.old self.new }
     {
         let done = self.make(making);

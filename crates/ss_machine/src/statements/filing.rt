@@ -1,6 +1,7 @@
 //! FILE and REMOVE.
 ghost use Rattle.std.specs.Prelude.{◌≡◌, ◌<◌, []};
 ghost use Rattle.ss_program.specs.ProgramSound.{IsTarget, IsSoundSetRef, IsSoundFiling, IsSoundPosition};
+ghost use Rattle.ss_machine.specs.Executor.{state, tables};
 ghost use Rattle.ss_machine.specs.Noting.{Notes};
 ghost use Rattle.ss_machine.specs.Outcome.{LeadsTo};
 ghost use Rattle.ss_machine.specs.Seen.{InHeld};
@@ -23,8 +24,8 @@ impl<S: SetBoard> Executor<S> {
         requires sound { InHeld self.old.held IsSoundSetRef set.now }
         requires room { 0 < self.old.journal.notes }
         ensures outcome { LeadsTo result
-            (state_after_file self.old.held.beside.tables self.old.held.state set.now member how)
-            self.new.held.state }
+            (state_after_file (tables self.old) (state self.old) set.now member how)
+            (state self.new) }
         ensures notes { Notes 1 self.old self.new }
     {
         let owner = owner_value(self.held.view(), set)?;
@@ -39,8 +40,8 @@ impl<S: SetBoard> Executor<S> {
         requires target { InHeld self.old.held IsTarget target.now }
         requires room { 1 < self.old.journal.notes }
         ensures outcome { LeadsTo result
-            (state_after_remove_end self.old.held.beside.tables self.old.held.state set.now end
-            target.now) self.new.held.state }
+            (state_after_remove_end (tables self.old) (state self.old) set.now end target.now)
+            (state self.new) }
         ensures notes { Notes 2 self.old self.new }
     {
         let owner = owner_value(self.held.view(), set)?;
@@ -54,8 +55,8 @@ impl<S: SetBoard> Executor<S> {
         requires sound { InHeld self.old.held IsSoundSetRef set.now }
         requires room { 0 < self.old.journal.notes }
         ensures outcome { LeadsTo result
-            (state_after_remove self.old.held.beside.tables self.old.held.state set.now member)
-            self.new.held.state }
+            (state_after_remove (tables self.old) (state self.old) set.now member)
+            (state self.new) }
         ensures notes { Notes 1 self.old self.new }
     {
         let owner = owner_value(self.held.view(), set)?;
@@ -68,8 +69,7 @@ impl<S: SetBoard> Executor<S> {
         requires sound { InHeld self.old.held IsSoundFiling filing.now }
         requires room { 1 < self.old.journal.notes }
         ensures outcome { LeadsTo result
-            (state_after_filing self.old.held.beside.tables self.old.held.state filing.now)
-            self.new.held.state }
+            (state_after_filing (tables self.old) (state self.old) filing.now) (state self.new) }
         ensures notes { Notes 2 self.old self.new }
     {
         match filing {
@@ -99,8 +99,8 @@ impl<S: SetBoard> Executor<S> {
         requires sound { InHeld self.old.held IsSoundFiling filing.now }
         requires none { self.old.journal.current ≡ [] }
         requires room { 2 < self.old.journal.notes }
-        ensures state { self.new.held.state
-            ≡ step_filing self.old.held.beside.tables self.old.held.state next filing.now }
+        ensures state { state self.new
+            ≡ step_filing (tables self.old) (state self.old) next filing.now }
         ensures notes { Notes 3 self.old self.new }
     {
         let done = self.file_or_remove(filing);

@@ -5,6 +5,7 @@ pub mod verdict;
 ghost use Rattle.std.specs.Prelude.{◌≡◌, ◌+◌, ◌<◌, ◌≤◌, ◌∷◌, [], length, drop, true, OnOk};
 ghost use Rattle.ss_words.specs.declared.limits.TheConstants.{MOST_PHRASES};
 ghost use Rattle.ss_program.specs.ProgramSound.{IsSoundPhrase, AreSoundQualifiers, AreSoundTellings, IsSoundLooping};
+ghost use Rattle.ss_machine.specs.Executor.{state, tables};
 ghost use Rattle.ss_machine.specs.Noting.{Notes};
 ghost use Rattle.ss_machine.specs.Outcome.{LeadsTo, Gives};
 ghost use Rattle.ss_machine.specs.Moment as changes;
@@ -35,9 +36,8 @@ use std::alloc::AllocError;
 impl<S: SetBoard> Executor<S> {
     fn open_loop(&mut self, open_loop: OpenLoop) -> Result<(), AllocError>
         requires room { 0 < self.old.journal.notes }
-        ensures state { OnOk result
-            (self.new.held.state
-            ≡ state_with_loops self.old.held.state (open_loop ∷ self.old.held.state.frame.loops)) }
+        ensures state { OnOk result (state self.new
+            ≡ state_with_loops (state self.old) (open_loop ∷ (state self.old).frame.loops)) }
         ensures notes { Notes 1 self.old self.new }
     {
         let change = self.held.open_loop(self.alloc, open_loop)?;
@@ -46,11 +46,11 @@ impl<S: SetBoard> Executor<S> {
     }
 
     fn move_loop(&mut self, candidate: Option<i64>)
-        requires there { 0 < length self.old.held.state.frame.loops }
+        requires there { 0 < length (state self.old).frame.loops }
         requires room { 0 < self.old.journal.notes }
-        ensures state { self.new.held.state
-            ≡ state_with_loops self.old.held.state
-            (loops_with_candidate candidate self.old.held.state.frame.loops) }
+        ensures state { state self.new
+            ≡ state_with_loops (state self.old)
+            (loops_with_candidate candidate (state self.old).frame.loops) }
         ensures beside { self.new.held.beside ≡ self.old.held.beside }
         ensures notes { Notes 1 self.old self.new }
     {
@@ -60,8 +60,8 @@ impl<S: SetBoard> Executor<S> {
 
     fn close_loop(&mut self)
         requires room { 0 < self.old.journal.notes }
-        ensures state { self.new.held.state
-            ≡ state_with_loops self.old.held.state (drop 1 self.old.held.state.frame.loops) }
+        ensures state { state self.new
+            ≡ state_with_loops (state self.old) (drop 1 (state self.old).frame.loops) }
         ensures notes { Notes 1 self.old self.new }
     {
         if let Some(change) = self.held.close_loop() {
@@ -71,7 +71,7 @@ impl<S: SetBoard> Executor<S> {
 
     fn close_to(&mut self, place: usize)
         requires room { 1 < self.old.journal.notes }
-        ensures state { self.new.held.state ≡ state_after_closing place self.old.held.state }
+        ensures state { state self.new ≡ state_after_closing place (state self.old) }
         ensures notes { Notes 2 self.old self.new }
     {
         self.close_loop();
@@ -80,7 +80,7 @@ impl<S: SetBoard> Executor<S> {
 
     fn set_found(&mut self, found: bool)
         requires room { 0 < self.old.journal.notes }
-        ensures state { self.new.held.state ≡ state_with_found self.old.held.state found }
+        ensures state { state self.new ≡ state_with_found (state self.old) found }
         ensures notes { Notes 1 self.old self.new }
     {
         let change = self.held.set_found(found);
@@ -89,7 +89,7 @@ impl<S: SetBoard> Executor<S> {
 
     fn set_statistics(&mut self, statistics: Statistics)
         requires room { 0 < self.old.journal.notes }
-        ensures state { self.new.held.state ≡ state_with_statistics self.old.held.state statistics }
+        ensures state { state self.new ≡ state_with_statistics (state self.old) statistics }
         ensures notes { Notes 1 self.old self.new }
     {
         let change = self.held.set_statistics(statistics);
@@ -98,7 +98,7 @@ impl<S: SetBoard> Executor<S> {
 
     fn reset(&mut self, resets: Resets)
         requires room { 0 < self.old.journal.notes }
-        ensures state { self.new.held.state ≡ state_after_reset self.old.held.state resets }
+        ensures state { state self.new ≡ state_after_reset (state self.old) resets }
         ensures notes { Notes 1 self.old self.new }
     {
         match resets {
@@ -112,9 +112,8 @@ impl<S: SetBoard> Executor<S> {
     fn enter(&mut self, ways: Ways, phrase: &ForPhrase) -> Result<(), AllocError>
         requires sound { InHeld self.old.held IsSoundPhrase phrase.now.phrase }
         requires room { 1 < self.old.journal.notes }
-        ensures state { OnOk result
-            (self.new.held.state
-            ≡ state_after_entry self.old.held.beside.tables self.old.held.state ways phrase.now) }
+        ensures state { OnOk result (state self.new
+            ≡ state_after_entry (tables self.old) (state self.old) ways phrase.now) }
         ensures notes { Notes 2 self.old self.new }
     {
         let (_, place) = self.held.place();
@@ -138,13 +137,13 @@ impl<S: SetBoard> Executor<S> {
     ) -> Result<Verdict, RunFault>
         requires sound { InHeld self.old.held IsSoundPhrase phrase.now.phrase }
         requires qualifiers { InHeld self.old.held AreSoundQualifiers phrase.now.qualifiers }
-        requires walk { IsSoundWalk (length self.old.held.beside.tables.sets) open_loop.walk }
-        requires there { 0 < length self.old.held.state.frame.loops }
+        requires walk { IsSoundWalk (length (tables self.old).sets) open_loop.walk }
+        requires there { 0 < length (state self.old).frame.loops }
         requires room { 1 < self.old.journal.notes }
         ensures outcome { Gives result
-            (candidate_tried self.old.held.beside.tables self.old.held.state phrase.now open_loop x)
-            (λ verdict. (self.new.held.state, as_verdict verdict)) }
-        ensures there { 0 < length self.new.held.state.frame.loops }
+            (candidate_tried (tables self.old) (state self.old) phrase.now open_loop x)
+            (λ verdict. (state self.new, as_verdict verdict)) }
+        ensures there { 0 < length (state self.new).frame.loops }
         ensures notes { Notes 2 self.old self.new }
     {
         let next = next_candidate(self.held.view(), open_loop.walk, x)?;
@@ -158,13 +157,12 @@ impl<S: SetBoard> Executor<S> {
     fn turn(&mut self, ways: Ways, phrase: &ForPhrase, open_loop: OpenLoop)
         requires sound { InHeld self.old.held IsSoundPhrase phrase.now.phrase }
         requires qualifiers { InHeld self.old.held AreSoundQualifiers phrase.now.qualifiers }
-        requires walk { IsSoundWalk (length self.old.held.beside.tables.sets) open_loop.walk }
-        requires there { 0 < length self.old.held.state.frame.loops }
+        requires walk { IsSoundWalk (length (tables self.old).sets) open_loop.walk }
+        requires there { 0 < length (state self.old).frame.loops }
         requires none { self.old.journal.current ≡ [] }
         requires room { 3 < self.old.journal.notes }
-        ensures state { self.new.held.state
-            ≡ state_after_turn self.old.held.beside.tables self.old.held.state ways phrase.now
-            open_loop
+        ensures state { state self.new
+            ≡ state_after_turn (tables self.old) (state self.old) ways phrase.now open_loop
             open_loop.candidate }
         ensures notes { Notes 4 self.old self.new }
     {
@@ -187,12 +185,11 @@ impl<S: SetBoard> Executor<S> {
         requires sound { InHeld self.old.held IsSoundPhrase phrase.now.phrase }
         requires qualifiers { InHeld self.old.held AreSoundQualifiers phrase.now.qualifiers }
         requires walks { AreSoundWalks
-            (length self.old.held.beside.tables.sets) self.old.held.state.frame.loops }
+            (length (tables self.old).sets) (state self.old).frame.loops }
         requires none { self.old.journal.current ≡ [] }
         requires room { 3 < self.old.journal.notes }
         ensures state { OnOk result
-            (self.new.held.state
-            ≡ step_phrase self.old.held.beside.tables self.old.held.state ways phrase.now) }
+            (state self.new ≡ step_phrase (tables self.old) (state self.old) ways phrase.now) }
         ensures notes { Notes 4 self.old self.new }
     {
         match self.held.loop_here() {
@@ -208,9 +205,10 @@ impl<S: SetBoard> Executor<S> {
     fn find(&mut self, ways: Ways)
         requires few { ways.chain ≤ MOST_PHRASES }
         requires room { 1 + ways.chain < self.old.journal.notes }
-        ensures state { self.new.held.state ≡ state_at_place ways.next
-            (state_with_loops (state_with_found self.old.held.state true)
-            (drop ways.chain self.old.held.state.frame.loops)) }
+        ensures state { state self.new
+            ≡ state_at_place ways.next
+            (state_with_loops (state_with_found (state self.old) true)
+            (drop ways.chain (state self.old).frame.loops)) }
         ensures notes { Notes (2 + ways.chain) self.old self.new }
     {
         self.set_found(true);
@@ -225,8 +223,8 @@ impl<S: SetBoard> Executor<S> {
         requires sound { InHeld self.old.held AreSoundTellings tellings.now }
         requires room { length tellings.now < self.old.journal.notes }
         ensures outcome { LeadsTo result
-            (state_after_telling self.old.held.beside.tables statistics self.old.held.state
-            tellings.now) self.new.held.state }
+            (state_after_telling (tables self.old) statistics (state self.old) tellings.now)
+            (state self.new) }
         ensures notes { Notes (length tellings.now) self.old self.new }
     {
         for telling in &tellings.list {
@@ -240,10 +238,10 @@ impl<S: SetBoard> Executor<S> {
 
     fn gather(&mut self, next: usize, got: Result<i64, RunFault>)
         requires room { 1 < self.old.journal.notes }
-        ensures state { self.new.held.state
-            ≡ state_after_result self.old.held.state
-            (statistics_after self.old.held.state.frame.statistics got)
-            (λ g. state_at_place next (state_with_statistics self.old.held.state g)) }
+        ensures state { state self.new
+            ≡ state_after_result (state self.old)
+            (statistics_after (state self.old).frame.statistics got)
+            (λ g. state_at_place next (state_with_statistics (state self.old) g)) }
         ensures notes { Notes 2 self.old self.new }
     {
         let more = match got {
@@ -263,12 +261,12 @@ impl<S: SetBoard> Executor<S> {
     pub fn run_looping(&mut self, ways: Ways, looping: &Looping) -> Result<(), AllocError>
         requires sound { InHeld self.old.held IsSoundLooping looping.now }
         requires walks { AreSoundWalks
-            (length self.old.held.beside.tables.sets) self.old.held.state.frame.loops }
+            (length (tables self.old).sets) (state self.old).frame.loops }
         requires few { ways.chain ≤ MOST_PHRASES }
         requires none { self.old.journal.current ≡ [] }
         requires room { changes.most_looping_changes ways looping.now ≤ self.old.journal.notes }
-        ensures state { OnOk result (self.new.held.state
-            ≡ step_looping self.old.held.beside.tables self.old.held.state ways looping.now) }
+        ensures state { OnOk result
+            (state self.new ≡ step_looping (tables self.old) (state self.old) ways looping.now) }
         ensures notes { Notes (changes.most_looping_changes ways looping.now) self.old self.new }
     {
         match looping {

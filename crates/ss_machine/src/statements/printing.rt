@@ -2,6 +2,7 @@
 ghost use Rattle.std.specs.Prelude.{◌≡◌, ◌<◌, length, OnOk};
 ghost use Rattle.ss_report.specs.Pictures.{field_count};
 ghost use Rattle.ss_program.specs.ProgramSound.{IsSoundExpr, IsSoundOutput, AreSoundExprs};
+ghost use Rattle.ss_machine.specs.Executor.{state, tables};
 ghost use Rattle.ss_machine.specs.Noting.{Notes};
 ghost use Rattle.ss_machine.specs.Seen.{InHeld};
 ghost use Rattle.ss_machine.specs.Statements.Printing.{state_after_print, state_after_skip, step_output};
@@ -24,10 +25,8 @@ impl<S: SetBoard> Executor<S> {
         requires fields { length es.now ≡ field_count picture.now }
         requires sound { InHeld self.old.held AreSoundExprs es.now }
         requires room { 1 < self.old.journal.notes }
-        ensures state { OnOk result
-            (self.new.held.state
-            ≡ state_after_print self.old.held.beside.tables self.old.held.state next es.now
-            picture.now) }
+        ensures state { OnOk result (state self.new
+            ≡ state_after_print (tables self.old) (state self.old) next es.now picture.now) }
         ensures notes { Notes 2 self.old self.new }
     {
         let printed = match values(self.held.view(), es, &mut self.values) {
@@ -52,7 +51,7 @@ impl<S: SetBoard> Executor<S> {
     fn skip(&mut self, next: usize, count: Result<usize, RunFault>) -> Result<(), AllocError>
         requires room { 1 < self.old.journal.notes }
         ensures state { OnOk result
-            (self.new.held.state ≡ state_after_skip self.old.held.state next count) }
+            (state self.new ≡ state_after_skip (state self.old) next count) }
         ensures notes { Notes 2 self.old self.new }
     {
         let skipped = match count {
@@ -78,8 +77,7 @@ impl<S: SetBoard> Executor<S> {
         requires sound { InHeld self.old.held IsSoundOutput output.now }
         requires room { 1 < self.old.journal.notes }
         ensures state { OnOk result
-            (self.new.held.state
-            ≡ step_output self.old.held.beside.tables self.old.held.state next output.now) }
+            (state self.new ≡ step_output (tables self.old) (state self.old) next output.now) }
         ensures notes { Notes 2 self.old self.new }
     {
         match output {

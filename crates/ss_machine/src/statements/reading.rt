@@ -2,6 +2,7 @@
 ghost use Rattle.std.specs.Prelude.{◌≡◌, ◌+◌, ◌<◌, [], length, OnOk};
 ghost use Rattle.ss_program.specs.ProgramSound.{AreTargets};
 ghost use Rattle.ss_store.specs.Tables.{tables_of};
+ghost use Rattle.ss_machine.specs.Executor.{state, tables};
 ghost use Rattle.ss_machine.specs.Noting.{Notes};
 ghost use Rattle.ss_machine.specs.Outcome.{LeadsToOrRefuses};
 ghost use Rattle.ss_machine.specs.Seen.{InHeld};
@@ -19,11 +20,11 @@ use std::alloc::AllocError;
 impl<S: SetBoard> Executor<S> {
     /// Takes the values of a READ and assigns them to its targets, or answers the first fault.
     fn take(&mut self, program: &Program, targets: &Targets) -> Result<(), StepFault>
-        requires tables { self.old.held.beside.tables ≡ tables_of program.now }
+        requires tables { tables self.old ≡ tables_of program.now }
         requires sound { InHeld self.old.held AreTargets targets.now }
         requires room { 1 + length targets.now < self.old.journal.notes }
         ensures outcome { LeadsToOrRefuses result
-            (state_after_read program.now self.old.held.state targets.now) self.new.held.state }
+            (state_after_read program.now (state self.old) targets.now) (state self.new) }
         ensures notes { Notes (1 + length targets.now) self.old self.new }
     {
         if let Entry::Waiting { .. } = self.held.entry() {
@@ -44,12 +45,12 @@ impl<S: SetBoard> Executor<S> {
         next: usize,
         targets: &Targets,
     ) -> Result<(), AllocError>
-        requires tables { self.old.held.beside.tables ≡ tables_of program.now }
+        requires tables { tables self.old ≡ tables_of program.now }
         requires sound { InHeld self.old.held AreTargets targets.now }
         requires none { self.old.journal.current ≡ [] }
         requires room { 1 + length targets.now < self.old.journal.notes }
         ensures state { OnOk result
-            (self.new.held.state ≡ step_read program.now self.old.held.state next targets.now) }
+            (state self.new ≡ step_read program.now (state self.old) next targets.now) }
         ensures notes { Notes (2 + length targets.now) self.old self.new }
     {
         let done = self.take(program, targets);

@@ -7,6 +7,7 @@ ghost use Rattle.ss_program.specs.ProgramSound.{IsTarget, IsSoundExpr, AreSoundE
 ghost use Rattle.ss_program.specs.ProgramSound.{IsSoundNotice, IsSoundWhen, IsEventClass};
 ghost use Rattle.ss_store.specs.Tables.{tables_of};
 ghost use Rattle.ss_events.specs.Rules.{rules_of};
+ghost use Rattle.ss_machine.specs.Executor.{rules, state, tables};
 ghost use Rattle.ss_machine.specs.Noting.{Notes};
 ghost use Rattle.ss_machine.specs.Outcome.{LeadsTo, LeadsToOrRefuses, GivesOrRefuses};
 ghost use Rattle.ss_machine.specs.Moment as changes;
@@ -34,13 +35,13 @@ use std::alloc::AllocError;
 impl<S: SetBoard> Executor<S> {
     /// Gives the first attributes of an entity the values kept.
     fn set_attributes(&mut self, class: usize, entity: u32) -> Result<(), RunFault>
-        requires class { class < length self.old.held.beside.tables.classes }
+        requires class { class < length (tables self.old).classes }
         requires room { length self.old.values.items < self.old.journal.notes }
         ensures outcome { LeadsTo result
-            (state_with_attributes self.old.held.state class entity 0 self.old.values.items)
-            self.new.held.state }
-        ensures tables { self.new.held.beside.tables ≡ self.old.held.beside.tables }
-        ensures rules { self.new.held.beside.rules ≡ self.old.held.beside.rules }
+            (state_with_attributes (state self.old) class entity 0 self.old.values.items)
+            (state self.new) }
+        ensures tables { tables self.new ≡ tables self.old }
+        ensures rules { rules self.new ≡ rules self.old }
         ensures scope { scope_held self.new.held ≡ scope_held self.old.held }
         ensures notes { Notes (length self.old.values.items) self.old self.new }
     {
@@ -63,15 +64,15 @@ impl<S: SetBoard> Executor<S> {
         time: i64,
     ) -> Result<(), StepFault>
         requires event { IsEventClass program.now class 0 }
-        requires tables { self.old.held.beside.tables ≡ tables_of program.now }
-        requires rules { self.old.held.beside.rules ≡ rules_of program.now }
+        requires tables { tables self.old ≡ tables_of program.now }
+        requires rules { rules self.old ≡ rules_of program.now }
         requires number { 0 < notice }
         requires small { notice ≤ MOST_REFERENCES }
         requires room { 1 + length self.old.values.items < self.old.journal.notes }
         ensures outcome { LeadsToOrRefuses result
-            (state_after_scheduling program.now self.old.held.state class notice time
-            self.old.values.items) self.new.held.state }
-        ensures tables { self.new.held.beside.tables ≡ self.old.held.beside.tables }
+            (state_after_scheduling program.now (state self.old) class notice time
+            self.old.values.items) (state self.new) }
+        ensures tables { tables self.new ≡ tables self.old }
         ensures scope { OnOk result (scope_held self.new.held ≡ scope_held self.old.held) }
         ensures notes { Notes (1 + length self.old.values.items) self.old self.new }
     {
@@ -95,15 +96,15 @@ impl<S: SetBoard> Executor<S> {
         time: i64,
     ) -> Result<(), StepFault>
         requires event { IsEventClass program.now class 0 }
-        requires tables { self.old.held.beside.tables ≡ tables_of program.now }
-        requires rules { self.old.held.beside.rules ≡ rules_of program.now }
-        requires class { class < length self.old.held.beside.tables.classes }
-        requires kind { (shapes.class_of self.old.held.beside.tables class).permanent ≡ false }
+        requires tables { tables self.old ≡ tables_of program.now }
+        requires rules { rules self.old ≡ rules_of program.now }
+        requires class { class < length (tables self.old).classes }
+        requires kind { (shapes.class_of (tables self.old) class).permanent ≡ false }
         requires target { InHeld self.old.held IsTarget target.now }
         requires room { 3 + length self.old.values.items < self.old.journal.notes }
         ensures outcome { LeadsToOrRefuses result
-            (state_after_new program.now self.old.held.state class target.now time
-            self.old.values.items) self.new.held.state }
+            (state_after_new program.now (state self.old) class target.now time
+            self.old.values.items) (state self.new) }
         ensures notes { Notes (3 + length self.old.values.items) self.old self.new }
     {
         if time < self.held.clock() {
@@ -125,16 +126,15 @@ impl<S: SetBoard> Executor<S> {
         time: i64,
     ) -> Result<(), StepFault>
         requires event { IsEventClass program.now schedule.now.class 0 }
-        requires tables { self.old.held.beside.tables ≡ tables_of program.now }
-        requires rules { self.old.held.beside.rules ≡ rules_of program.now }
-        requires class { schedule.now.class < length self.old.held.beside.tables.classes }
-        requires kind { (shapes.class_of self.old.held.beside.tables schedule.now.class).permanent
-            ≡ false }
+        requires tables { tables self.old ≡ tables_of program.now }
+        requires rules { rules self.old ≡ rules_of program.now }
+        requires class { schedule.now.class < length (tables self.old).classes }
+        requires kind { (shapes.class_of (tables self.old) schedule.now.class).permanent ≡ false }
         requires notice { InHeld self.old.held IsSoundNotice schedule.now.notice }
         requires room { 3 + length self.old.values.items < self.old.journal.notes }
         ensures outcome { LeadsToOrRefuses result
-            (state_after_notice program.now self.old.held.state schedule.now.class
-            schedule.now.notice named time self.old.values.items) self.new.held.state }
+            (state_after_notice program.now (state self.old) schedule.now.class schedule.now.notice
+            named time self.old.values.items) (state self.new) }
         ensures notes { Notes (3 + length self.old.values.items) self.old self.new }
     {
         match &schedule.notice {
@@ -150,12 +150,12 @@ impl<S: SetBoard> Executor<S> {
     fn schedule(&mut self, program: &Program, schedule: &Schedule) -> Result<(), StepFault>
         requires event { IsEventClass program.now schedule.now.class
             (length schedule.now.arguments) }
-        requires tables { self.old.held.beside.tables ≡ tables_of program.now }
-        requires rules { self.old.held.beside.rules ≡ rules_of program.now }
+        requires tables { tables self.old ≡ tables_of program.now }
+        requires rules { rules self.old ≡ rules_of program.now }
         requires sound { InHeld self.old.held IsSoundTiming (timings.Schedule schedule.now) }
         requires room { 3 + length schedule.now.arguments < self.old.journal.notes }
         ensures outcome { LeadsToOrRefuses result
-            (state_after_schedule program.now self.old.held.state schedule.now) self.new.held.state }
+            (state_after_schedule program.now (state self.old) schedule.now) (state self.new) }
         ensures notes { Notes (3 + length schedule.now.arguments) self.old self.new }
     {
         let named = arguments_asked(self.held.view(), schedule, &mut self.values)?;
@@ -168,8 +168,8 @@ impl<S: SetBoard> Executor<S> {
         requires notice { InHeld self.old.held IsSoundExpr notice.now }
         requires room { 0 < self.old.journal.notes }
         ensures outcome { LeadsTo result
-            (state_after_cancel self.old.held.beside.tables self.old.held.state class notice.now)
-            self.new.held.state }
+            (state_after_cancel (tables self.old) (state self.old) class notice.now)
+            (state self.new) }
         ensures notes { Notes 1 self.old self.new }
     {
         let x = value(self.held.view(), notice)?;
@@ -187,17 +187,16 @@ impl<S: SetBoard> Executor<S> {
         next: usize,
         timing: &Timing,
     ) -> Result<(), AllocError>
-        requires well { IsInBounds program.now self.old.held.state }
+        requires well { IsInBounds program.now (state self.old) }
         requires timed { IsTimed program.now
-            (section_of program.now self.old.held.state.frame.section)
-            (places.Timing timing.now) }
+            (section_of program.now (state self.old).frame.section) (places.Timing timing.now) }
         requires sound { InHeld self.old.held IsSoundTiming timing.now }
-        requires tables { self.old.held.beside.tables ≡ tables_of program.now }
-        requires rules { self.old.held.beside.rules ≡ rules_of program.now }
+        requires tables { tables self.old ≡ tables_of program.now }
+        requires rules { rules self.old ≡ rules_of program.now }
         requires none { self.old.journal.current ≡ [] }
         requires room { changes.most_timing_changes timing.now ≤ self.old.journal.notes }
         ensures state { OnOk result
-            (self.new.held.state ≡ step_timing program.now self.old.held.state next timing.now) }
+            (state self.new ≡ step_timing program.now (state self.old) next timing.now) }
         ensures notes { Notes (changes.most_timing_changes timing.now) self.old self.new }
     {
         match timing {

@@ -4,6 +4,7 @@ ghost use Rattle.std.specs.Prelude.{if◌then◌else◌};
 ghost use Rattle.ss_program.specs.Program.{section_of, class_of, locals_of, is_main};
 ghost use Rattle.ss_store.specs.Tables.{tables_of};
 ghost use Rattle.ss_events.specs.Rules.{rules_of};
+ghost use Rattle.ss_machine.specs.Executor.{rules, state, tables};
 ghost use Rattle.ss_machine.specs.Noting.{Notes};
 ghost use Rattle.ss_machine.specs.Outcome.{LeadsTo, LeadsToOrRefuses};
 ghost use Rattle.ss_machine.specs.Well.{IsInBounds};
@@ -32,11 +33,11 @@ impl<S: SetBoard> Executor<S> {
     /// runs.
     fn advance(&mut self, notice: u32, time: i64)
         requires number { 0 < notice }
-        requires pending { is_pending self.old.held.state.agenda notice ≡ true }
+        requires pending { is_pending (state self.old).agenda notice ≡ true }
         requires room { 2 < self.old.journal.notes }
-        ensures state { self.new.held.state
-            ≡ state_at_time self.old.held.state notice time self.old.held.state.store }
-        ensures tables { self.new.held.beside.tables ≡ self.old.held.beside.tables }
+        ensures state { state self.new
+            ≡ state_at_time (state self.old) notice time (state self.old).store }
+        ensures tables { tables self.new ≡ tables self.old }
         ensures notes { Notes 3 self.old self.new }
     {
         let change = self.held.take_off(notice);
@@ -50,16 +51,15 @@ impl<S: SetBoard> Executor<S> {
 
     /// Ends the notice whose event starts, unless the event says SAVING.
     fn end_unless_saved(&mut self, class: usize, notice: u32, saving: bool) -> Result<(), RunFault>
-        requires class { class < length self.old.held.beside.tables.classes }
-        requires kind { (shapes.class_of self.old.held.beside.tables class).permanent ≡ false }
+        requires class { class < length (tables self.old).classes }
+        requires kind { (shapes.class_of (tables self.old) class).permanent ≡ false }
         requires room { 0 < self.old.journal.notes }
         ensures outcome { LeadsTo result
-            (if saving then Ok self.old.held.state.store
-            else without_entity self.old.held.beside.tables self.old.held.state.store class notice)
-            self.new.held.state.store }
-        ensures rest { self.new.held.state
-            ≡ state_with_store self.old.held.state self.new.held.state.store }
-        ensures tables { self.new.held.beside.tables ≡ self.old.held.beside.tables }
+            (if saving then Ok (state self.old).store
+            else without_entity (tables self.old) (state self.old).store class notice)
+            (state self.new).store }
+        ensures rest { state self.new ≡ state_with_store (state self.old) (state self.new).store }
+        ensures tables { tables self.new ≡ tables self.old }
         ensures notes { Notes 1 self.old self.new }
     {
         if !saving {
@@ -72,15 +72,15 @@ impl<S: SetBoard> Executor<S> {
     /// Starts the event of a pending notice of this class at its time.
     fn start_event(&mut self, program: &Program, notice: u32, slot: Slot) -> Result<(), StepFault>
         requires event { IsEventClass program.now slot.class 0 }
-        requires tables { self.old.held.beside.tables ≡ tables_of program.now }
-        requires variables { length self.old.held.state.variables ≡ length program.now.globals }
+        requires tables { tables self.old ≡ tables_of program.now }
+        requires variables { length (state self.old).variables ≡ length program.now.globals }
         requires number { 0 < notice }
-        requires pending { is_pending self.old.held.state.agenda notice ≡ true }
-        requires below { self.old.held.state.below ≡ [] }
+        requires pending { is_pending (state self.old).agenda notice ≡ true }
+        requires below { (state self.old).below ≡ [] }
         requires room { 5 < self.old.journal.notes }
         ensures outcome { LeadsToOrRefuses result
-            (state_after_start program.now self.old.held.state notice slot.class slot.time)
-            self.new.held.state }
+            (state_after_start program.now (state self.old) notice slot.class slot.time)
+            (state self.new) }
         ensures notes { Notes 6 self.old self.new }
         ensures fewer { OnErr result (Notes 5 self.old self.new) }
     {
@@ -101,15 +101,15 @@ impl<S: SetBoard> Executor<S> {
 
     /// Starts the event of the least notice, or goes on where none is pending.
     fn simulate(&mut self, program: &Program, next: usize) -> Result<(), AllocError>
-        requires well { IsInBounds program.now self.old.held.state }
-        requires main { is_main (section_of program.now self.old.held.state.frame.section) ≡ true }
-        requires tables { self.old.held.beside.tables ≡ tables_of program.now }
-        requires rules { self.old.held.beside.rules ≡ rules_of program.now }
+        requires well { IsInBounds program.now (state self.old) }
+        requires main { is_main (section_of program.now (state self.old).frame.section) ≡ true }
+        requires tables { tables self.old ≡ tables_of program.now }
+        requires rules { rules self.old ≡ rules_of program.now }
         requires none { self.old.journal.current ≡ [] }
         requires room { 5 < self.old.journal.notes }
-        ensures state { OnOk result
-            (self.new.held.state ≡ step_simulation program.now self.old.held.state next
-            (least (rules_of program.now) self.old.held.state.agenda.pending)) }
+        ensures state { OnOk result (state self.new
+            ≡ step_simulation program.now (state self.old) next
+            (least (rules_of program.now) (state self.old).agenda.pending)) }
         ensures notes { Notes 6 self.old self.new }
     {
         let Some((notice, slot)) = self.held.next_notice() else {
@@ -125,13 +125,13 @@ impl<S: SetBoard> Executor<S> {
     /// Makes the notice of an entry of the data pending, for which the entry waits.
     fn await_arrival(&mut self, program: &Program, class: usize, time: i64) -> Result<(), StepFault>
         requires event { IsEventClass program.now class 0 }
-        requires tables { self.old.held.beside.tables ≡ tables_of program.now }
-        requires rules { self.old.held.beside.rules ≡ rules_of program.now }
-        requires class { class < length self.old.held.beside.tables.classes }
-        requires kind { (shapes.class_of self.old.held.beside.tables class).permanent ≡ false }
+        requires tables { tables self.old ≡ tables_of program.now }
+        requires rules { rules self.old ≡ rules_of program.now }
+        requires class { class < length (tables self.old).classes }
+        requires kind { (shapes.class_of (tables self.old) class).permanent ≡ false }
         requires room { 2 < self.old.journal.notes }
         ensures outcome { LeadsToOrRefuses result
-            (state_after_arrival program.now self.old.held.state class time) self.new.held.state }
+            (state_after_arrival program.now (state self.old) class time) (state self.new) }
         ensures notes { Notes 3 self.old self.new }
     {
         if self.held.clock() > time {
@@ -148,12 +148,12 @@ impl<S: SetBoard> Executor<S> {
 
     /// Loads the next entry of the data.
     fn load(&mut self, program: &Program) -> Result<(), StepFault>
-        requires left { self.old.held.state.feed.taken < length self.old.held.state.feed.items }
-        requires tables { self.old.held.beside.tables ≡ tables_of program.now }
-        requires rules { self.old.held.beside.rules ≡ rules_of program.now }
+        requires left { (state self.old).feed.taken < length (state self.old).feed.items }
+        requires tables { tables self.old ≡ tables_of program.now }
+        requires rules { rules self.old ≡ rules_of program.now }
         requires room { 3 < self.old.journal.notes }
         ensures outcome { LeadsToOrRefuses result
-            (state_after_load program.now self.old.held.state) self.new.held.state }
+            (state_after_load program.now (state self.old)) (state self.new) }
         ensures notes { Notes 4 self.old self.new }
     {
         let (class, time, change) = self.held.take_arrival(program)?;
@@ -163,7 +163,7 @@ impl<S: SetBoard> Executor<S> {
 
     /// Whether an entry of the data is to be loaded.
     fn loads(&self, program: &Program) -> bool
-        ensures { result ≡ loads program.now self.now.held.state }
+        ensures { result ≡ loads program.now (state self.now) }
     {
         match self.held.entry() {
             Entry::Absent => self.held.has_piece() && has_external(program),
@@ -173,14 +173,14 @@ impl<S: SetBoard> Executor<S> {
 
     /// START SIMULATION: loads an entry of the data, or runs the timing routine.
     pub fn start_simulation(&mut self, program: &Program, next: usize) -> Result<(), AllocError>
-        requires well { IsInBounds program.now self.old.held.state }
-        requires main { is_main (section_of program.now self.old.held.state.frame.section) ≡ true }
-        requires tables { self.old.held.beside.tables ≡ tables_of program.now }
-        requires rules { self.old.held.beside.rules ≡ rules_of program.now }
+        requires well { IsInBounds program.now (state self.old) }
+        requires main { is_main (section_of program.now (state self.old).frame.section) ≡ true }
+        requires tables { tables self.old ≡ tables_of program.now }
+        requires rules { rules self.old ≡ rules_of program.now }
         requires none { self.old.journal.current ≡ [] }
         requires room { 5 < self.old.journal.notes }
         ensures state { OnOk result
-            (self.new.held.state ≡ step_start program.now self.old.held.state next) }
+            (state self.new ≡ step_start program.now (state self.old) next) }
         ensures notes { Notes 6 self.old self.new }
     {
         if !self.loads(program) {
