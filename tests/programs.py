@@ -1,44 +1,51 @@
 """What scripts of tests share: models and texts that tables note, runs of the built programs, with
 growths and writes refused, and how they count what passed."""
+import atexit
 import concurrent.futures
 import itertools
 import os
 import re
+import shlex
+import shutil
 import subprocess
+import sys
+import tempfile
 import threading
 
 TOP = os.path.dirname(os.path.dirname(os.path.realpath(__file__)))
-DATA = f"{TOP}/crates/cases/data"
-# What tests/refuse.c says of a growth that it refuses.
-REFUSED = b"growth refused\n"
-# What says that there is no such thing.
-NONE = re.compile(rb"NO (CLASS|ENTITY|ATTRIBUTE|SET|VARIABLE|EVENTS)\b")
+DATA, SCRIPT = f"{TOP}/crates/cases/data", os.path.basename(sys.argv[0])
+# A folder for what the script writes, which is removed at its end.
+ROOM = tempfile.mkdtemp()
+atexit.register(shutil.rmtree, ROOM)
+# The programs that the environment may name.
+NAMED = {"simscript2": "PROGRAM", "ssdb": "PROMPT_PROGRAM", "ssdap": "ADAPTER_PROGRAM"}
+NAMED["ssrun"] = "RUN_PROGRAM"
+# What tests/refuse.c says of a growth that it refuses, and what builds it, by one thread.
+REFUSED, BUILDING = b"growth refused\n", threading.Lock()
 # The rules and faults of the language, by their letter and greatest number.
 GREATEST = {"L": 5, "P": 3, "C": 14, "F": 22}
 CODES = [f"{letter}{n}" for letter, most in GREATEST.items() for n in range(1, most + 1)]
 
 
-class Wrong(Exception):
-    """What is wrong with a case."""
-
-
-def expect(is_right, said):
-    """Ends a case that is not right, and says why."""
-    if not is_right:
-        raise Wrong(said)
-
-
 def built(name):
-    """Returns the file of a program, as `rt ci` built it."""
-    return f"{TOP}/crates/{name}/out/{name}"
+    """Returns the program that the environment names, or else the one that `rt ci` built."""
+    return os.environ.get(NAMED.get(name, "")) or f"{TOP}/crates/{name}/out/{name}"
 
 
-def refusing(room):
-    """Builds what refuses growths and writes, and returns its file."""
-    doc = subprocess.run(["rt", "doc"], check=True, stdout=subprocess.PIPE, text=True).stdout
-    clang, file = f"{os.path.dirname(doc.strip())}/toolchain/bin/clang", f"{room}/refuse.so"
-    words = "-shared -fPIC -O1 -nostdlib -fuse-ld=lld".split()
-    subprocess.run([clang, *words, f"{TOP}/tests/refuse.c", "-o", file], check=True)
+def started(name):
+    """Returns the program that the environment names, or else the file that starts it."""
+    return os.environ.get(NAMED[name]) or f"{TOP}/{name}"
+
+
+def refusing():
+    """Returns the library that refuses growths and writes, which it builds once."""
+    file = f"{ROOM}/refuse.so"
+    with BUILDING:
+        if not os.path.exists(file):
+            doc = subprocess.run(["rt", "doc"], check=True, stdout=subprocess.PIPE, text=True)
+            clang = f"{os.path.dirname(doc.stdout.strip())}/toolchain/bin/clang"
+            words = "-shared -fPIC -O1 -nostdlib -fuse-ld=lld".split()
+            subprocess.run([clang, *words, f"{TOP}/tests/refuse.c", "-o", file], check=True)
     return file
 
 
@@ -57,9 +64,9 @@ def write(path, text):
     return path
 
 
-def own(room, *texts):
-    """Writes texts to files of the calling thread in a folder, and returns their paths."""
-    own_name = f"{room}/{threading.get_ident()}"
+def own(*texts):
+    """Writes texts to files of the calling thread, and returns their paths."""
+    own_name = f"{ROOM}/{threading.get_ident()}"
     return [write(f"{own_name}.{number}", it) for number, it in enumerate(texts)]
 
 
@@ -70,45 +77,31 @@ def rows(name):
             yield line.split("\t")
 
 
-def model_of(path):
-    """Returns the words of an example: its model, and its data where it has some."""
-    return [it for it in (f"{path}.sim", f"{path}.data") if os.path.exists(it)]
+def model_of(path, *parts):
+    """Returns the files of an example, its model, its data and these; none stands for one that is
+    not there."""
+    files = [f"{path}.{it}" for it in ("sim", "data", *parts)]
+    return [it if os.path.exists(it) else os.devnull for it in files]
 
 
 def spelled(text):
     """Returns the text that one of a table stands for: '|' is a line end, and '{n x}' is x written
     n times, with its number, from 0, in place of each '#'."""
-    copies = lambda it: "".join(it[2].replace("#", str(i)) for i in range(int(it[1])))
+
+    def copies(found):
+        number, it = int(found[1]), found[2]
+        return "".join(it.replace("#", str(i)) for i in range(number)) if "#" in it else number * it
+
     while (more := re.sub(r"\{([0-9]+) ([^{}]*)\}", copies, text)) != text:
         text = more
     return text.replace("|", "\n")
 
 
-def value(question, answer):
-    """Returns what the answer to a question of the state tells, in one line."""
-    if NONE.match(answer):
-        return b"NONE"
-    words, lines = question.split(), answer[:-1].split(b"\n")
-    if words[0] == b"REPORT":
-        return b"%d BYTES" % (len(answer) - len(b"REPORT\n"))
-    if words[0] == b"WHERE":
-        return lines[0]
-    if words[0] == b"EVENTS":
-        return b", ".join(lines)
-    if words[0] in (b"SET", b"COUNT"):
-        return lines[0].split(b": ", 1)[1]
-    if words[0] in (b"CLOCK", b"TAKEN", b"ENTRY"):
-        return lines[0].split(b" ", 1)[1]
-    if words[0] == b"VAR" or len(words) == 3:
-        return lines[0].split(b" = ", 1)[1]
-    return b", ".join(lines[1:]) or b"LIVES"
-
-
-def run(words, text=os.devnull, refuse=None, **refused):
-    """Runs a program over its standard input, a file or bytes; returns its status, what it wrote
-    and what it said."""
+def run(words, text=os.devnull, **refused):
+    """Runs a program over its standard input, a file or bytes, with this refused, as tests/refuse.c
+    is told; returns its status, what it wrote and what it said."""
     how = {"capture_output": True, "cwd": DATA, "check": False, "timeout": 600}
-    loaded = {"LD_PRELOAD": refuse} if refuse else {}
+    loaded = {"LD_PRELOAD": refusing()} if refused else {}
     how["env"] = {"PATH": os.environ["PATH"], **loaded, **refused}
     if isinstance(text, bytes):
         ended = subprocess.run(words, input=text, **how)
@@ -135,11 +128,40 @@ def differs(wanted, found):
     return "; ".join(f"{name} was {str(it)[:300]}" for name, it, right in parts if it != right)
 
 
+def fits(shown, told):
+    """Whether what is told is what is shown, where a line `..` stands for lines left out."""
+    parts = re.split(rb"^\.\.\n", shown, flags=re.M)
+    return told == shown or re.fullmatch(b"(?:.*\n)*".join(map(re.escape, parts)), told)
+
+
+def calls(program):
+    """Yields the rows of tests/answers/calls.tsv that are of the calling script, with a program."""
+    for script, name, *call in rows("calls.tsv"):
+        if script == SCRIPT:
+            yield name, program, *call
+
+
+def wrong_call(program, command, given, status, *shown):
+    """Returns what is wrong with a command: its words are as in a shell, one with a '|' is a text
+    that stands in a file, and TOP, ROOM and PROGRAM stand for these; so it is with its standard
+    input, and with what it is to write and to say."""
+    named = {"TOP": TOP, "ROOM": ROOM, "PROGRAM": program}
+    placed = lambda text: re.sub(r"\b(TOP|ROOM|PROGRAM)\b", lambda it: named[it[0]], text)
+    words = shlex.split(command)
+    files = iter(own(*(spelled(it) for it in words if "|" in it)))
+    words = [next(files) if "|" in it else placed(it) for it in words]
+    text = placed(given) if given.startswith("ROOM") else spelled(given).encode()
+    found_status, *found = run(words, text)
+    is_right = all(fits(spelled(placed(it)).encode(), out) for it, out in zip(shown, found))
+    is_right = is_right and found_status == int(status)
+    return "" if is_right else f"status {found_status}, {str(found)[-600:]}"
+
+
 class Tally:
     """What passed and what failed of a script's cases."""
 
-    def __init__(self, name):
-        self.name, self.passed, self.failed = name, 0, 0
+    def __init__(self):
+        self.passed, self.failed = 0, 0
         self.jobs = int(os.environ.get("RT_JOBS") or os.cpu_count())
 
     def count(self, case, why):
@@ -148,28 +170,29 @@ class Tally:
             self.passed += 1
             return
         self.failed += 1
-        print(f"{self.name} {case} FAILED: {why}", flush=True)
+        print(f"{SCRIPT} {case} FAILED: {why}", flush=True)
 
     def count_all(self, call, cases):
-        """Counts cases, a few at a time: the call returns what is wrong with one."""
+        """Counts cases, a few at a time: of what stands behind the name of one the call returns or
+        raises what is wrong."""
+
+        def why(case):
+            try:
+                return call(*case[1:])
+            except AssertionError as error:
+                return str(error)
+            except (LookupError, ValueError, subprocess.SubprocessError) as error:
+                return repr(error)
+
         cases = list(cases)
         with concurrent.futures.ThreadPoolExecutor(self.jobs) as pool:
-            for case, why in zip(cases, pool.map(lambda it: call(*it), cases)):
-                self.count(case[0], why)
+            for case, wrong in zip(cases, pool.map(why, cases)):
+                self.count(case[0], wrong)
 
-    def try_all(self, cases):
-        """Counts cases, a few at a time, by their names: the call of one raises what is wrong."""
 
-        def why(_, call):
-            try:
-                call()
-            except (Wrong, LookupError, ValueError, subprocess.SubprocessError) as error:
-                return str(error) if isinstance(error, Wrong) else repr(error)
-            return ""
-
-        self.count_all(why, cases)
-
-    def end(self):
-        """Prints the last line, and returns the exit status."""
-        print(f"{self.name}: {self.passed} passed, {self.failed} failed")
-        return 1 if self.failed or not self.passed else 0
+def count(main):
+    """Has a script count its cases, prints the last line, and ends with the status."""
+    tally = Tally()
+    main(tally)
+    print(f"{SCRIPT}: {tally.passed} passed, {tally.failed} failed")
+    sys.exit(1 if tally.failed or not tally.passed else 0)
