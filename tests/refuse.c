@@ -1,15 +1,18 @@
-/* Refuses growths of memory and bytes of standard output. What it is to refuse stands in the environment:
+/* Refuses growths of memory and bytes of standard output. What it is to refuse stands in the
+   environment:
 
    REFUSED_GROWTH=N     the growth of this number, counted from 1
-   REFUSED_BEHIND=W:N   behind write number W of standard output (0 for the start) the growth of number N; several, parted by blanks
-   TOLD_WRITES=1        nothing: at each write of standard output it tells how many growths there were since the one before, and its bytes
+   REFUSED_BEHIND=W:N   behind write number W of standard output (0 for the start) the growth of
+                        number N; several, parted by blanks
+   TOLD_WRITES=1        nothing: at each write of standard output it tells how many growths there
+                        were since the one before, and its bytes
    WRITTEN_AT_ONCE=N    a write of standard output takes N bytes at most
-   WRITTEN_IN_ALL=N     after so many bytes of standard output a write takes none, and fails where WRITES_FAIL is set
+   WRITTEN_IN_ALL=N     after so many bytes of standard output a write takes none, and fails where
+                        WRITES_FAIL is set
 
-   It says 'growth refused' on standard error where it refuses one, and tells numbers there, a line each.
-
-   The scripts of tests/ build it and have it loaded before the C library, whose heap serves the rest. It is a tool of the tests, and no
-   part of any crate. */
+   It says 'growth refused' on standard error where it refuses one, and tells numbers there, a line
+   each. The scripts of tests/ build it and have it loaded before the C library, whose heap serves
+   the rest. It is a tool of the tests, and no part of any crate. */
 
 typedef __SIZE_TYPE__ size_t;
 
@@ -18,6 +21,7 @@ extern void *__libc_realloc(void *block, size_t size);
 extern long __write(int file, const void *bytes, size_t count);
 extern char *getenv(const char *name);
 extern long strtol(const char *text, char **end, int base);
+extern int snprintf(char *text, size_t size, const char *format, ...);
 extern int *__errno_location(void);
 
 /* The error of a device that has no room. */
@@ -68,18 +72,6 @@ void *realloc(void *block, size_t size) {
     return is_refused() ? 0 : __libc_realloc(block, size);
 }
 
-/* Tells a number from 0 on, in a line. */
-static void tell(long number) {
-    char line[24];
-    size_t at = sizeof line;
-    line[--at] = '\n';
-    do {
-        line[--at] = (char)('0' + number % 10);
-        number /= 10;
-    } while (number > 0);
-    __write(2, line + at, sizeof line - at);
-}
-
 /* How many of these bytes a write of standard output takes. */
 static size_t taken_of(size_t count) {
     size_t at_once = number_of("WRITTEN_AT_ONCE", count);
@@ -92,8 +84,8 @@ long write(int file, const void *bytes, size_t count) {
     size_t taken = count;
     if (file == 1) {
         if (getenv("TOLD_WRITES") != 0) {
-            tell(growths_since_write);
-            tell(count);
+            char told[48];
+            __write(2, told, snprintf(told, sizeof told, "%ld\n%zu\n", growths_since_write, count));
         }
         growths_since_write = 0;
         writes += 1;
