@@ -2,6 +2,7 @@
 sources to make it of."""
 import contextlib
 import fcntl
+import glob
 import os
 import re
 import shutil
@@ -36,8 +37,7 @@ class Place:
 
     def sums(self):
         """Returns the sums of the sources: of code and definitions, and of proofs."""
-        words = [f"{TOP}/tools/sources", self.name]
-        return subprocess.run(words, check=True, stdout=subprocess.PIPE, text=True).stdout
+        return subprocess.check_output([f"{TOP}/tools/sources", self.name], text=True)
 
     def has(self, sums):
         """Whether the program stands there, built from these."""
@@ -47,13 +47,13 @@ class Place:
 
     def put(self, program, sums):
         """Leaves a program there, whole, and behind it what it was built from."""
+        with open(f"{program}.built-from", "w", encoding="ascii") as it:
+            it.write(sums)
         with contextlib.suppress(FileNotFoundError):
             os.remove(self.stamp)
-        shutil.copy(program, f"{self.program}.new")
-        os.replace(f"{self.program}.new", self.program)
-        with open(f"{self.stamp}.new", "w", encoding="ascii") as it:
-            it.write(sums)
-        os.replace(f"{self.stamp}.new", self.stamp)
+        for file, path in ((program, self.program), (it.name, self.stamp)):
+            shutil.copy(file, f"{path}.new")
+            os.replace(f"{path}.new", path)
 
     @contextlib.contextmanager
     def in_turn(self):
@@ -68,19 +68,15 @@ class Place:
             yield
 
 
-def sweep():
-    """Removes the copies of commands that were killed."""
-    for name in os.listdir(tempfile.gettempdir()):
-        owner = re.match(r"simscript2-(\d+)-", name)
-        if owner and not os.path.exists(f"/proc/{owner[1]}"):
-            shutil.rmtree(f"{tempfile.gettempdir()}/{name}", ignore_errors=True)
-
-
 @contextlib.contextmanager
 def copy_of_sources():
     """Gives a folder with a copy of the sources, so that a change of theirs does no harm. It is
-    removed at the end, also where the user ends the command."""
-    sweep()
+    removed at the end, also where the user ends the command; those of commands that were killed are
+    removed first."""
+    for path in glob.glob(f"{tempfile.gettempdir()}/simscript2-*-*"):
+        owner = re.match(r"simscript2-(\d+)-", os.path.basename(path))
+        if owner and not os.path.exists(f"/proc/{owner[1]}"):
+            shutil.rmtree(path, ignore_errors=True)
     with tempfile.TemporaryDirectory(prefix=f"simscript2-{os.getpid()}-") as room:
 
         def leave(*_):
@@ -91,8 +87,7 @@ def copy_of_sources():
             signal.signal(it, leave)
         for name in ("crates.txt", "HANDLES"):
             shutil.copy(f"{TOP}/{name}", room)
-        for name in sorted(os.listdir(f"{TOP}/crates")):
-            for part in ("src", "specs", "proofs"):
-                if os.path.isdir(f"{TOP}/crates/{name}/{part}"):
-                    shutil.copytree(f"{TOP}/crates/{name}/{part}", f"{room}/crates/{name}/{part}")
+        for part in ("src", "specs", "proofs"):
+            for path in glob.glob(f"crates/*/{part}", root_dir=TOP):
+                shutil.copytree(f"{TOP}/{path}", f"{room}/{path}")
         yield room
