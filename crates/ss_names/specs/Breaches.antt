@@ -39,6 +39,20 @@ pub record TextFacts : Type 0 where
   -- of each attribute its class
   pub attributes : List (List ℕ)
 
+-- of a text that declares and says nothing
+abbrev pub no_facts : TextFacts
+no_facts = record {
+  names = [];
+  owned = [];
+  joined = [];
+  sections = [];
+  ordered = [];
+  disciplines = [];
+  ties = [];
+  externals = [];
+  attributes = [];
+}
+
 -- a name where it stands
 pub record Standpoint : Type 0 where
   -- the name

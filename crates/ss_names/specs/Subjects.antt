@@ -38,6 +38,30 @@ pub record Subject : Type 0 where
 abbrev pub subject_at : CodeSubject → Subject
 subject_at a = record { name = a.name.now; wrong = a.wrong }
 
+-- facts with what a text declares
+abbrev pub with_names : TextFacts → List PlainAt → TextFacts
+with_names facts ws = let names = collection Declared [] at_start [] ws in record facts {
+  names = names;
+  attributes = attribute_classes names;
+}
+
+-- facts with what a text says of sets
+abbrev pub with_sets : TextFacts → List PlainAt → TextFacts
+with_sets facts ws = record facts {
+  owned = collection Owned [] at_start [] ws;
+  joined = collection Joined [] at_start [] ws;
+  disciplines = collection Disciplines [] at_start [] ws;
+}
+
+-- facts with what a text says of events
+abbrev pub with_events : TextFacts → List PlainAt → TextFacts
+with_events facts ws = record facts {
+  sections = collection Sections [] at_start [] ws;
+  ordered = collection Ordered [] at_start [] ws;
+  ties = collection Ties [] at_start [] ws;
+  externals = collection Externals [] at_start [] ws;
+}
+
 -- what a text declares, and what it says of sets and events
 abbrev pub facts_of : List PlainAt → TextFacts
 facts_of ws = let names = collection Declared [] at_start [] ws in record {

@@ -20,6 +20,7 @@ use Rattle.ss_names.specs.declared.roles.Standing.{Standing}
 use Rattle.ss_names.specs.Collected.{collection}
 use Rattle.ss_names.specs.Here as here
 use Rattle.ss_names.specs.Roles.{at_start, behind, may_stand_once}
+use Rattle.ss_names.specs.Meanings.{Declaration}
 use Rattle.ss_names.specs.Ranked.{ranked_text}
 use Rattle.ss_names.specs.Unread.{uses_text}
 
@@ -103,17 +104,26 @@ dropped_text before (w ∷ ws) = dropped_word before w (first_kind ws) ++ droppe
 
 -- ---- all of them
 
+-- the warnings of keys of ranked sets
+abbrev pub key_warnings : List Declaration → List PlainAt → List ℕ
+key_warnings declarations ws =
+    ranked_text declarations (collection wanted.Keys [] here.at_start [] ws) [] [] here.at_start ws
+
+-- the warnings of these names, some of which are declared
+abbrev pub name_warnings : List (List ℕ) → List Declaration → List PlainAt → List ℕ
+name_warnings names declarations ws = once_text names at_start ws
+    ++ uses_text UNREAD.now Set names declarations ws
+    ++ uses_text UNSET.now Read names declarations ws
+    ++ key_warnings declarations ws
+
+-- the warnings of plain words
+abbrev pub plain_warnings : List PlainAt → List ℕ
+plain_warnings ws =
+    name_warnings (names_in ws) (collection wanted.Declared [] here.at_start [] ws) ws
+
 -- the warnings of words
 abbrev pub warnings_of_words : List WordAt → List ℕ
-warnings_of_words ws =
-    let plain = plain_words_of ws in
-    let names = names_in plain in
-    let ds = collection wanted.Declared [] here.at_start [] plain in
-    once_text names at_start plain
-    ++ uses_text UNREAD.now Set names ds plain
-    ++ uses_text UNSET.now Read names ds plain
-    ++ ranked_text ds (collection wanted.Keys [] here.at_start [] plain) [] [] here.at_start plain
-    ++ dropped_text None ws
+warnings_of_words ws = plain_warnings (plain_words_of ws) ++ dropped_text None ws
 
 -- the warnings of a model; none where a rule L refuses it
 abbrev pub warnings : List ℕ → List ℕ

@@ -12,6 +12,7 @@ use crate::name_counts::NameCounts;
 use crate::position::Position;
 use crate::second::second_declaration;
 use ss_words::Reserved;
+use std::alloc::Global;
 use std::marker::Model;
 
 /// What a text declares and says of sets and events.
@@ -53,6 +54,25 @@ impl<'a> Model for Facts<'a> {
       externals = a.externals;
       attributes = a.attributes;
     } };
+}
+
+impl<'a> Facts<'a> {
+    /// A text that declares and says nothing.
+    pub fn new(alloc: Global) -> Self
+        ensures { result ≡ spec.no_facts }
+    {
+        Facts {
+            names: Declarations::new(alloc),
+            owned: Declarations::new(alloc),
+            joined: Declarations::new(alloc),
+            sections: Declarations::new(alloc),
+            ordered: Declarations::new(alloc),
+            disciplines: Declarations::new(alloc),
+            ties: Declarations::new(alloc),
+            externals: Declarations::new(alloc),
+            attributes: NameCounts::new(alloc),
+        }
+    }
 }
 
 /// A name where it stands.

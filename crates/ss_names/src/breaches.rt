@@ -1,5 +1,5 @@
 //! Which name of a statement a breach of the checker's rules is about.
-ghost use Rattle.std.specs.Prelude.{◌≡◌, ◌++◌, [], IfOk, None, OnOk, map, option_map};
+ghost use Rattle.std.specs.Prelude.{◌≡◌, ◌++◌, [], None, OnOk, Some, map, option_map};
 ghost use Rattle.ss_words.specs.Plain.{plain_at};
 ghost use Rattle.ss_names.specs.Subjects as spec;
 ghost use Rattle.ss_names.specs.Breaches.{standing_at};
@@ -27,23 +27,59 @@ struct Subject<'a> {
     wrong: Wrong,
 }
 
-/// What a text declares and says of sets and events.
-fn facts_of<'a>(alloc: Global, words: &[PlainWord<'a>]) -> Result<Facts<'a>, AllocError>
-    ensures { IfOk result (λ facts. facts ≡ spec.facts_of (map plain_at words.now)) }
+/// Collects what a text declares.
+fn collect_names<'a>(
+    alloc: Global,
+    words: &[PlainWord<'a>],
+    facts: &mut Facts<'a>,
+) -> Result<(), AllocError>
+    ensures { OnOk result (facts.new ≡ spec.with_names facts.old (map plain_at words.now)) }
 {
-    let names = collect(alloc, Wanted::Declared, words)?;
-    let attributes = attribute_classes(alloc, &names)?;
-    Ok(Facts {
-        names,
-        owned: collect(alloc, Wanted::Owned, words)?,
-        joined: collect(alloc, Wanted::Joined, words)?,
-        sections: collect(alloc, Wanted::Sections, words)?,
-        ordered: collect(alloc, Wanted::Ordered, words)?,
-        disciplines: collect(alloc, Wanted::Disciplines, words)?,
-        ties: collect(alloc, Wanted::Ties, words)?,
-        externals: collect(alloc, Wanted::Externals, words)?,
-        attributes,
-    })
+    facts.names = collect(alloc, Wanted::Declared, words)?;
+    facts.attributes = attribute_classes(alloc, &facts.names)?;
+    Ok(())
+}
+
+/// Collects what a text says of sets.
+fn collect_sets<'a>(
+    alloc: Global,
+    words: &[PlainWord<'a>],
+    facts: &mut Facts<'a>,
+) -> Result<(), AllocError>
+    ensures { OnOk result (facts.new ≡ spec.with_sets facts.old (map plain_at words.now)) }
+{
+    facts.owned = collect(alloc, Wanted::Owned, words)?;
+    facts.joined = collect(alloc, Wanted::Joined, words)?;
+    facts.disciplines = collect(alloc, Wanted::Disciplines, words)?;
+    Ok(())
+}
+
+/// Collects what a text says of events.
+fn collect_events<'a>(
+    alloc: Global,
+    words: &[PlainWord<'a>],
+    facts: &mut Facts<'a>,
+) -> Result<(), AllocError>
+    ensures { OnOk result (facts.new ≡ spec.with_events facts.old (map plain_at words.now)) }
+{
+    facts.sections = collect(alloc, Wanted::Sections, words)?;
+    facts.ordered = collect(alloc, Wanted::Ordered, words)?;
+    facts.ties = collect(alloc, Wanted::Ties, words)?;
+    facts.externals = collect(alloc, Wanted::Externals, words)?;
+    Ok(())
+}
+
+/// Collects what a text declares and says of sets and events.
+fn collect_facts<'a>(
+    alloc: Global,
+    words: &[PlainWord<'a>],
+    facts: &mut Facts<'a>,
+) -> Result<(), AllocError>
+    ensures { OnOk result (facts.new ≡ spec.facts_of (map plain_at words.now)) }
+{
+    collect_names(alloc, words, facts)?;
+    collect_sets(alloc, words, facts)?;
+    collect_events(alloc, words, facts)
 }
 
 /// A name where it stands, before these words.
@@ -272,6 +308,23 @@ fn push_subject(
     text.extend_from_slice(wrong_text(subject.wrong))
 }
 
+/// Appends what a breach of a rule on names is about. The facts are lent, so that they are dropped in
+/// one place.
+fn push_fact_breach<'a>(
+    alloc: Global,
+    words: &[PlainWord<'a>],
+    rule: NameRule,
+    line: usize,
+    facts: &mut Facts<'a>,
+    text: &mut Vec<u8>,
+) -> Result<(), AllocError>
+    ensures { OnOk result (text.new.items ≡ text.old.items
+        ++ spec.name_breach (map plain_at words.now) line (Some rule)) }
+{
+    collect_facts(alloc, words, facts)?;
+    push_subject(text, facts, first_subject(facts, rule, line, words))
+}
+
 /// Appends what a breach of a rule on names is about, if it is one.
 fn push_name_breach(
     alloc: Global,
@@ -286,8 +339,8 @@ fn push_name_breach(
     let Some(rule) = rule else {
         return Ok(());
     };
-    let facts = facts_of(alloc, words)?;
-    push_subject(text, &facts, first_subject(&facts, rule, line, words))
+    let mut facts = Facts::new(alloc);
+    push_fact_breach(alloc, words, rule, line, &mut facts, text)
 }
 
 /// Appends what a breach of a rule on statements is about, if it is one.

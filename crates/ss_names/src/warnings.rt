@@ -1,15 +1,18 @@
 //! Warnings of what is suspicious in the words of a model.
-ghost use Rattle.std.specs.Prelude.{◌≡◌, ◌++◌, OnOk};
+ghost use Rattle.std.specs.Prelude.{◌≡◌, ◌++◌, OnOk, map};
+ghost use Rattle.ss_words.specs.Plain.{plain_at};
 ghost use Rattle.ss_names.specs.Warnings as spec;
 
 use crate::collected::{Wanted, collect};
+use crate::declarations::Declarations;
 use crate::dropped::push_dropped;
+use crate::name_counts::NameCounts;
 use crate::names::names_in;
 use crate::once::push_once;
 use crate::ranked::push_ranked;
 use crate::roles::Role;
 use crate::unread::{UNREAD, UNSET, push_uses};
-use ss_words::{TextFault, Words, plain_words, words};
+use ss_words::{PlainWord, TextFault, Words, plain_words, words};
 use std::alloc::{AllocError, Global};
 
 /// Appends the warnings of a model (docs/SENTENCES.md), each with its line: the names that stand
@@ -36,28 +39,51 @@ fn push_warnings_of_words(
         ≡ text.old.items ++ spec.warnings_of_words words.now) }
 {
     let plain = plain_words(alloc, words)?;
-    let names = names_in(alloc, &plain)?;
-    let declarations = collect(alloc, Wanted::Declared, &plain)?;
-    push_once(text, &names, &plain)?;
-    push_uses(
-        alloc,
-        text,
-        UNREAD,
-        Role::Set,
-        &names,
-        &declarations,
-        &plain,
-    )?;
-    push_uses(
-        alloc,
-        text,
-        UNSET,
-        Role::Read,
-        &names,
-        &declarations,
-        &plain,
-    )?;
-    let keys = collect(alloc, Wanted::Keys, &plain)?;
-    push_ranked(text, &declarations, &keys, &plain)?;
+    push_plain_warnings(alloc, text, &plain)?;
     push_dropped(text, &words.list)
+}
+
+/// Appends the warnings of plain words.
+fn push_plain_warnings(
+    alloc: Global,
+    text: &mut Vec<u8>,
+    words: &[PlainWord<'_>],
+) -> Result<(), AllocError>
+    ensures { OnOk result (text.new.items
+        ≡ text.old.items ++ spec.plain_warnings (map plain_at words.now)) }
+{
+    let names = names_in(alloc, words)?;
+    let declarations = collect(alloc, Wanted::Declared, words)?;
+    push_name_warnings(alloc, text, &names, &declarations, words)
+}
+
+/// Appends the warnings of these names, some of which are declared.
+fn push_name_warnings<'a>(
+    alloc: Global,
+    text: &mut Vec<u8>,
+    names: &NameCounts,
+    declarations: &Declarations<'a>,
+    words: &[PlainWord<'a>],
+) -> Result<(), AllocError>
+    ensures { OnOk result (text.new.items ≡ text.old.items
+        ++ spec.name_warnings names.now declarations.now (map plain_at words.now)) }
+{
+    push_once(text, names, words)?;
+    push_uses(alloc, text, UNREAD, Role::Set, names, declarations, words)?;
+    push_uses(alloc, text, UNSET, Role::Read, names, declarations, words)?;
+    push_key_warnings(alloc, text, declarations, words)
+}
+
+/// Appends the warnings of keys of ranked sets.
+fn push_key_warnings<'a>(
+    alloc: Global,
+    text: &mut Vec<u8>,
+    declarations: &Declarations<'a>,
+    words: &[PlainWord<'a>],
+) -> Result<(), AllocError>
+    ensures { OnOk result (text.new.items ≡ text.old.items
+        ++ spec.key_warnings declarations.now (map plain_at words.now)) }
+{
+    let keys = collect(alloc, Wanted::Keys, words)?;
+    push_ranked(text, declarations, &keys, words)
 }
