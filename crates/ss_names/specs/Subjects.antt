@@ -16,7 +16,7 @@ use Rattle.ss_names.specs.declared.collected.Wanted.TheVariants.{Disciplines, Ti
 use Rattle.ss_names.specs.declared.here.Here.{Here}
 use Rattle.ss_names.specs.declared.known.What.{What}
 use Rattle.ss_names.specs.declared.known.What.TheVariants as k
-use Rattle.ss_names.specs.Breaches.{TextFacts, Standpoint, wrong, rule_of, where_so}
+use Rattle.ss_names.specs.Breaches.{TextFacts, no_facts, Standpoint, wrong, rule_of, where_so}
 use Rattle.ss_names.specs.Counts.{has_wrong_count}
 use Rattle.ss_names.specs.Collected.{collection, here_at}
 use Rattle.ss_names.specs.Here.{at_start, behind}
@@ -38,43 +38,37 @@ pub record Subject : Type 0 where
 abbrev pub subject_at : CodeSubject → Subject
 subject_at a = record { name = a.name.now; wrong = a.wrong }
 
--- facts with what a text declares
+-- facts, and what a text declares
 abbrev pub with_names : TextFacts → List PlainAt → TextFacts
-with_names facts ws = let names = collection Declared [] at_start [] ws in record facts {
+with_names facts ws = let names = collection Declared facts.names at_start [] ws in record facts {
   names = names;
-  attributes = attribute_classes names;
+  attributes = facts.attributes ++ attribute_classes names;
 }
 
--- facts with what a text says of sets
+-- facts, and what a text says of sets
 abbrev pub with_sets : TextFacts → List PlainAt → TextFacts
 with_sets facts ws = record facts {
-  owned = collection Owned [] at_start [] ws;
-  joined = collection Joined [] at_start [] ws;
-  disciplines = collection Disciplines [] at_start [] ws;
+  owned = collection Owned facts.owned at_start [] ws;
+  joined = collection Joined facts.joined at_start [] ws;
+  disciplines = collection Disciplines facts.disciplines at_start [] ws;
 }
 
--- facts with what a text says of events
+-- facts, and what a text says of events
 abbrev pub with_events : TextFacts → List PlainAt → TextFacts
 with_events facts ws = record facts {
-  sections = collection Sections [] at_start [] ws;
-  ordered = collection Ordered [] at_start [] ws;
-  ties = collection Ties [] at_start [] ws;
-  externals = collection Externals [] at_start [] ws;
+  sections = collection Sections facts.sections at_start [] ws;
+  ordered = collection Ordered facts.ordered at_start [] ws;
+  ties = collection Ties facts.ties at_start [] ws;
+  externals = collection Externals facts.externals at_start [] ws;
 }
+
+-- facts, and what a text declares and says of sets and events
+abbrev pub with_facts : TextFacts → List PlainAt → TextFacts
+with_facts facts ws = with_events (with_sets (with_names facts ws) ws) ws
 
 -- what a text declares, and what it says of sets and events
 abbrev pub facts_of : List PlainAt → TextFacts
-facts_of ws = let names = collection Declared [] at_start [] ws in record {
-  names = names;
-  owned = collection Owned [] at_start [] ws;
-  joined = collection Joined [] at_start [] ws;
-  sections = collection Sections [] at_start [] ws;
-  ordered = collection Ordered [] at_start [] ws;
-  disciplines = collection Disciplines [] at_start [] ws;
-  ties = collection Ties [] at_start [] ws;
-  externals = collection Externals [] at_start [] ws;
-  attributes = attribute_classes names;
-}
+facts_of ws = with_facts no_facts ws
 
 -- a name where it stands, before these words
 abbrev pub standpoint : Here → List ℕ → List ℕ → ℕ → List PlainAt → Standpoint

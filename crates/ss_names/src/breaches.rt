@@ -2,15 +2,15 @@
 ghost use Rattle.std.specs.Prelude.{◌≡◌, ◌++◌, [], None, OnOk, Some, map, option_map};
 ghost use Rattle.ss_words.specs.Plain.{plain_at};
 ghost use Rattle.ss_names.specs.Subjects as spec;
-ghost use Rattle.ss_names.specs.Breaches.{standing_at};
+ghost use Rattle.ss_names.specs.Breaches.{no_facts, standing_at};
 ghost use Rattle.ss_names.specs.Here.{at_start};
 ghost use Rattle.ss_names.specs.Known.{known_at};
 ghost use Rattle.ss_names.specs.Meanings.{declaration_at};
 
 use crate::breach::{Facts, NameRule, Standpoint, Wrong, breaks, rule_of, where_so};
-use crate::collected::{Wanted, collect, here_at};
+use crate::collected::{Wanted, collect_into, here_at};
 use crate::counts::has_wrong_count;
-use crate::declarations::attribute_classes;
+use crate::declarations::add_attribute_classes;
 use crate::here::Here;
 use crate::known::{Known, What, given, known_as, push_known};
 use crate::meaning::Row;
@@ -28,58 +28,39 @@ struct Subject<'a> {
 }
 
 /// Collects what a text declares.
-fn collect_names<'a>(
-    alloc: Global,
-    words: &[PlainWord<'a>],
-    facts: &mut Facts<'a>,
-) -> Result<(), AllocError>
+fn collect_names<'a>(words: &[PlainWord<'a>], facts: &mut Facts<'a>) -> Result<(), AllocError>
     ensures { OnOk result (facts.new ≡ spec.with_names facts.old (map plain_at words.now)) }
 {
-    facts.names = collect(alloc, Wanted::Declared, words)?;
-    facts.attributes = attribute_classes(alloc, &facts.names)?;
-    Ok(())
+    collect_into(Wanted::Declared, words, &mut facts.names)?;
+    add_attribute_classes(&facts.names, &mut facts.attributes)
 }
 
 /// Collects what a text says of sets.
-fn collect_sets<'a>(
-    alloc: Global,
-    words: &[PlainWord<'a>],
-    facts: &mut Facts<'a>,
-) -> Result<(), AllocError>
+fn collect_sets<'a>(words: &[PlainWord<'a>], facts: &mut Facts<'a>) -> Result<(), AllocError>
     ensures { OnOk result (facts.new ≡ spec.with_sets facts.old (map plain_at words.now)) }
 {
-    facts.owned = collect(alloc, Wanted::Owned, words)?;
-    facts.joined = collect(alloc, Wanted::Joined, words)?;
-    facts.disciplines = collect(alloc, Wanted::Disciplines, words)?;
-    Ok(())
+    collect_into(Wanted::Owned, words, &mut facts.owned)?;
+    collect_into(Wanted::Joined, words, &mut facts.joined)?;
+    collect_into(Wanted::Disciplines, words, &mut facts.disciplines)
 }
 
 /// Collects what a text says of events.
-fn collect_events<'a>(
-    alloc: Global,
-    words: &[PlainWord<'a>],
-    facts: &mut Facts<'a>,
-) -> Result<(), AllocError>
+fn collect_events<'a>(words: &[PlainWord<'a>], facts: &mut Facts<'a>) -> Result<(), AllocError>
     ensures { OnOk result (facts.new ≡ spec.with_events facts.old (map plain_at words.now)) }
 {
-    facts.sections = collect(alloc, Wanted::Sections, words)?;
-    facts.ordered = collect(alloc, Wanted::Ordered, words)?;
-    facts.ties = collect(alloc, Wanted::Ties, words)?;
-    facts.externals = collect(alloc, Wanted::Externals, words)?;
-    Ok(())
+    collect_into(Wanted::Sections, words, &mut facts.sections)?;
+    collect_into(Wanted::Ordered, words, &mut facts.ordered)?;
+    collect_into(Wanted::Ties, words, &mut facts.ties)?;
+    collect_into(Wanted::Externals, words, &mut facts.externals)
 }
 
 /// Collects what a text declares and says of sets and events.
-fn collect_facts<'a>(
-    alloc: Global,
-    words: &[PlainWord<'a>],
-    facts: &mut Facts<'a>,
-) -> Result<(), AllocError>
-    ensures { OnOk result (facts.new ≡ spec.facts_of (map plain_at words.now)) }
+fn collect_facts<'a>(words: &[PlainWord<'a>], facts: &mut Facts<'a>) -> Result<(), AllocError>
+    ensures { OnOk result (facts.new ≡ spec.with_facts facts.old (map plain_at words.now)) }
 {
-    collect_names(alloc, words, facts)?;
-    collect_sets(alloc, words, facts)?;
-    collect_events(alloc, words, facts)
+    collect_names(words, facts)?;
+    collect_sets(words, facts)?;
+    collect_events(words, facts)
 }
 
 /// A name where it stands, before these words.
@@ -308,20 +289,19 @@ fn push_subject(
     text.extend_from_slice(wrong_text(subject.wrong))
 }
 
-/// Appends what a breach of a rule on names is about. The facts are lent, so that they are dropped in
-/// one place.
+/// Appends what a breach of a rule on names is about, of facts of nothing that are lent for it.
 fn push_fact_breach<'a>(
-    alloc: Global,
     words: &[PlainWord<'a>],
     rule: NameRule,
     line: usize,
     facts: &mut Facts<'a>,
     text: &mut Vec<u8>,
 ) -> Result<(), AllocError>
+    requires { facts.old ≡ no_facts }
     ensures { OnOk result (text.new.items ≡ text.old.items
         ++ spec.name_breach (map plain_at words.now) line (Some rule)) }
 {
-    collect_facts(alloc, words, facts)?;
+    collect_facts(words, facts)?;
     push_subject(text, facts, first_subject(facts, rule, line, words))
 }
 
@@ -340,7 +320,10 @@ fn push_name_breach(
         return Ok(());
     };
     let mut facts = Facts::new(alloc);
-    push_fact_breach(alloc, words, rule, line, &mut facts, text)
+    let pushed = push_fact_breach(words, rule, line, &mut facts, text);
+    // a drop by a call is not written out
+    drop(facts);
+    pushed
 }
 
 /// Appends what a breach of a rule on statements is about, if it is one.

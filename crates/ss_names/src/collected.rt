@@ -225,8 +225,30 @@ fn collect_word<'a>(
     }
 }
 
-/// The first place of each name that is wanted among the plain words of a text.
+/// Adds the first place of each name that is wanted among the plain words of a text, if it has none.
 #[tactic(auto, unfolding(crate::specs::Collected::collection))]
+pub fn collect_into<'a>(
+    wanted: Wanted,
+    words: &[PlainWord<'a>],
+    found: &mut Declarations<'a>,
+) -> Result<(), AllocError>
+    ensures { OnOk result (found.new
+        ≡ spec.collection wanted found.old at_start [] (map plain_at words.now)) }
+{
+    let mut here = Here::at_start();
+    let mut class: &'a [u8] = b"";
+    let mut rest = words;
+    while let [word, behind @ ..] = rest {
+        let at = here_at(here, word);
+        collect_word(found, wanted, at, class, word, behind)?;
+        class = class_at(at, class, word);
+        here = at.behind(word.kind(), word.line(), behind);
+        rest = behind;
+    }
+    Ok(())
+}
+
+/// The first place of each name that is wanted among the plain words of a text.
 pub fn collect<'a>(
     alloc: Global,
     wanted: Wanted,
@@ -236,15 +258,6 @@ pub fn collect<'a>(
         (λ found. found ≡ spec.collection wanted [] at_start [] (map plain_at words.now)) }
 {
     let mut found = Declarations::new(alloc);
-    let mut here = Here::at_start();
-    let mut class: &'a [u8] = b"";
-    let mut rest = words;
-    while let [word, behind @ ..] = rest {
-        let at = here_at(here, word);
-        collect_word(&mut found, wanted, at, class, word, behind)?;
-        class = class_at(at, class, word);
-        here = at.behind(word.kind(), word.line(), behind);
-        rest = behind;
-    }
+    collect_into(wanted, words, &mut found)?;
     Ok(found)
 }

@@ -1,5 +1,5 @@
 //! Declarations of names, each found by its name.
-ghost use Rattle.std.specs.Prelude.{◌≡◌, ◌<◌, [], is_some, length, option_map, slice_get, IfSome, OnOk, Some};
+ghost use Rattle.std.specs.Prelude.{◌≡◌, ◌<◌, ◌++◌, [], is_some, length, option_map, slice_get, IfSome, OnOk, Some};
 ghost use Rattle.ss_names.specs.Meanings as spec;
 ghost use Rattle.ss_names.specs.Meanings.{declaration_at};
 
@@ -95,23 +95,22 @@ impl<'a> Declarations<'a> {
     }
 }
 
-/// Of each attribute among declarations its class.
-pub fn attribute_classes(
-    alloc: Global,
+/// Appends of each attribute among declarations its class.
+pub fn add_attribute_classes(
     declarations: &Declarations<'_>,
-) -> Result<NameCounts, AllocError>
-    ensures { IfOk result (λ names. names ≡ spec.attribute_classes declarations.now) }
+    names: &mut NameCounts,
+) -> Result<(), AllocError>
+    ensures { OnOk result (names.new ≡ names.old ++ spec.attribute_classes declarations.now) }
 {
-    classes_of(alloc, declarations.rows())
+    add_classes(declarations.rows(), names)
 }
 
-/// Of each attribute among rows its class.
+/// Appends of each attribute among rows its class.
 #[tactic(auto, unfolding(crate::specs::Meanings::attribute_classes))]
-fn classes_of(alloc: Global, rows: &[Row<'_>]) -> Result<NameCounts, AllocError>
-    ensures { IfOk result
-        (λ names. names ≡ spec.attribute_classes (map declaration_at rows.now)) }
+fn add_classes(rows: &[Row<'_>], names: &mut NameCounts) -> Result<(), AllocError>
+    ensures { OnOk result (names.new
+        ≡ names.old ++ spec.attribute_classes (map declaration_at rows.now)) }
 {
-    let mut names = NameCounts::new(alloc);
     let mut rest = rows;
     while let [row, behind @ ..] = rest {
         if is_attribute(row.meaning) {
@@ -119,7 +118,7 @@ fn classes_of(alloc: Global, rows: &[Row<'_>]) -> Result<NameCounts, AllocError>
         }
         rest = behind;
     }
-    Ok(names)
+    Ok(())
 }
 
 fn is_attribute(meaning: Meaning) -> bool
@@ -128,4 +127,4 @@ fn is_attribute(meaning: Meaning) -> bool
     matches!(meaning, Meaning::Attribute)
 }
 
-ghost use Rattle.std.specs.Prelude.{bytes_eq, map, position, IfOk};
+ghost use Rattle.std.specs.Prelude.{bytes_eq, map, position};
