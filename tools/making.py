@@ -1,5 +1,5 @@
-"""What those who make a program have in common: where it stands, whose turn it is, and a copy of the
-sources to make it of."""
+"""What those who make a program have in common: where it stands, whose turn it is, and a copy of
+the sources to make it of."""
 import contextlib
 import fcntl
 import glob
