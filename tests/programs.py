@@ -28,8 +28,10 @@ CODES = [f"{letter}{n}" for letter, most in GREATEST.items() for n in range(1, m
 
 
 def built(name):
-    """Returns the program that the environment names, or else the one that `rt ci` built."""
-    return os.environ.get(NAMED.get(name, "")) or f"{TOP}/crates/{name}/out/{name}"
+    """Returns the program that the environment names, or else the one that stands, as `rt ci` built
+    it or else the checked one."""
+    made = [f"{TOP}/crates/{name}/out/{it}{name}" for it in ("", "checked/")]
+    return os.environ.get(NAMED.get(name, "")) or next(filter(os.path.exists, made), made[0])
 
 
 def started(name):
