@@ -181,10 +181,8 @@ class Tally:
         def why(case):
             try:
                 return call(*case[1:])
-            except AssertionError as error:
-                return str(error)
-            except (LookupError, ValueError, subprocess.SubprocessError) as error:
-                return repr(error)
+            except (AssertionError, LookupError, ValueError, subprocess.SubprocessError) as error:
+                return str(error) if isinstance(error, AssertionError) else repr(error)
 
         cases = list(cases)
         with concurrent.futures.ThreadPoolExecutor(self.jobs) as pool:
