@@ -73,7 +73,8 @@ keys = a_key >>= λ a. other_keys >>= λ ks. pure (record { first = a; others = 
 
 -- the rest of a heading, whose second word this is
 unfoldable pub heading_with : Heading → Mark → Reading Item
-heading_with heading wanted = expect wanted >>= λ _. names_behind (m.Reserved r.Include) >>= λ ns. pure (Headed heading ns)
+heading_with heading wanted =
+    expect wanted >>= λ _. names_behind (m.Reserved r.Include) >>= λ ns. pure (Headed heading ns)
 
 -- behind the names of a DEFINE and its AS, by the next word
 abbrev pub definition_by : Several Name → Option Plain → Reading Definition
