@@ -1,12 +1,11 @@
-"""What scripts of tests share: models and texts that tables note, runs of the built programs, with
-growths and writes refused, and how they count what passed."""
-import atexit
+"""What scripts of tests share: models, texts that tables note, what pages show, runs of the built
+programs, with growths and writes refused, and how they count what passed."""
 import concurrent.futures
+import glob
 import itertools
 import os
 import re
 import shlex
-import shutil
 import subprocess
 import sys
 import tempfile
@@ -15,8 +14,10 @@ import threading
 TOP = os.path.dirname(os.path.dirname(os.path.realpath(__file__)))
 DATA, SCRIPT = f"{TOP}/crates/cases/data", os.path.basename(sys.argv[0])
 # A folder for what the script writes, which is removed at its end.
-ROOM = tempfile.mkdtemp()
-atexit.register(shutil.rmtree, ROOM)
+FOLDER = tempfile.TemporaryDirectory()
+ROOM = FOLDER.name
+# How many cases are tried side by side.
+JOBS = int(os.environ.get("RT_JOBS") or os.cpu_count())
 # The programs that the environment may name.
 NAMED = {"simscript2": "PROGRAM", "ssdb": "PROMPT_PROGRAM", "ssdap": "ADAPTER_PROGRAM"}
 NAMED["ssrun"] = "RUN_PROGRAM"
@@ -35,8 +36,11 @@ def built(name):
 
 
 def started(name):
-    """Returns the program that the environment names, or else the file that starts it."""
-    return os.environ.get(NAMED[name]) or f"{TOP}/{name}"
+    """Returns the program that the environment names, or else the file that starts it, having had
+    it made once, and not by each run."""
+    program = os.environ.get(NAMED[name]) or f"{TOP}/{name}"
+    run([program, "-x"])
+    return program
 
 
 def refusing():
@@ -53,10 +57,15 @@ def refusing():
 
 def read(path, otherwise=b""):
     """Returns the bytes of a file, or these where there is none."""
-    if not os.path.exists(path):
+    if not os.path.isfile(path):
         return otherwise
     with open(path, "rb") as it:
         return it.read()
+
+
+def text_of(path):
+    """Returns the text of a file of the repository, or nothing where there is none."""
+    return read(f"{TOP}/{path}").decode()
 
 
 def write(path, text):
@@ -74,9 +83,15 @@ def own(*texts):
 
 def rows(name):
     """Yields the columns of each row of a table of tests/answers; `#` begins its head."""
-    for line in read(f"{TOP}/tests/answers/{name}").decode().rstrip("\n").split("\n"):
+    for line in text_of(f"tests/answers/{name}").rstrip("\n").split("\n"):
         if not line.startswith("#"):
             yield line.split("\t")
+
+
+def models(*folders):
+    """Returns the paths of the models of these folders, without their ending."""
+    paths = (it for folder in folders for it in sorted(glob.glob(f"{TOP}/{folder}/*.sim")))
+    return [it.removesuffix(".sim") for it in paths]
 
 
 def model_of(path, *parts):
@@ -86,13 +101,25 @@ def model_of(path, *parts):
     return [it if os.path.exists(it) else os.devnull for it in files]
 
 
+def part_of(page, head):
+    """Returns the parts of a page whose head begins so."""
+    return "".join(it for it in text_of(page).split("\n## ") if it.startswith(head))
+
+
+def blocks_of(page, head=""):
+    """Returns the blocks of a page that are set in, each as one text: those below this head, or
+    all."""
+    blocks = re.findall(r"(?:^    .*\n)+", part_of(page, head), re.M)
+    return [re.sub("^    ", "", it, flags=re.M) for it in blocks]
+
+
 def spelled(text):
     """Returns the text that one of a table stands for: '|' is a line end, and '{n x}' is x written
-    n times, with its number, from 0, in place of each '#'."""
+    n times, with its number, from 0, in place of each '#'; of several together, at their right."""
 
     def copies(found):
-        number, it = int(found[1]), found[2]
-        return "".join(it.replace("#", str(i)) for i in range(number)) if "#" in it else number * it
+        number, it = int(found[1]), re.sub("#+", lambda it: f"{{0:{len(it[0])}}}", found[2])
+        return "".join(map(it.format, range(number))) if "#" in found[2] else number * it
 
     while (more := re.sub(r"\{([0-9]+) ([^{}]*)\}", copies, text)) != text:
         text = more
@@ -132,67 +159,52 @@ def differs(wanted, found):
 
 def fits(shown, told):
     """Whether what is told is what is shown, where a line `..` stands for lines left out."""
+    if told == shown:
+        return True
     parts = re.split(rb"^\.\.\n", shown, flags=re.M)
-    return told == shown or re.fullmatch(b"(?:.*\n)*".join(map(re.escape, parts)), told)
+    return re.fullmatch(b"(?:.*\n)*".join(map(re.escape, parts)), told)
 
 
-def calls(program):
-    """Yields the rows of tests/answers/calls.tsv that are of the calling script, with a program."""
+def calls(program, of=SCRIPT):
+    """Yields the calls of a program in tests/answers/calls.tsv, those of the script that runs."""
     for script, name, *call in rows("calls.tsv"):
-        if script == SCRIPT:
-            yield name, program, *call
+        if script == of:
+            yield name, wrong_call, program, *call
 
 
 def wrong_call(program, command, given, status, *shown):
-    """Returns what is wrong with a command: its words are as in a shell, one with a '|' is a text
-    that stands in a file, and TOP, ROOM and PROGRAM stand for these; so it is with its standard
-    input, and with what it is to write and to say."""
+    """Returns what is wrong with a command: its words are as in a shell, one with a '|' or '{' is a
+    text that stands in a file, and TOP, ROOM and PROGRAM stand for these; so they do in what it is
+    to write and to say. Its standard input is a text."""
     named = {"TOP": TOP, "ROOM": ROOM, "PROGRAM": program}
     placed = lambda text: re.sub(r"\b(TOP|ROOM|PROGRAM)\b", lambda it: named[it[0]], text)
     words = shlex.split(command)
-    files = iter(own(*(spelled(it) for it in words if "|" in it)))
-    words = [next(files) if "|" in it else placed(it) for it in words]
-    text = placed(given) if given.startswith("ROOM") else spelled(given).encode()
-    found_status, *found = run(words, text)
+    files = iter(own(*(spelled(it) for it in words if re.search("[|{]", it))))
+    words = [next(files) if re.search("[|{]", it) else placed(it) for it in words]
+    found_status, *found = run(words, spelled(given).encode())
     is_right = all(fits(spelled(placed(it)).encode(), out) for it, out in zip(shown, found))
     is_right = is_right and found_status == int(status)
     return "" if is_right else f"status {found_status}, {str(found)[-600:]}"
 
 
-class Tally:
-    """What passed and what failed of a script's cases."""
-
-    def __init__(self):
-        self.passed, self.failed = 0, 0
-        self.jobs = int(os.environ.get("RT_JOBS") or os.cpu_count())
-
-    def count(self, case, why):
-        """Counts one more that passed, or, where something is wrong with it, that failed."""
-        if not why:
-            self.passed += 1
-            return
-        self.failed += 1
-        print(f"{SCRIPT} {case} FAILED: {why}", flush=True)
-
-    def count_all(self, call, cases):
-        """Counts cases, a few at a time: of what stands behind the name of one the call returns or
-        raises what is wrong."""
-
-        def why(case):
-            try:
-                return call(*case[1:])
-            except (AssertionError, LookupError, ValueError, subprocess.SubprocessError) as error:
-                return str(error) if isinstance(error, AssertionError) else repr(error)
-
-        cases = list(cases)
-        with concurrent.futures.ThreadPoolExecutor(self.jobs) as pool:
-            for case, wrong in zip(cases, pool.map(why, cases)):
-                self.count(case[0], wrong)
+def tried(case):
+    """Returns the name of a case and what is wrong, which it tells, or its call returns or
+    raises."""
+    name, it, *words = case
+    try:
+        return name, it(*words) if callable(it) else it
+    except (AssertionError, LookupError, ValueError, subprocess.SubprocessError) as error:
+        return name, repr(error)
 
 
-def count(main):
-    """Has a script count its cases, prints the last line, and ends with the status."""
-    tally = Tally()
-    main(tally)
-    print(f"{SCRIPT}: {tally.passed} passed, {tally.failed} failed")
-    sys.exit(1 if tally.failed or not tally.passed else 0)
+def count(*parts):
+    """Tries the cases that a script's parts yield, one part behind the other, a few cases at a
+    time, prints those that failed and the last line, and ends with the status."""
+    passed, failed = 0, 0
+    with concurrent.futures.ThreadPoolExecutor(JOBS) as pool:
+        for name, why in (it for part in parts for it in pool.map(tried, part())):
+            if why:
+                print(f"{SCRIPT} {name} FAILED: {why}", flush=True)
+            passed, failed = passed + (not why), failed + bool(why)
+    print(f"{SCRIPT}: {passed} passed, {failed} failed")
+    sys.exit(1 if failed or not passed else 0)
