@@ -4,6 +4,7 @@ import concurrent.futures
 import glob
 import itertools
 import os
+import pathlib
 import re
 import shlex
 import subprocess
@@ -55,12 +56,9 @@ def refusing():
     return file
 
 
-def read(path, otherwise=b""):
-    """Returns the bytes of a file, or these where there is none."""
-    if not os.path.isfile(path):
-        return otherwise
-    with open(path, "rb") as it:
-        return it.read()
+def read(path):
+    """Returns the bytes of a file, or none where there is none."""
+    return pathlib.Path(path).read_bytes() if os.path.isfile(path) else b""
 
 
 def text_of(path):
@@ -70,8 +68,7 @@ def text_of(path):
 
 def write(path, text):
     """Writes a text, or bytes, to a file, and returns its path."""
-    with open(path, "wb") as it:
-        it.write(text if isinstance(text, bytes) else text.encode())
+    pathlib.Path(path).write_bytes(text if isinstance(text, bytes) else text.encode())
     return path
 
 

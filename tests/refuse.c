@@ -11,26 +11,23 @@
                         WRITES_FAIL is set
 
    It says 'growth refused' on standard error where it refuses one, and tells numbers there, a line
-   each. The scripts of tests/ build it and have it loaded before the C library, whose heap serves
-   the rest. It is a tool of the tests, and no part of any crate. */
+   each. tests/programs.py builds it and has it loaded before the C library, whose heap serves the
+   rest. It is a tool of the tests, and no part of any crate. */
 
 typedef __SIZE_TYPE__ size_t;
 
-extern void *__libc_malloc(size_t size);
-extern void *__libc_realloc(void *block, size_t size);
-extern long __write(int file, const void *bytes, size_t count);
-extern char *getenv(const char *name);
-extern long strtol(const char *text, char **end, int base);
-extern int snprintf(char *text, size_t size, const char *format, ...);
-extern int *__errno_location(void);
+void *__libc_malloc(size_t size);
+void *__libc_realloc(void *block, size_t size);
+long __write(int file, const void *bytes, size_t count);
+char *getenv(const char *name);
+long strtol(const char *text, char **end, int base);
+int snprintf(char *text, size_t size, const char *format, ...);
+int *__errno_location(void);
 
 /* The error of a device that has no room. */
 enum { NO_ROOM = 28 };
 
-static long growths = 0;
-static long growths_since_write = 0;
-static long writes = 0;
-static long written = 0;
+static long growths, growths_since_write, writes, written;
 
 /* The number that stands in the environment, or another where none does. */
 static long number_of(const char *name, long otherwise) {
@@ -40,19 +37,16 @@ static long number_of(const char *name, long otherwise) {
 
 /* Whether REFUSED_BEHIND names this growth. */
 static int is_named(void) {
-    const char *text = getenv("REFUSED_BEHIND");
-    while (text != 0 && *text != 0) {
-        char *end;
-        long write = strtol(text, &end, 10);
-        long growth = strtol(end + 1, &end, 10);
-        if (write == writes && growth == growths_since_write) {
-            return 1;
-        }
-        text = end;
+    char *text = getenv("REFUSED_BEHIND");
+    int found = 0;
+    while (text != 0 && *text != 0 && !found) {
+        long write = strtol(text, &text, 10);
+        found = strtol(text + 1, &text, 10) == growths_since_write && write == writes;
     }
-    return 0;
+    return found;
 }
 
+/* Whether a growth is refused, which it counts. */
 static int is_refused(void) {
     static const char told[] = "growth refused\n";
     growths += 1;
@@ -81,20 +75,20 @@ static size_t taken_of(size_t count) {
 }
 
 long write(int file, const void *bytes, size_t count) {
-    size_t taken = count;
-    if (file == 1) {
-        if (getenv("TOLD_WRITES") != 0) {
-            char told[48];
-            __write(2, told, snprintf(told, sizeof told, "%ld\n%zu\n", growths_since_write, count));
-        }
-        growths_since_write = 0;
-        writes += 1;
-        taken = taken_of(count);
-        if (taken == 0 && count > 0) {
-            *__errno_location() = NO_ROOM;
-            return getenv("WRITES_FAIL") != 0 ? -1 : 0;
-        }
-        written += taken;
+    if (file != 1) {
+        return __write(file, bytes, count);
     }
+    if (getenv("TOLD_WRITES") != 0) {
+        char told[48];
+        __write(2, told, snprintf(told, sizeof told, "%ld\n%zu\n", growths_since_write, count));
+    }
+    growths_since_write = 0;
+    writes += 1;
+    size_t taken = taken_of(count);
+    if (taken == 0 && count > 0) {
+        *__errno_location() = NO_ROOM;
+        return getenv("WRITES_FAIL") != 0 ? -1 : 0;
+    }
+    written += taken;
     return __write(file, bytes, taken);
 }
