@@ -19,7 +19,7 @@ FOLDER = tempfile.TemporaryDirectory()
 ROOM = FOLDER.name
 # How many cases are tried side by side.
 JOBS = int(os.environ.get("RT_JOBS") or os.cpu_count())
-# The programs that the environment may name.
+# The programs that the environment may name; where it does not, what stands in the tree is taken.
 NAMED = {"simscript2": "PROGRAM", "ssdb": "PROMPT_PROGRAM", "ssdap": "ADAPTER_PROGRAM"}
 NAMED["ssrun"] = "RUN_PROGRAM"
 # What tests/refuse.c says of a growth that it refuses, and what builds it, by one thread.
@@ -196,7 +196,8 @@ def tried(case):
 
 def count(*parts):
     """Tries the cases that a script's parts yield, one part behind the other, a few cases at a
-    time, prints those that failed and the last line, and ends with the status."""
+    time, prints those that failed and the last line, 'SCRIPT: N passed, M failed', and ends with
+    the status."""
     passed, failed = 0, 0
     with concurrent.futures.ThreadPoolExecutor(JOBS) as pool:
         for name, why in (it for part in parts for it in pool.map(tried, part())):

@@ -24,9 +24,6 @@ long strtol(const char *text, char **end, int base);
 int snprintf(char *text, size_t size, const char *format, ...);
 int *__errno_location(void);
 
-/* The error of a device that has no room. */
-enum { NO_ROOM = 28 };
-
 static long growths, growths_since_write, writes, written;
 
 /* The number that stands in the environment, or another where none does. */
@@ -86,7 +83,7 @@ long write(int file, const void *bytes, size_t count) {
     writes += 1;
     size_t taken = taken_of(count);
     if (taken == 0 && count > 0) {
-        *__errno_location() = NO_ROOM;
+        *__errno_location() = 28; /* the device has no room */
         return getenv("WRITES_FAIL") != 0 ? -1 : 0;
     }
     written += taken;

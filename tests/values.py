@@ -3,6 +3,8 @@ import re
 
 # What says that there is no such thing.
 NONE = re.compile(rb"NO (CLASS|ENTITY|ATTRIBUTE|SET|VARIABLE|EVENTS)\b")
+# What stands before the value in an answer, by the question's first word.
+BEFORE = {b"SET": b": ", b"COUNT": b": ", b"CLOCK": b" ", b"TAKEN": b" ", b"ENTRY": b" "}
 
 
 def value(question, answer):
@@ -16,10 +18,6 @@ def value(question, answer):
         return lines[0]
     if words[0] == b"EVENTS":
         return b", ".join(lines)
-    if words[0] in (b"SET", b"COUNT"):
-        return lines[0].split(b": ", 1)[1]
-    if words[0] in (b"CLOCK", b"TAKEN", b"ENTRY"):
-        return lines[0].split(b" ", 1)[1]
-    if words[0] == b"VAR" or len(words) == 3:
-        return lines[0].split(b" = ", 1)[1]
+    if words[0] in BEFORE or words[0] == b"VAR" or len(words) == 3:
+        return lines[0].split(BEFORE.get(words[0], b" = "), 1)[1]
     return b", ".join(lines[1:]) or b"LIVES"

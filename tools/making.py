@@ -4,7 +4,7 @@ import contextlib
 import fcntl
 import glob
 import os
-import re
+import pathlib
 import shutil
 import signal
 import subprocess
@@ -23,8 +23,8 @@ class Place:
 
     def __init__(self, name, folder):
         self.name, self.folder = name, f"{TOP}/crates/{name}/{folder}"
-        self.program, self.stamp = f"{self.folder}/{name}", f"{self.folder}/built-from"
-        self.log, self.begun = f"{self.folder}/build.log", time.monotonic()
+        self.program, self.stamp = f"{self.folder}/{name}", pathlib.Path(self.folder, "built-from")
+        self.log, self.begun = pathlib.Path(self.folder, "build.log"), time.monotonic()
 
     def tell(self, words):
         """Says something on standard error."""
@@ -41,19 +41,17 @@ class Place:
 
     def has(self, sums):
         """Whether the program stands there, built from these."""
-        with contextlib.suppress(OSError), open(self.stamp, encoding="ascii") as it:
-            return it.read().startswith(sums) and os.access(self.program, os.X_OK)
-        return False
+        is_there = self.stamp.exists() and os.access(self.program, os.X_OK)
+        return is_there and self.stamp.read_text(encoding="ascii").startswith(sums)
 
     def put(self, program, sums):
         """Leaves a program there, whole, and behind it what it was built from."""
-        with open(f"{program}.built-from", "w", encoding="ascii") as it:
-            it.write(sums)
-        with contextlib.suppress(FileNotFoundError):
-            os.remove(self.stamp)
-        for file, path in ((program, self.program), (it.name, self.stamp)):
-            shutil.copy(file, f"{path}.new")
-            os.replace(f"{path}.new", path)
+        self.stamp.unlink(missing_ok=True)
+        shutil.copy(program, f"{self.program}.new")
+        os.replace(f"{self.program}.new", self.program)
+        new = self.stamp.with_suffix(".new")
+        new.write_text(sums, encoding="ascii")
+        new.rename(self.stamp)
 
     @contextlib.contextmanager
     def in_turn(self):
@@ -73,9 +71,8 @@ def copy_of_sources():
     """Gives a folder with a copy of the sources, so that a change of theirs does no harm. It is
     removed at the end, also where the user ends the command; those of commands that were killed are
     removed first."""
-    for path in glob.glob(f"{tempfile.gettempdir()}/simscript2-*-*"):
-        owner = re.match(r"simscript2-(\d+)-", os.path.basename(path))
-        if owner and not os.path.exists(f"/proc/{owner[1]}"):
+    for path in glob.glob(f"{tempfile.gettempdir()}/simscript2-[0-9]*-*"):
+        if not os.path.exists(f"/proc/{path.split('-')[-2]}"):
             shutil.rmtree(path, ignore_errors=True)
     with tempfile.TemporaryDirectory(prefix=f"simscript2-{os.getpid()}-") as room:
 
