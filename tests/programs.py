@@ -123,17 +123,13 @@ def spelled(text):
     return text.replace("|", "\n")
 
 
-def run(words, text=os.devnull, **refused):
-    """Runs a program over its standard input, a file or bytes, with this refused, as tests/refuse.c
-    is told; returns its status, what it wrote and what it said."""
-    how = {"capture_output": True, "cwd": DATA, "check": False, "timeout": 600}
+def run(words, text=b"", **refused):
+    """Runs a program over its standard input, bytes or an open file, with this refused, as
+    tests/refuse.c is told; returns its status, what it wrote and what it said."""
     loaded = {"LD_PRELOAD": refusing()} if refused else {}
-    how["env"] = {"PATH": os.environ["PATH"], **loaded, **refused}
-    if isinstance(text, bytes):
-        ended = subprocess.run(words, input=text, **how)
-    else:
-        with open(text, "rb", buffering=0) as given:
-            ended = subprocess.run(words, stdin=given, **how)
+    how = {"env": {"PATH": os.environ["PATH"], **loaded, **refused}, "cwd": DATA, "timeout": 600}
+    how["input" if isinstance(text, bytes) else "stdin"] = text
+    ended = subprocess.run(words, capture_output=True, check=False, **how)
     return ended.returncode, ended.stdout, ended.stderr
 
 
