@@ -17,8 +17,6 @@ DATA, SCRIPT = f"{TOP}/crates/cases/data", os.path.basename(sys.argv[0])
 # A folder for what the script writes, which is removed at its end.
 FOLDER = tempfile.TemporaryDirectory()
 ROOM = FOLDER.name
-# How many cases are tried side by side.
-JOBS = int(os.environ.get("RT_JOBS") or os.cpu_count())
 # The programs that the environment may name; where it does not, what stands in the tree is taken.
 NAMED = {"simscript2": "PROGRAM", "ssdb": "PROMPT_PROGRAM", "ssdap": "ADAPTER_PROGRAM"}
 NAMED["ssrun"] = "RUN_PROGRAM"
@@ -194,8 +192,8 @@ def count(*parts):
     """Tries the cases that a script's parts yield, one part behind the other, a few cases at a
     time, prints those that failed and the last line, 'SCRIPT: N passed, M failed', and ends with
     the status."""
-    passed, failed = 0, 0
-    with concurrent.futures.ThreadPoolExecutor(JOBS) as pool:
+    passed, failed, jobs = 0, 0, int(os.environ.get("RT_JOBS") or os.cpu_count())
+    with concurrent.futures.ThreadPoolExecutor(jobs) as pool:
         for name, why in (it for part in parts for it in pool.map(tried, part())):
             if why:
                 print(f"{SCRIPT} {name} FAILED: {why}", flush=True)

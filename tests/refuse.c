@@ -32,27 +32,21 @@ static long number_of(const char *name, long otherwise) {
     return text == 0 ? otherwise : strtol(text, 0, 10);
 }
 
-/* Whether REFUSED_BEHIND names this growth. */
-static int is_named(void) {
-    char *text = getenv("REFUSED_BEHIND");
-    int found = 0;
-    while (text != 0 && *text != 0 && !found) {
-        long write = strtol(text, &text, 10);
-        found = strtol(text + 1, &text, 10) == growths_since_write && write == writes;
-    }
-    return found;
-}
-
 /* Whether a growth is refused, which it counts. */
 static int is_refused(void) {
     static const char told[] = "growth refused\n";
     growths += 1;
     growths_since_write += 1;
-    if (number_of("REFUSED_GROWTH", 0) != growths && !is_named()) {
-        return 0;
+    int is_named = number_of("REFUSED_GROWTH", 0) == growths;
+    char *text = getenv("REFUSED_BEHIND");
+    while (text != 0 && *text != 0) {
+        int is_here = strtol(text, &text, 10) == writes;
+        is_named |= strtol(text + 1, &text, 10) == growths_since_write && is_here;
     }
-    __write(2, told, sizeof told - 1);
-    return 1;
+    if (is_named) {
+        __write(2, told, sizeof told - 1);
+    }
+    return is_named;
 }
 
 void *malloc(size_t size) {
