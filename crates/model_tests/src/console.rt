@@ -1,72 +1,73 @@
+ghost use Rattle.std.specs.Prelude.{◌-◌, ◌^◌, ◌<◌};
 ghost use Rattle.model_tests.specs.Counting.{counter_meaning};
 
 mod counter;
 
+use crate::compare::same;
+use crate::entries::tell;
 use counter::Counter;
 use ss_console::{
-    Answerer, Console, Cut, Entry, Go, LONGEST_LINE, MemoryConsole, PutFault, StreamConsole,
-    converse, put_all,
+    Answerer, Console, Cut, Go, LONGEST_LINE, MemoryConsole, PutFault, StreamConsole, converse,
+    put_all,
 };
 use std::alloc::{AllocError, Global};
 use std::io::{self, ErrorKind, Read};
-use std::test::Fail;
+use std::process::Abort;
 
-/// What happened, as a text: lines that were read in angle brackets, and bytes that were written.
-fn told(alloc: Global, entries: &[Entry]) -> Result<Vec<u8>, AllocError> {
-    let mut text = Vec::new(alloc);
-    for entry in entries {
-        match entry {
-            Entry::Read(line) => {
-                text.extend_from_slice(b"<")?;
-                text.extend_from_slice(line)?;
-                text.extend_from_slice(b">")?;
-            }
-            Entry::Wrote(bytes) => text.extend_from_slice(bytes)?,
-        }
-    }
-    Ok(text)
-}
-
-/// A dialogue over memory with a counter, and how it ended.
-fn dialogue(
+/// Holds a dialogue, and compares how it ends.
+fn ends<A: Answerer, C: Console>(
+    rt: &impl Abort,
     alloc: Global,
-    text: &[u8],
-    room: usize,
-    terminal: bool,
-) -> Result<(Result<(), Cut>, Vec<u8>), AllocError> {
-    let mut counter = Counter::new();
-    let mut console = MemoryConsole::new(alloc, text, room, terminal);
-    let mut line = Vec::with_capacity(alloc, LONGEST_LINE + 1)?;
+    answerer: &mut A,
+    console: &mut C,
+    ended: Result<(), Cut>,
+)
+    requires reads { (C.faults console.old).reads < 2 ^ 64 - 1 }
+    requires puts { (C.faults console.old).puts < 2 ^ 64 - 1 }
+{
+    let mut line = Vec::with_capacity(alloc, LONGEST_LINE + 1).expect(rt, "a line");
     let mut answer = Vec::new(alloc);
-    let ended = converse(&mut counter, &mut console, &mut line, &mut answer);
-    let text = told(alloc, console.entries())?;
-    Ok((ended, text))
+    same(rt, converse(answerer, console, &mut line, &mut answer), ended);
+    drop(answer);
+    drop(line);
 }
+
+/// A dialogue over memory: the text that is read, how many bytes are taken, whether prompts are
+/// written, how it ends, and what happens.
+type Dialogue = (&'static [u8], usize, bool, Result<(), Cut>, &'static [u8]);
+
+/// Holds a dialogue over memory, and compares how it ends and what happens.
+fn holds<A: Answerer>(rt: &impl Abort, alloc: Global, answerer: &mut A, dialogue: Dialogue) {
+    let (text, room, terminal, ended, events) = dialogue;
+    let mut console = MemoryConsole::new(alloc, text, room, terminal);
+    ends(rt, alloc, answerer, &mut console, ended);
+    tell(rt, alloc, console.entries(), events);
+    drop(console);
+}
+
+/// Dialogues with a counter.
+const COUNTED: [Dialogue; 8] = [
+    (b"", 100, false, Ok(()), b""),
+    (
+        b"a\n\nb\nQUIT\nc\n",
+        100,
+        false,
+        Ok(()),
+        b"<a>0 a\n<><b>1 b\n<QUIT>",
+    ),
+    (b"a\nb", 100, false, Ok(()), b"<a>0 a\n<b>1 b\n"),
+    (b"a\r\n\n", 100, false, Ok(()), b"<a\r>0 a\r\n<>"),
+    (b"a\nb", 100, true, Ok(()), b"(0) <a>0 a\n(1) <b>1 b\n(2) "),
+    (b"QUIT\n", 100, true, Ok(()), b"(0) <QUIT>"),
+    (b"a\nb", 6, false, Err(Cut::Write), b"<a>0 a\n<b>1 "),
+    (b"a\nb", 2, true, Err(Cut::Write), b"(0"),
+];
 
 #[test]
-fn each_answer_comes_before_the_next_line(rt: HostRuntime) -> Result<(), Fail> {
-    let cases: [(&[u8], usize, bool, Result<(), Cut>, &[u8]); 8] = [
-        (b"", 100, false, Ok(()), b""),
-        (
-            b"a\n\nb\nQUIT\nc\n",
-            100,
-            false,
-            Ok(()),
-            b"<a>0 a\n<><b>1 b\n<QUIT>",
-        ),
-        (b"a\nb", 100, false, Ok(()), b"<a>0 a\n<b>1 b\n"),
-        (b"a\r\n\n", 100, false, Ok(()), b"<a\r>0 a\r\n<>"),
-        (b"a\nb", 100, true, Ok(()), b"(0) <a>0 a\n(1) <b>1 b\n(2) "),
-        (b"QUIT\n", 100, true, Ok(()), b"(0) <QUIT>"),
-        (b"a\nb", 6, false, Err(Cut::Write), b"<a>0 a\n<b>1 "),
-        (b"a\nb", 2, true, Err(Cut::Write), b"(0"),
-    ];
-    for (text, room, terminal, ended, events) in cases {
-        let (how, what) = dialogue(rt.alloc(), text, room, terminal)?;
-        assert_eq!(rt; what.as_slice(), events);
-        assert_eq!(rt; how, ended);
+fn each_answer_comes_before_the_next_line(rt: HostRuntime) {
+    for dialogue in COUNTED {
+        holds(&rt, rt.alloc(), &mut Counter::new(), dialogue);
     }
-    Ok(())
 }
 
 /// A counter for whose answers there is never memory.
@@ -94,35 +95,32 @@ impl Answerer for Refused {
     }
 }
 
+/// A dialogue in which each answer is refused.
+const ALL_REFUSED: Dialogue = (
+    b"a\nb\nQUIT\nc",
+    100,
+    false,
+    Ok(()),
+    b"<a>OUT OF MEMORY\n<b>OUT OF MEMORY\n<QUIT>",
+);
+
 #[test]
-fn a_refused_answer_is_told(rt: HostRuntime) -> Result<(), Fail> {
-    let mut console = MemoryConsole::new(rt.alloc(), b"a\nb\nQUIT\nc", 100, false);
-    let mut line = Vec::with_capacity(rt.alloc(), LONGEST_LINE + 1)?;
-    let mut answer = Vec::new(rt.alloc());
-    let ended = converse(&mut Refused, &mut console, &mut line, &mut answer);
-    assert_eq!(rt; ended, Ok(()));
-    let text = told(rt.alloc(), console.entries())?;
-    assert_eq!(rt;
-        text.as_slice(),
-        b"<a>OUT OF MEMORY\n<b>OUT OF MEMORY\n<QUIT>".as_slice()
-    );
-    Ok(())
+fn a_refused_answer_is_told(rt: HostRuntime) {
+    holds(&rt, rt.alloc(), &mut Refused, ALL_REFUSED);
 }
 
 #[test]
-fn a_long_line_is_cut(rt: HostRuntime) -> Result<(), Fail> {
-    let mut text = Vec::new(rt.alloc());
-    for _ in 0..300 {
-        text.extend_from_slice(b" ")?;
-    }
-    text.extend_from_slice(b"xyz\n")?;
+fn a_long_line_is_cut(rt: HostRuntime) {
+    let mut text = [b' '; 304];
+    text[300..].copy_from_slice(b"xyz\n");
     let mut console = MemoryConsole::new(rt.alloc(), &text, 0, false);
-    let mut line = Vec::with_capacity(rt.alloc(), LONGEST_LINE + 1)?;
-    assert_eq!(rt; console.read_line(&mut line), Ok(true));
-    assert_eq!(rt; line.len(), LONGEST_LINE + 1);
-    assert_eq!(rt; line.last(), Some(&b'x'));
-    assert_eq!(rt; console.read_line(&mut line), Ok(false));
-    Ok(())
+    let mut line = Vec::with_capacity(rt.alloc(), LONGEST_LINE + 1).expect(&rt, "a line");
+    same(&rt, console.read_line(&mut line), Ok(true));
+    same(&rt, line.len(), LONGEST_LINE + 1);
+    same(&rt, line.last(), Some(&b'x'));
+    same(&rt, console.read_line(&mut line), Ok(false));
+    drop(line);
+    drop(console);
 }
 
 /// A reader that gives a few bytes, and then fails.
@@ -142,19 +140,28 @@ impl Read for Broken {
     }
 }
 
+/// Holds a dialogue over a reader, and compares how it ends.
+fn reads<R: Read + Drop>(
+    rt: &impl Abort,
+    alloc: Global,
+    counter: &mut Counter,
+    out: &mut Vec<u8>,
+    reader: R,
+    ended: Result<(), Cut>,
+) {
+    let mut console = StreamConsole::new(reader, out, false);
+    ends(rt, alloc, counter, &mut console, ended);
+    drop(console);
+}
+
 #[test]
-fn streams_are_read_and_written(rt: HostRuntime) -> Result<(), Fail> {
+fn streams_are_read_and_written(rt: HostRuntime) {
     let alloc = rt.alloc();
-    let mut line = Vec::with_capacity(alloc, LONGEST_LINE + 1)?;
-    let mut answer = Vec::new(alloc);
-    let mut out = Vec::new(alloc);
     let mut counter = Counter::new();
-    let mut console = StreamConsole::new(b"a\nb".as_slice(), &mut out, false);
-    let ended = converse(&mut counter, &mut console, &mut line, &mut answer);
-    assert_eq!(rt; ended, Ok(()));
-    let mut console = StreamConsole::new(Broken { left: 3 }, &mut out, false);
-    let ended = converse(&mut counter, &mut console, &mut line, &mut answer);
-    assert_eq!(rt; ended, Err(Cut::Read));
-    assert_eq!(rt; out.as_slice(), b"0 a\n1 b\n2 aa\n".as_slice());
-    Ok(())
+    let mut out = Vec::new(alloc);
+    reads(&rt, alloc, &mut counter, &mut out, b"a\nb".as_slice(), Ok(()));
+    let broken = Broken { left: 3 };
+    reads(&rt, alloc, &mut counter, &mut out, broken, Err(Cut::Read));
+    same(&rt, out.as_slice(), b"0 a\n1 b\n2 aa\n".as_slice());
+    drop(out);
 }

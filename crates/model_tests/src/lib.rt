@@ -12,6 +12,8 @@ mod data;
 #[cfg(test)]
 mod dice;
 #[cfg(test)]
+mod entries;
+#[cfg(test)]
 mod events;
 #[cfg(test)]
 mod journal;

@@ -1,4 +1,6 @@
 //! Runs forward and back, state by state, and calls that are refused memory.
+ghost use Rattle.std.specs.Prelude.{◌<◌};
+
 use crate::compare::same;
 use crate::model::started;
 use ss_links::{LinkedSets, SetBoard};
@@ -7,7 +9,6 @@ use ss_program::Variable;
 use ss_session::drop_machine;
 use ss_words::RunFault;
 use std::alloc::Global;
-use std::fmt::Debug;
 use std::process::Abort;
 
 // Each model is a MAIN; its locals are numbered in the order of their first place.
@@ -35,42 +36,41 @@ fn local<S: SetBoard>(rt: &impl Abort, machine: &Machine<S>, number: usize) -> i
     machine.variable(Variable::Local(number))
 }
 
-// What every part of a state must be.
-#[derive(Clone, Copy)]
-struct Shown<'a> {
-    position: u64,
-    place: usize,
-    locals: &'a [i64],
-    status: Status,
-    report: &'a [u8],
-}
+// The first locals in a state, its status and the report.
+type State = ([i64; 2], Status, &'static [u8]);
 
-// Compares what is at a position, which a message names as well.
-fn same_at<T: PartialEq + Debug + Copy>(rt: &impl Abort, position: u64, found: T, wanted: T) {
-    same(rt, (position, found), (position, wanted));
+// A model, how many locals its MAIN has, and the states of its run: two steps lead from place to
+// place, and a last one stays where it is.
+#[derive(Clone, Copy)]
+struct Run {
+    model: &'static [u8],
+    locals: usize,
+    states: [State; 4],
 }
 
 // Compares the locals with those of a state.
-fn compare_locals<S: SetBoard>(rt: &impl Abort, machine: &Machine<S>, shown: &Shown<'_>) {
-    for (number, &value) in shown.locals.iter().enumerate() {
-        same_at(rt, shown.position, local(rt, machine, number), value);
+fn compare_locals<S: SetBoard>(rt: &impl Abort, machine: &Machine<S>, run: &Run, position: usize)
+    requires { position < 4 }
+{
+    let (locals, _, _) = run.states[position];
+    for number in 0..run.locals {
+        let value = local(rt, machine, number);
+        same(rt, (position, Some(value)), (position, locals.get(number).copied()));
     }
 }
 
-// Compares the position and the place with those of a state, and the time with 0.
-fn compare_place<S: SetBoard>(rt: &impl Abort, machine: &Machine<S>, shown: &Shown<'_>) {
-    let position = shown.position;
-    same(rt, machine.position(), position);
-    same_at(rt, position, machine.place(), (0, shown.place));
-    same_at(rt, position, machine.clock(), 0);
-    same_at(rt, position, machine.variable(Variable::Clock), 0);
-}
-
-fn compare<S: SetBoard>(rt: &impl Abort, machine: &Machine<S>, shown: &Shown<'_>) {
-    compare_place(rt, machine, shown);
-    compare_locals(rt, machine, shown);
-    same_at(rt, shown.position, machine.report(), shown.report);
-    same_at(rt, shown.position, machine.status(), shown.status);
+// Compares all that is seen at a position with a state, and the time with 0.
+fn compare<S: SetBoard>(rt: &impl Abort, machine: &Machine<S>, run: &Run, position: usize)
+    requires { position < 4 }
+{
+    let (_, status, report) = run.states[position];
+    let place = (0, position.min(2));
+    same(rt, (machine.position(), machine.place()), (position as u64, place));
+    let clock = machine.variable(Variable::Clock);
+    same(rt, (position, machine.clock(), clock), (position, 0, 0));
+    let ended = (machine.status(), machine.report());
+    same(rt, (position, ended), (position, (status, report)));
+    compare_locals(rt, machine, run, position);
 }
 
 // One step, which moves or is at the end.
@@ -80,32 +80,41 @@ fn steps<S: SetBoard>(rt: &impl Abort, machine: &mut Machine<S>, wanted: Stepped
 }
 
 // A step that was refused memory changed nothing; makes it again.
-fn step_again<S: SetBoard>(rt: &(impl Abort + Print), machine: &mut Machine<S>, from: &Shown<'_>) {
-    compare(rt, machine, from);
-    println!(rt; "memory was refused at position {}", from.position).expect(rt, "a line");
+fn step_again<S: SetBoard>(
+    rt: &(impl Abort + Print),
+    machine: &mut Machine<S>,
+    run: &Run,
+    position: usize,
+)
+    requires { position < 4 }
+{
+    compare(rt, machine, run, position);
+    println!(rt; "memory was refused at position {position}").expect(rt, "a line");
     steps(rt, machine, Stepped::Moved);
 }
 
-// One step from a state to the next; one that is refused memory is made again.
+// One step from a position; one that is refused memory is made again.
 fn step<S: SetBoard>(
     rt: &(impl Abort + Print),
     machine: &mut Machine<S>,
-    from: &Shown<'_>,
-    to: &Shown<'_>,
-) {
-    compare(rt, machine, from);
+    run: &Run,
+    position: usize,
+)
+    requires { position < 3 }
+{
+    compare(rt, machine, run, position);
     match machine.step() {
         Ok(stepped) => same(rt, stepped, Stepped::Moved),
-        Err(_) => step_again(rt, machine, from),
+        Err(_) => step_again(rt, machine, run, position),
     }
-    compare(rt, machine, to);
+    compare(rt, machine, run, position + 1);
 }
 
 // All states of a run, back to the start.
-fn back_to_start<S: SetBoard>(rt: &impl Abort, machine: &mut Machine<S>, run: &[Shown<'_>]) {
-    for shown in run.iter().rev().skip(1) {
+fn back_to_start<S: SetBoard>(rt: &impl Abort, machine: &mut Machine<S>, run: &Run) {
+    for back in 0..3 {
         same(rt, machine.back(), true);
-        compare(rt, machine, shown);
+        compare(rt, machine, run, 2 - back);
     }
     same(rt, machine.back(), false);
 }
@@ -114,82 +123,69 @@ fn back_to_start<S: SetBoard>(rt: &impl Abort, machine: &mut Machine<S>, run: &[
 fn forth_and_back<S: SetBoard>(
     rt: &(impl Abort + Print),
     machine: &mut Machine<S>,
-    run: &[Shown<'_>],
+    run: &Run,
 ) {
-    for pair in run.windows(2) {
-        step(rt, machine, &pair[0], &pair[1]);
+    for position in 0..3 {
+        step(rt, machine, run, position);
     }
     steps(rt, machine, Stepped::AtEnd);
     back_to_start(rt, machine, run);
 }
 
-// All states of a run, forward, back to the start, and forward and back again.
-fn forth_and_back_twice<S: SetBoard>(
-    rt: &(impl Abort + Print),
-    machine: &mut Machine<S>,
-    run: &[Shown<'_>],
-) {
-    forth_and_back(rt, machine, run);
-    forth_and_back(rt, machine, run);
-}
-
-// The same with a machine at the start of a model's run.
-fn there_and_back(rt: &(impl Abort + Print), alloc: Global, model: &[u8], run: &[Shown<'_>]) {
-    let mut machine = start(rt, alloc, model);
-    forth_and_back_twice(rt, &mut machine, run);
+// The same with a machine at the start of the run, and once more.
+fn there_and_back(rt: &(impl Abort + Print), alloc: Global, run: &Run) {
+    let mut machine = start(rt, alloc, run.model);
+    forth_and_back(rt, &mut machine, run);
+    forth_and_back(rt, &mut machine, run);
     drop_machine(machine);
 }
 
-// State number 0 to 3 of a run of two steps and a last one that stays where it is, with nothing
-// printed.
-fn silent(position: u64, locals: &[i64], status: Status) -> Shown<'_> {
-    Shown {
-        position,
-        place: position.min(2) as usize,
-        locals,
-        status,
-        report: b"".as_slice(),
-    }
-}
+const OVERFLOW: Status = Status::Faulted(RunFault::OutOfRange);
+
+const FIVE_RUN: Run = Run {
+    model: FIVE,
+    locals: 1,
+    states: [
+        ([0, 0], Status::Ready, b""),
+        ([5, 0], Status::Ready, b""),
+        ([5, 0], Status::Ready, b"X =   5\n"),
+        ([5, 0], Status::Stopped, b"X =   5\n"),
+    ],
+};
 
 #[test]
 fn five_is_printed_and_taken_back(rt: HostRuntime) {
-    let printed = b"X =   5\n".as_slice();
-    let run = [
-        silent(0, [0].as_slice(), Status::Ready),
-        silent(1, [5].as_slice(), Status::Ready),
-        Shown {
-            report: printed,
-            ..silent(2, [5].as_slice(), Status::Ready)
-        },
-        Shown {
-            report: printed,
-            ..silent(3, [5].as_slice(), Status::Stopped)
-        },
-    ];
-    there_and_back(&rt, rt.alloc(), FIVE, &run);
+    there_and_back(&rt, rt.alloc(), &FIVE_RUN);
 }
+
+const GREATEST_RUN: Run = Run {
+    model: GREATEST,
+    locals: 2,
+    states: [
+        ([0, 0], Status::Ready, b""),
+        ([i64::MAX, 0], Status::Ready, b""),
+        ([i64::MAX, 7], Status::Ready, b""),
+        ([i64::MAX, 7], OVERFLOW, b""),
+    ],
+};
 
 #[test]
 fn the_greatest_integer_plus_one_faults(rt: HostRuntime) {
-    let faulted = Status::Faulted(RunFault::OutOfRange);
-    let run = [
-        silent(0, [0, 0].as_slice(), Status::Ready),
-        silent(1, [i64::MAX, 0].as_slice(), Status::Ready),
-        silent(2, [i64::MAX, 7].as_slice(), Status::Ready),
-        silent(3, [i64::MAX, 7].as_slice(), faulted),
-    ];
-    there_and_back(&rt, rt.alloc(), GREATEST, &run);
+    there_and_back(&rt, rt.alloc(), &GREATEST_RUN);
 }
+
+const PRODUCTS_RUN: Run = Run {
+    model: PRODUCTS,
+    locals: 2,
+    states: [
+        ([0, 0], Status::Ready, b""),
+        ([3_037_000_500, 0], Status::Ready, b""),
+        ([3_037_000_500, 6_074_001_007], Status::Ready, b""),
+        ([3_037_000_500, 6_074_001_007], OVERFLOW, b""),
+    ],
+};
 
 #[test]
 fn a_product_within_a_sum_faults(rt: HostRuntime) {
-    let faulted = Status::Faulted(RunFault::OutOfRange);
-    let run = [
-        silent(0, [0, 0].as_slice(), Status::Ready),
-        silent(1, [3_037_000_500, 0].as_slice(), Status::Ready),
-        silent(2, [3_037_000_500, 6_074_001_007].as_slice(), Status::Ready),
-        silent(3, [3_037_000_500, 6_074_001_007].as_slice(), faulted),
-    ];
-    there_and_back(&rt, rt.alloc(), PRODUCTS, &run);
+    there_and_back(&rt, rt.alloc(), &PRODUCTS_RUN);
 }

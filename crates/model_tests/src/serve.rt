@@ -1,11 +1,14 @@
+ghost use Rattle.std.specs.Prelude.{◌≤◌, length};
+
 mod echo;
 
+use crate::compare::same;
+use crate::entries::tell;
 use echo::Echo;
-use ss_console::Entry;
 use ss_serve::{MemoryChannel, SessionFault, StreamChannel, serve};
-use std::alloc::{AllocError, Global};
+use std::alloc::Global;
 use std::io::{self, ErrorKind, Read};
-use std::test::Fail;
+use std::process::Abort;
 
 /// A request, and what answers it where it is the first, in angle brackets.
 const ASKED: &[u8] = b"Content-Length: 29\r\n\r\n{\"seq\":1,\"command\":\"threads\"}";
@@ -24,100 +27,84 @@ const LEFT: &[u8] =
     \"request_seq\":2,\"command\":\"disconnect\",\"success\":true,\"body\":1}";
 
 /// Some texts, one after the other.
-fn joined(alloc: Global, texts: &[&[u8]]) -> Result<Vec<u8>, AllocError> {
+fn joined(rt: &impl Abort, alloc: Global, texts: &[&[u8]]) -> Vec<u8> {
     let mut all = Vec::new(alloc);
     for text in texts {
-        all.extend_from_slice(text)?;
+        all.extend_from_slice(text).expect(rt, "room");
     }
-    Ok(all)
+    all
 }
 
-/// What happened, as a text: bodies that were read in angle brackets, and bytes that were written.
-fn told(alloc: Global, entries: &[Entry]) -> Result<Vec<u8>, AllocError> {
-    let mut text = Vec::new(alloc);
-    for entry in entries {
-        match entry {
-            Entry::Read(body) => {
-                text.extend_from_slice(b"<")?;
-                text.extend_from_slice(body)?;
-                text.extend_from_slice(b">")?;
-            }
-            Entry::Wrote(bytes) => text.extend_from_slice(bytes)?,
-        }
-    }
-    Ok(text)
-}
-
-/// A session over memory, and how it ended.
-fn session(
+/// Holds a session over memory, and compares how it ends and what happens.
+fn holds(
+    rt: &impl Abort,
     alloc: Global,
     text: &[u8],
     room: usize,
-) -> Result<(Result<(), SessionFault>, Vec<u8>), AllocError> {
+    ended: Result<(), SessionFault>,
+    events: &[u8],
+) {
     let mut channel = MemoryChannel::new(alloc, text, room);
-    let ended = serve(alloc, &mut Echo::new(), &mut channel);
-    let text = told(alloc, channel.entries())?;
-    Ok((ended, text))
+    same(rt, serve(alloc, &mut Echo::new(), &mut channel), ended);
+    tell(rt, alloc, channel.entries(), events);
+    drop(channel);
+}
+
+/// The same of texts and events in pieces.
+fn answers(
+    rt: &impl Abort,
+    alloc: Global,
+    texts: &[&[u8]],
+    room: usize,
+    ended: Result<(), SessionFault>,
+    events: &[&[u8]],
+) {
+    let text = joined(rt, alloc, texts);
+    let events = joined(rt, alloc, events);
+    holds(rt, alloc, &text, room, ended, &events);
+    drop(events);
+    drop(text);
 }
 
 #[test]
-fn each_request_is_answered_before_the_next(rt: HostRuntime) -> Result<(), Fail> {
+fn each_request_is_answered_before_the_next(rt: HostRuntime) {
     let alloc = rt.alloc();
-    let both = joined(alloc, &[ASKED, ENDED])?;
-    let more = joined(alloc, &[ASKED, ENDED, ASKED])?;
-    let done = joined(alloc, &[ANSWERED, LEFT])?;
-    let spoiled = joined(alloc, &[ASKED, b"\n"])?;
-    let cases: [(&[u8], usize, Result<(), SessionFault>, &[u8]); 8] = [
-        (b"", 1_000, Ok(()), b""),
-        (ASKED, 1_000, Ok(()), ANSWERED),
-        (&both, 1_000, Ok(()), &done),
-        (&more, 1_000, Ok(()), &done),
-        (&spoiled, 1_000, Err(SessionFault::NoRequest), ANSWERED),
-        (b"\r\n", 1_000, Err(SessionFault::NoRequest), b""),
-        (
-            b"Content-Length: 2\n\n{}",
-            1_000,
-            Err(SessionFault::NoRequest),
-            b"<{}>",
-        ),
-        (
-            ASKED,
-            7,
-            Err(SessionFault::CannotWrite),
-            b"<{\"seq\":1,\"command\":\"threads\"}>Content",
-        ),
-    ];
-    for (text, room, ended, events) in cases {
-        let (how, what) = session(alloc, text, room)?;
-        assert_eq!(rt; what.as_slice(), events);
-        assert_eq!(rt; how, ended);
-    }
-    Ok(())
+    let refused = Err(SessionFault::NoRequest);
+    answers(&rt, alloc, &[], 1_000, Ok(()), &[]);
+    answers(&rt, alloc, &[ASKED], 1_000, Ok(()), &[ANSWERED]);
+    let done = &[ANSWERED, LEFT];
+    answers(&rt, alloc, &[ASKED, ENDED], 1_000, Ok(()), done);
+    answers(&rt, alloc, &[ASKED, ENDED, ASKED], 1_000, Ok(()), done);
+    answers(&rt, alloc, &[ASKED, b"\n"], 1_000, refused, &[ANSWERED]);
+    answers(&rt, alloc, &[b"\r\n"], 1_000, refused, &[]);
+    let unasked = b"Content-Length: 2\n\n{}";
+    answers(&rt, alloc, &[unasked], 1_000, refused, &[b"<{}>"]);
+    let begun = b"<{\"seq\":1,\"command\":\"threads\"}>Content";
+    let full = Err(SessionFault::CannotWrite);
+    answers(&rt, alloc, &[ASKED], 7, full, &[begun]);
+}
+
+/// Cuts a stream of two requests, and compares how the session ends and what happens.
+fn cuts(rt: &impl Abort, alloc: Global, both: &[u8], cut: usize)
+    requires { cut ≤ length both.now }
+{
+    let ended = if cut == 0 || cut == ASKED.len() {
+        Ok(())
+    } else {
+        Err(SessionFault::CannotRead)
+    };
+    let events = if cut < ASKED.len() { b"".as_slice() } else { ANSWERED };
+    holds(rt, alloc, &both[..cut], 1_000, ended, events);
 }
 
 #[test]
-fn a_stream_is_cut_anywhere(rt: HostRuntime) -> Result<(), Fail> {
+fn a_stream_is_cut_anywhere(rt: HostRuntime) {
     let alloc = rt.alloc();
-    let both = joined(alloc, &[ASKED, ENDED])?;
+    let both = joined(&rt, alloc, &[ASKED, ENDED]);
     for cut in 0..both.len() {
-        let (how, what) = session(alloc, &both[..cut], 1_000)?;
-        let whole = cut == 0 || cut == ASKED.len();
-        assert_eq!(rt;
-            how,
-            if whole {
-                Ok(())
-            } else {
-                Err(SessionFault::CannotRead)
-            }
-        );
-        let events = if cut < ASKED.len() {
-            b"".as_slice()
-        } else {
-            ANSWERED
-        };
-        assert_eq!(rt; what.as_slice(), events);
+        cuts(&rt, alloc, &both, cut);
     }
-    Ok(())
+    drop(both);
 }
 
 /// A reader that gives a byte at a time, and is interrupted before each; in the end it fails, where
@@ -147,22 +134,23 @@ impl Read for Slow<'_> {
     }
 }
 
+/// Holds a session over a slow reader, and compares how it ends and what is written.
+fn reads_slowly(rt: &impl Abort, alloc: Global, fails: bool, ended: Result<(), SessionFault>) {
+    let reader = Slow {
+        text: ASKED,
+        interrupted: false,
+        fails,
+    };
+    let mut out = Vec::new(alloc);
+    let mut channel = StreamChannel::new(alloc, reader, &mut out);
+    same(rt, serve(alloc, &mut Echo::new(), &mut channel), ended);
+    drop(channel);
+    same(rt, out.as_slice(), &ANSWERED[31..]);
+    drop(out);
+}
+
 #[test]
-fn streams_are_read_in_any_pieces(rt: HostRuntime) -> Result<(), Fail> {
-    let alloc = rt.alloc();
-    let answer = &ANSWERED[31..];
-    let cases = [(false, Ok(())), (true, Err(SessionFault::CannotRead))];
-    for (fails, ended) in cases {
-        let reader = Slow {
-            text: ASKED,
-            interrupted: false,
-            fails,
-        };
-        let mut out = Vec::new(alloc);
-        let mut channel = StreamChannel::new(alloc, reader, &mut out);
-        assert_eq!(rt; serve(alloc, &mut Echo::new(), &mut channel), ended);
-        drop(channel);
-        assert_eq!(rt; out.as_slice(), answer);
-    }
-    Ok(())
+fn streams_are_read_in_any_pieces(rt: HostRuntime) {
+    reads_slowly(&rt, rt.alloc(), false, Ok(()));
+    reads_slowly(&rt, rt.alloc(), true, Err(SessionFault::CannotRead));
 }

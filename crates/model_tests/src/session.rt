@@ -1,4 +1,6 @@
 //! Whole sessions whose outlet fails or whose memory is refused, and what each session ends with.
+ghost use Rattle.std.specs.Prelude.{◌≡◌};
+
 use crate::compare::same;
 use ss_session::{End, Outlet, PutFault, SessionFault, session};
 use std::alloc::Global;
@@ -51,57 +53,58 @@ const FAULTED: &str = "MAIN\nLET X = 9223372036854775807\nADD 1 TO X\nEND\n";
 const FAULTED_ANSWERS: &str = "HALTED: STATE 2 CLOCK 0 FAULT F1 IN MAIN LINE 3\n\
     X = 9223372036854775807\nREPORT\n";
 
-/// Compares how a session ends, and how many calls of its outlet failed.
-fn ends_after_failures(
-    rt: &impl Abort,
-    end: Result<End, SessionFault>,
-    wanted: Result<End, SessionFault>,
-    failures: u64,
-    count: u64,
-) {
-    same(rt, end, wanted);
-    same(rt, failures, count);
+/// Runs a session without data over an outlet of which no call failed.
+fn run<O: Outlet>(
+    alloc: Global,
+    model: &str,
+    commands: &str,
+    out: &mut O,
+) -> Result<End, SessionFault>
+    requires { O.failures out.old ≡ 0 }
+{
+    session(alloc, model.as_bytes(), b"", commands.as_bytes(), out)
 }
 
-/// Runs a session over an outlet that takes `room` bytes, and compares what it took: all where
-/// there is room for it, else the first bytes, and the session ends with Write after one failure.
-fn cut<R: Abort + AllocGlobal>(
-    rt: &R,
-    model: &str,
-    whole: &str,
-    wanted: Result<End, SessionFault>,
-    piece: usize,
-    room: usize,
-    fails: bool,
-) {
-    let mut out = Narrow {
-        bytes: Vec::new(rt.alloc()),
-        piece,
-        room,
-        fails,
-        failures: 0,
-    };
-    let end = session(rt.alloc(), model.as_bytes(), b"", SOME.as_bytes(), &mut out);
-    let count = room.min(whole.len());
-    same(rt, out.bytes.as_slice(), &whole.as_bytes()[..count]);
-    if room < whole.len() {
-        ends_after_failures(rt, end, Err(SessionFault::Write), out.failures, 1);
+/// A model, all that a session over it writes, and how that ends.
+type Session = (&'static str, &'static str, Result<End, SessionFault>);
+
+const DONE: Session = (FIVE, SOME_ANSWERS, Ok(End::Done));
+
+const OF_REFUSED: Session = (REFUSED, REFUSAL, Err(SessionFault::Text));
+
+const OF_UNFIT: Session = (UNFIT, UNFIT_ANSWER, Err(SessionFault::Check));
+
+const OF_FAULTED: Session = (FAULTED, FAULTED_ANSWERS, Ok(End::RunFault));
+
+/// Runs a session over an outlet, and compares what it took: all where there is room for it, else
+/// the first bytes, and the session ends with Write after one failure.
+fn cut(rt: &impl Abort, alloc: Global, out: &mut Narrow, of: Session)
+    requires { out.old.failures ≡ 0 }
+{
+    let (model, whole, wanted) = of;
+    let count = out.room.min(whole.len());
+    let ended = if count < whole.len() {
+        (Err(SessionFault::Write), 1)
     } else {
-        ends_after_failures(rt, end, wanted, out.failures, 0);
-    }
+        (wanted, 0)
+    };
+    let end = run(alloc, model, SOME, out);
+    same(rt, out.bytes.as_slice(), &whole.as_bytes()[..count]);
+    same(rt, (end, out.failures), ended);
 }
 
-/// The same with each number of bytes up to all.
-fn cut_everywhere<R: Abort + AllocGlobal>(
-    rt: &R,
-    model: &str,
-    whole: &str,
-    wanted: Result<End, SessionFault>,
-    piece: usize,
-    fails: bool,
-) {
-    for room in 0..whole.len() + 1 {
-        cut(rt, model, whole, wanted, piece, room, fails);
+/// The same with an outlet of each number of bytes up to all.
+fn cut_everywhere(rt: &impl Abort, alloc: Global, of: Session, piece: usize, fails: bool) {
+    for room in 0..of.1.len() + 1 {
+        let mut out = Narrow {
+            bytes: Vec::new(alloc),
+            piece,
+            room,
+            fails,
+            failures: 0,
+        };
+        cut(rt, alloc, &mut out, of);
+        drop(out);
     }
 }
 
@@ -109,9 +112,8 @@ fn cut_everywhere<R: Abort + AllocGlobal>(
 fn a_write_that_fails_leaves_a_prefix(rt: HostRuntime) {
     for piece in [1, 7, 512] {
         for fails in [true, false] {
-            cut_everywhere(&rt, FIVE, SOME_ANSWERS, Ok(End::Done), piece, fails);
-            let refused = Err(SessionFault::Text);
-            cut_everywhere(&rt, REFUSED, REFUSAL, refused, piece, fails);
+            cut_everywhere(&rt, rt.alloc(), DONE, piece, fails);
+            cut_everywhere(&rt, rt.alloc(), OF_REFUSED, piece, fails);
         }
     }
 }
@@ -144,50 +146,49 @@ impl Outlet for FailsOnce {
     }
 }
 
-/// Runs a session over an outlet whose call `fails_at` fails, compares how it ends and how many
-/// calls there were, and gives the bytes.
-fn fail_once<R: Abort + AllocGlobal>(
-    rt: &R,
-    model: &str,
-    fails_at: u64,
-    wanted: Result<End, SessionFault>,
-    calls: u64,
-) -> Vec<u8> {
+/// Runs a session over an outlet. Behind a call that fails, whichever of the session's calls it is,
+/// there is none, although the outlet would take all again.
+fn fail_once(rt: &impl Abort, alloc: Global, out: &mut FailsOnce, of: Session, calls: u64)
+    requires { out.old.failures ≡ 0 }
+{
+    let (model, whole, wanted) = of;
+    let fails_at = out.fails_at;
+    let end = run(alloc, model, SOME, out);
+    if fails_at < calls {
+        same(rt, (end, out.calls), (Err(SessionFault::Write), fails_at + 1));
+        same(rt, whole.as_bytes().starts_with(&out.bytes), true);
+    } else {
+        same(rt, (end, out.calls), (wanted, calls));
+        same(rt, out.bytes.as_slice(), whole.as_bytes());
+    }
+}
+
+/// The same with a new outlet.
+fn fails_once(rt: &impl Abort, alloc: Global, of: Session, fails_at: u64, calls: u64) {
     let mut out = FailsOnce {
-        bytes: Vec::new(rt.alloc()),
+        bytes: Vec::new(alloc),
         calls: 0,
         fails_at,
         failures: 0,
     };
-    let end = session(rt.alloc(), model.as_bytes(), b"", SOME.as_bytes(), &mut out);
-    same(rt, end, wanted);
-    same(rt, out.calls, calls);
-    out.bytes
+    fail_once(rt, alloc, &mut out, of, calls);
+    drop(out);
 }
 
-/// Behind the one call that fails, whichever of the session's calls it is, there is none, although
-/// the outlet would take all again.
-fn put_ends<R: Abort + AllocGlobal>(
-    rt: &R,
-    model: &str,
-    whole: &str,
-    wanted: Result<End, SessionFault>,
-    calls: u64,
-) {
+/// The same whichever of the session's calls fails, and where none does.
+fn put_ends(rt: &impl Abort, alloc: Global, of: Session, calls: u64) {
     for fails_at in 0..calls {
-        let bytes = fail_once(rt, model, fails_at, Err(SessionFault::Write), fails_at + 1);
-        same(rt, whole.as_bytes().starts_with(&bytes), true);
+        fails_once(rt, alloc, of, fails_at, calls);
     }
-    let bytes = fail_once(rt, model, calls, wanted, calls);
-    same(rt, bytes.as_slice(), whole.as_bytes());
+    fails_once(rt, alloc, of, calls, calls);
 }
 
 #[test]
 fn nothing_is_put_after_a_failure(rt: HostRuntime) {
-    put_ends(&rt, FIVE, SOME_ANSWERS, Ok(End::Done), 4);
-    put_ends(&rt, REFUSED, REFUSAL, Err(SessionFault::Text), 1);
-    put_ends(&rt, UNFIT, UNFIT_ANSWER, Err(SessionFault::Check), 1);
-    put_ends(&rt, FAULTED, FAULTED_ANSWERS, Ok(End::RunFault), 3);
+    put_ends(&rt, rt.alloc(), DONE, 4);
+    put_ends(&rt, rt.alloc(), OF_REFUSED, 1);
+    put_ends(&rt, rt.alloc(), OF_UNFIT, 1);
+    put_ends(&rt, rt.alloc(), OF_FAULTED, 3);
 }
 
 /// Commands over the model of five that make the journal, the report and the answers grow.
@@ -221,8 +222,8 @@ fn count_whole(bytes: &[u8], answers: &[&str]) -> Option<usize> {
 }
 
 /// An outlet that has its room from the start, so that the session alone takes memory.
-fn roomy<R: Abort + AllocGlobal>(rt: &R) -> Narrow {
-    let mut bytes = Vec::new(rt.alloc());
+fn roomy(rt: &impl Abort, alloc: Global) -> Narrow {
+    let mut bytes = Vec::new(alloc);
     if bytes.try_reserve(512).is_err() {
         same(rt, bytes.try_reserve(512).is_ok(), true);
     }
@@ -238,7 +239,7 @@ fn roomy<R: Abort + AllocGlobal>(rt: &R) -> Narrow {
 /// Runs the session whose answers and report grow.
 fn grow(alloc: Global, out: &mut Narrow) -> Result<End, SessionFault> {
     out.failures = 0;
-    session(alloc, FIVE.as_bytes(), b"", GROWING.as_bytes(), out)
+    run(alloc, FIVE, GROWING, out)
 }
 
 /// Runs that session again where it ended with Memory, having written the whole answers of the
@@ -262,7 +263,7 @@ fn grow_again(
 /// answers of the first lines, and the same session run again writes all.
 #[test]
 fn a_refused_growth_leaves_whole_answers(rt: HostRuntime) {
-    let mut out = roomy(&rt);
+    let mut out = roomy(&rt, rt.alloc());
     let end = grow(rt.alloc(), &mut out);
     let end = grow_again(&rt, rt.alloc(), &mut out, end);
     same(&rt, end, Ok(End::Done));
