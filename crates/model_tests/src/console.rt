@@ -1,4 +1,4 @@
-ghost use Rattle.std.specs.Prelude.{◌-◌, ◌^◌, ◌<◌};
+ghost use Rattle.std.specs.Prelude.{◌≡◌, ◌-◌, ◌^◌, ◌<◌};
 ghost use Rattle.model_tests.specs.Counting.{counter_meaning};
 
 mod counter;
@@ -65,8 +65,8 @@ const COUNTED: [Dialogue; 8] = [
 
 #[test]
 fn each_answer_comes_before_the_next_line(rt: HostRuntime) {
-    for dialogue in COUNTED {
-        holds(&rt, rt.alloc(), &mut Counter::new(), dialogue);
+    for dialogue in &COUNTED {
+        holds(&rt, rt.alloc(), &mut Counter::new(), *dialogue);
     }
 }
 
@@ -109,17 +109,23 @@ fn a_refused_answer_is_told(rt: HostRuntime) {
     holds(&rt, rt.alloc(), &mut Refused, ALL_REFUSED);
 }
 
+/// Reads the one line of a console, which is cut behind an x.
+fn cuts(rt: &impl Abort, alloc: Global, console: &mut MemoryConsole<'_>)
+    requires { console.old.read_faults ≡ 0 }
+{
+    let mut line = Vec::with_capacity(alloc, LONGEST_LINE + 1).expect(rt, "a line");
+    same(rt, console.read_line(&mut line), Ok(true));
+    same(rt, (line.len(), line.last()), (LONGEST_LINE + 1, Some(&b'x')));
+    same(rt, console.read_line(&mut line), Ok(false));
+    drop(line);
+}
+
 #[test]
 fn a_long_line_is_cut(rt: HostRuntime) {
     let mut text = [b' '; 304];
     text[300..].copy_from_slice(b"xyz\n");
     let mut console = MemoryConsole::new(rt.alloc(), &text, 0, false);
-    let mut line = Vec::with_capacity(rt.alloc(), LONGEST_LINE + 1).expect(&rt, "a line");
-    same(&rt, console.read_line(&mut line), Ok(true));
-    same(&rt, line.len(), LONGEST_LINE + 1);
-    same(&rt, line.last(), Some(&b'x'));
-    same(&rt, console.read_line(&mut line), Ok(false));
-    drop(line);
+    cuts(&rt, rt.alloc(), &mut console);
     drop(console);
 }
 

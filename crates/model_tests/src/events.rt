@@ -5,7 +5,7 @@ mod plain;
 mod rules;
 mod steps;
 
-ghost use Rattle.std.specs.Prelude.{◌≡◌, []};
+ghost use Rattle.std.specs.Prelude.{◌≡◌, ◌<◌, []};
 ghost use Rattle.ss_journal.specs.Undoing.{FitsSteps};
 ghost use Rattle.ss_events.specs.Changes.{Fits, unapply};
 ghost use Rattle.ss_links.specs.Board.{empty_board};
@@ -44,8 +44,9 @@ const ORDERS: [[u32; 5]; 6] = [
 ];
 
 // Compares the order with that behind so many of the rows.
-fn stand_behind<S: SetBoard>(rt: &impl Abort, agenda: &Agenda<S>, count: usize) {
-    assert!(rt; count < ORDERS.len());
+fn stand_behind<S: SetBoard>(rt: &impl Abort, agenda: &Agenda<S>, count: usize)
+    requires { count < 6 }
+{
     stand_so(rt, agenda, &ORDERS[count][..count]);
 }
 
@@ -57,12 +58,12 @@ fn schedule_row<S: SetBoard>(
     journal: &mut Journal<AgendaChange>,
     number: usize,
 )
+    requires number { number < 5 }
     requires closed { journal.old.current ≡ [] }
     requires fits { FitsSteps Fits unapply journal.old.steps agenda.old }
     ensures closed { journal.new.current ≡ [] }
     ensures fits { FitsSteps Fits unapply journal.new.steps agenda.new }
 {
-    assert!(rt; number < ROWS.len());
     let (notice, time, class, key) = ROWS[number];
     let notice = with_key(notice, time, class, key);
     if schedule(rt, agenda, journal, &notice, 0).is_err() {
@@ -104,19 +105,6 @@ fn there_and_back<S: SetBoard>(
         schedule_row(rt, agenda, journal, number);
     }
     all_back(rt, agenda, journal);
-}
-
-// Schedules five notices and takes all back, and once more.
-fn there_and_back_twice<S: SetBoard>(
-    rt: &impl Abort,
-    agenda: &mut Agenda<S>,
-    journal: &mut Journal<AgendaChange>,
-)
-    requires closed { journal.old.current ≡ [] }
-    requires fits { FitsSteps Fits unapply journal.old.steps agenda.old }
-{
-    there_and_back(rt, agenda, journal);
-    there_and_back(rt, agenda, journal);
 }
 
 // Schedules a notice whose attributes then change: nothing moves, and later notices are compared
@@ -242,7 +230,10 @@ fn acts<S: SetBoard>(
 {
     match scene {
         Scene::Mixture { count } => mixture_of(rt, alloc, agenda, journal, count),
-        Scene::ThereAndBack => there_and_back_twice(rt, agenda, journal),
+        Scene::ThereAndBack => {
+            there_and_back(rt, agenda, journal);
+            there_and_back(rt, agenda, journal);
+        }
         Scene::KeptKeys => keeps_keys(rt, agenda, journal),
         Scene::FilingNumber => gives_a_filing_number_again(rt, agenda, journal),
         Scene::OutAndIn => out_and_in(rt, agenda, journal),
@@ -267,6 +258,12 @@ fn plays_over<S: SetBoard>(rt: &impl Abort, alloc: Global, board: S, scene: Scen
     plays(rt, alloc, agenda, scene);
 }
 
+// The same on linked sets, and another scene on plain ones.
+fn plays_over_both(rt: &impl Abort, alloc: Global, linked: Scene, plain: Scene) {
+    plays_over(rt, alloc, LinkedSets::new(alloc), linked);
+    plays_over(rt, alloc, PlainSets::new(alloc), plain);
+}
+
 // The same on linked sets, made again where memory was refused.
 fn plays_again(rt: &impl Abort, alloc: Global, scene: Scene) {
     plays(rt, alloc, linked_again(rt, alloc), scene);
@@ -274,11 +271,9 @@ fn plays_again(rt: &impl Abort, alloc: Global, scene: Scene) {
 
 #[test]
 fn every_call_agrees_with_a_plain_list(rt: HostRuntime) {
-    let alloc = rt.alloc();
     let many = Scene::Mixture { count: 200 };
-    plays_over(&rt, alloc, LinkedSets::new(alloc), many);
     let some = Scene::Mixture { count: 40 };
-    plays_over(&rt, alloc, PlainSets::new(alloc), some);
+    plays_over_both(&rt, rt.alloc(), many, some);
 }
 
 #[test]
@@ -298,9 +293,7 @@ fn a_filing_number_comes_back(rt: HostRuntime) {
 
 #[test]
 fn what_is_taken_off_comes_back_among_its_ties(rt: HostRuntime) {
-    let alloc = rt.alloc();
-    plays_over(&rt, alloc, PlainSets::new(alloc), Scene::OutAndIn);
-    plays_over(&rt, alloc, LinkedSets::new(alloc), Scene::OutAndIn);
+    plays_over_both(&rt, rt.alloc(), Scene::OutAndIn, Scene::OutAndIn);
 }
 
 #[test]

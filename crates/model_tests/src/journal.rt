@@ -90,8 +90,7 @@ fn goes_back(rt: &impl Abort, dial: &mut Dial, journal: &mut Journal<Turn>, valu
     ensures closed { journal.new.current ≡ [] }
     ensures fits { FitsSteps ⟦<Dial as Undo>⟧.fits ⟦<Dial as Undo>⟧.unapply journal.new.steps dial.new }
 {
-    same(rt, back(dial, journal), true);
-    same(rt, dial.value, value);
+    same(rt, (back(dial, journal), dial.value), (true, value));
 }
 
 // Has no step to go back; the dial stays at this value.
@@ -101,8 +100,7 @@ fn stays(rt: &impl Abort, dial: &mut Dial, journal: &mut Journal<Turn>, value: u
     ensures closed { journal.new.current ≡ [] }
     ensures fits { FitsSteps ⟦<Dial as Undo>⟧.fits ⟦<Dial as Undo>⟧.unapply journal.new.steps dial.new }
 {
-    same(rt, back(dial, journal), false);
-    same(rt, dial.value, value);
+    same(rt, (back(dial, journal), dial.value), (false, value));
 }
 
 // Forgets all steps but the newest.

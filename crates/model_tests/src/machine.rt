@@ -27,15 +27,6 @@ fn start(rt: &(impl Abort + Print), alloc: Global, model: &[u8]) -> Machine<Link
     started(alloc, model).expect(rt, "a program")
 }
 
-// A local of the last frame.
-fn local<S: SetBoard>(rt: &impl Abort, machine: &Machine<S>, number: usize) -> i64 {
-    machine.known();
-    let (section, _) = machine.place();
-    let locals = machine.program().section(section).locals.len();
-    assert!(rt; number < locals);
-    machine.variable(Variable::Local(number))
-}
-
 // The first locals in a state, its status and the report.
 type State = ([i64; 2], Status, &'static [u8]);
 
@@ -48,52 +39,28 @@ struct Run {
     states: [State; 4],
 }
 
-// Compares the locals with those of a state.
-fn compare_locals<S: SetBoard>(rt: &impl Abort, machine: &Machine<S>, run: &Run, position: usize)
-    requires { position < 4 }
-{
-    let (locals, _, _) = run.states[position];
-    for number in 0..run.locals {
-        let value = local(rt, machine, number);
-        same(rt, (position, Some(value)), (position, locals.get(number).copied()));
-    }
-}
-
 // Compares all that is seen at a position with a state, and the time with 0.
 fn compare<S: SetBoard>(rt: &impl Abort, machine: &Machine<S>, run: &Run, position: usize)
     requires { position < 4 }
 {
-    let (_, status, report) = run.states[position];
+    let (values, status, report) = run.states[position];
+    let values = values.as_slice();
     let place = (0, position.min(2));
     same(rt, (machine.position(), machine.place()), (position as u64, place));
     let clock = machine.variable(Variable::Clock);
     same(rt, (position, machine.clock(), clock), (position, 0, 0));
     let ended = (machine.status(), machine.report());
     same(rt, (position, ended), (position, (status, report)));
-    compare_locals(rt, machine, run, position);
+    machine.known();
+    let (section, _) = machine.place();
+    assert!(rt; run.locals <= machine.program().section(section).locals.len());
+    for number in 0..run.locals {
+        let value = machine.variable(Variable::Local(number));
+        same(rt, (position, Some(&value)), (position, values.get(number)));
+    }
 }
 
-// One step, which moves or is at the end.
-fn steps<S: SetBoard>(rt: &impl Abort, machine: &mut Machine<S>, wanted: Stepped) {
-    let stepped = machine.step().expect(rt, "a step");
-    same(rt, stepped, wanted);
-}
-
-// A step that was refused memory changed nothing; makes it again.
-fn step_again<S: SetBoard>(
-    rt: &(impl Abort + Print),
-    machine: &mut Machine<S>,
-    run: &Run,
-    position: usize,
-)
-    requires { position < 4 }
-{
-    compare(rt, machine, run, position);
-    println!(rt; "memory was refused at position {position}").expect(rt, "a line");
-    steps(rt, machine, Stepped::Moved);
-}
-
-// One step from a position; one that is refused memory is made again.
+// One step from a position. One that is refused memory changes nothing, and is made again.
 fn step<S: SetBoard>(
     rt: &(impl Abort + Print),
     machine: &mut Machine<S>,
@@ -103,33 +70,27 @@ fn step<S: SetBoard>(
     requires { position < 3 }
 {
     compare(rt, machine, run, position);
-    match machine.step() {
-        Ok(stepped) => same(rt, stepped, Stepped::Moved),
-        Err(_) => step_again(rt, machine, run, position),
+    let mut stepped = machine.step();
+    if stepped.is_err() {
+        compare(rt, machine, run, position);
+        println!(rt; "memory was refused at position {position}").expect(rt, "a line");
+        stepped = machine.step();
     }
+    same(rt, stepped.ok(), Some(Stepped::Moved));
     compare(rt, machine, run, position + 1);
 }
 
-// All states of a run, back to the start.
-fn back_to_start<S: SetBoard>(rt: &impl Abort, machine: &mut Machine<S>, run: &Run) {
+// All states of a run, forward and back to the start.
+fn forth_and_back<S: SetBoard>(rt: &(impl Abort + Print), machine: &mut Machine<S>, run: &Run) {
+    for position in 0..3 {
+        step(rt, machine, run, position);
+    }
+    same(rt, machine.step().ok(), Some(Stepped::AtEnd));
     for back in 0..3 {
         same(rt, machine.back(), true);
         compare(rt, machine, run, 2 - back);
     }
     same(rt, machine.back(), false);
-}
-
-// All states of a run, forward and back to the start.
-fn forth_and_back<S: SetBoard>(
-    rt: &(impl Abort + Print),
-    machine: &mut Machine<S>,
-    run: &Run,
-) {
-    for position in 0..3 {
-        step(rt, machine, run, position);
-    }
-    steps(rt, machine, Stepped::AtEnd);
-    back_to_start(rt, machine, run);
 }
 
 // The same with a machine at the start of the run, and once more.

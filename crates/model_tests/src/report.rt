@@ -1,16 +1,27 @@
 use crate::compare::same;
 use ss_report::{Picture, PictureFault, Report};
 use ss_words::{RunFault, StepFault};
-use std::alloc::Global;
+use std::alloc::{AllocError, Global};
 use std::process::Abort;
+
+/// Puts the lines that stand between the bars of a text.
+fn put_lines(alloc: Global, lines: &mut Vec<Vec<u8>>, text: &[u8]) -> Result<(), AllocError> {
+    for line in text.split(|b| *b == b'|') {
+        lines.push(Vec::from_slice(alloc, line)?)?;
+    }
+    Ok(())
+}
 
 /// The picture with the lines that stand between the bars of a text.
 fn picture(alloc: Global, text: &[u8]) -> Result<Picture, PictureFault> {
     let mut lines = Vec::new(alloc);
-    for line in text.split(|b| *b == b'|') {
-        lines.push(Vec::from_slice(alloc, line)?)?;
+    match put_lines(alloc, &mut lines, text) {
+        Ok(()) => Picture::new(alloc, lines),
+        Err(_) => {
+            drop(lines);
+            Err(PictureFault::Memory)
+        }
     }
-    Picture::new(alloc, lines)
 }
 
 fn is_refused(alloc: Global, text: &[u8]) -> bool {

@@ -29,34 +29,50 @@ fn seat_at(list: &[u8], place: usize) -> Option<u32> {
 
 /// Whether a seat is in a list.
 fn is_listed(lists: &[u8], seat: u32) -> bool {
-    lists.iter().any(|byte| seat_of(*byte) == Some(seat))
+    for byte in lists {
+        if seat_of(*byte) == Some(seat) {
+            return true;
+        }
+    }
+    false
+}
+
+/// How many lists there are.
+fn count_of(lists: &[u8]) -> u32 {
+    let mut count: u32 = 0;
+    for byte in lists {
+        if *byte == b';' {
+            count = count.wrapping_add(1);
+        }
+    }
+    count
 }
 
 /// Compares every reading call with the lists.
 pub fn agrees<S: SetBoard>(rt: &impl Abort, board: &S, lists: &Lists) {
     let (lists, seats) = (lists.0.as_slice(), lists.1);
-    let count = lists.iter().filter(|byte| **byte == b';').count();
-    same(rt, board.heads() as usize, count);
-    same(rt, board.seats(), seats);
+    same(rt, (board.heads(), board.seats()), (count_of(lists), seats));
     for head in 0..board.heads() {
         agrees_on(rt, board, head, list_at(lists, head as usize));
     }
     for seat in 0..board.seats() {
-        if !is_listed(lists, seat) {
-            stands(rt, board, seat, None, None, None);
-        }
+        agrees_on_seat(rt, board, seat, lists);
+    }
+}
+
+/// Compares the reading calls of a seat, where it is in no list.
+fn agrees_on_seat<S: SetBoard>(rt: &impl Abort, board: &S, seat: u32, lists: &[u8]) {
+    if !is_listed(lists, seat) {
+        stands(rt, board, seat, None, None, None);
     }
 }
 
 /// Compares the reading calls of a head's list with its digits.
 fn agrees_on<S: SetBoard>(rt: &impl Abort, board: &S, head: u32, list: &[u8]) {
     assert!(rt; head < board.heads());
-    same(rt, board.first(head), seat_at(list, 0));
-    same(
-        rt,
-        board.last(head),
-        seat_at(list, list.len().wrapping_sub(1)),
-    );
+    let last = seat_at(list, list.len().wrapping_sub(1));
+    let ends = (board.first(head), board.last(head));
+    same(rt, ends, (seat_at(list, 0), last));
     same(rt, board.len(head) as usize, list.len());
     let mut before = None;
     for place in 0..list.len() {
@@ -83,7 +99,6 @@ pub fn stands<S: SetBoard>(
     before: Option<u32>,
 ) {
     assert!(rt; seat < board.seats());
-    same(rt, board.place(seat), head);
-    same(rt, board.next(seat), behind);
-    same(rt, board.prev(seat), before);
+    let found = (board.place(seat), board.next(seat), board.prev(seat));
+    same(rt, found, (head, behind, before));
 }

@@ -1,4 +1,5 @@
 //! A store's reading calls beside the plain store.
+ghost use Rattle.std.specs.Prelude.{◌<◌};
 ghost use Rattle.model_tests.specs.Ground.{IsGround};
 
 use crate::compare::same;
@@ -28,38 +29,25 @@ struct Walked {
     count: u32,
 }
 
-// Compares a member's neighbours, by the ways that name no owner.
-fn agrees_on_neighbours<S: SetBoard>(
-    rt: &impl Abort,
-    store: &Store<S>,
-    member: &Member,
-    before: Option<u32>,
-    next: Result<Option<u32>, RunFault>,
-)
-    requires { IsGround store.now.tables }
-{
-    assert!(rt; member.set < SETS);
-    same(rt, store.predecessor(member.set, member.x), Ok(before));
-    same(rt, store.successor(member.set, member.x), next);
-}
-
-// Compares a member's place in a list, where a walk stands, and walks on.
+// Compares a member's place in a list, where a walk stands, and walks on. Its neighbours are found
+// by the ways that name no owner too.
 fn agrees_on_member<S: SetBoard>(
     rt: &impl Abort,
     store: &Store<S>,
     member: &Member,
     walked: &Walked,
 ) -> Walked
-    requires { IsGround store.now.tables }
+    requires ground { IsGround store.now.tables }
+    requires set { member.now.set < 6 }
 {
     let (set, owner, x) = (member.set, member.owner, member.x);
-    assert!(rt; set < SETS);
     let here = u32::try_from(x).ok();
-    same(rt, walked.at, Ok(here));
-    same(rt, store.walk_prev(set, owner, x), Ok(walked.before));
-    same(rt, store.is_in(set, owner, x), Ok(true));
+    let before = Ok(walked.before);
     let next = store.walk_next(set, owner, x);
-    agrees_on_neighbours(rt, store, member, walked.before, next);
+    let prev = (store.walk_prev(set, owner, x), store.predecessor(set, x));
+    same(rt, (walked.at, prev), (Ok(here), (before, before)));
+    same(rt, store.successor(set, x), next);
+    same(rt, store.is_in(set, owner, x), Ok(true));
     Walked {
         at: next,
         before: here,
@@ -75,11 +63,11 @@ fn agrees_on_end<S: SetBoard>(
     owner: i64,
     walked: &Walked,
 )
-    requires { IsGround store.now.tables }
+    requires ground { IsGround store.now.tables }
+    requires set { set < 6 }
 {
-    assert!(rt; set < SETS);
-    same(rt, walked.at, Ok(None));
-    same(rt, store.walk_last(set, owner), Ok(walked.before));
+    let ends = (walked.at, store.walk_last(set, owner));
+    same(rt, ends, (Ok(None), Ok(walked.before)));
     same(rt, store.count(set, owner), Ok(walked.count));
 }
 
@@ -91,9 +79,9 @@ fn agrees_on_list<S: SetBoard>(
     set: usize,
     owner: i64,
 )
-    requires { IsGround store.now.tables }
+    requires ground { IsGround store.now.tables }
+    requires set { set < 6 }
 {
-    assert!(rt; set < SETS);
     let mut walked = Walked {
         at: store.walk_first(set, owner),
         before: None,
@@ -109,9 +97,9 @@ fn agrees_on_list<S: SetBoard>(
 
 // Compares the lists of a set, and who is in one of them.
 fn agrees_on_set<S: SetBoard>(rt: &impl Abort, store: &Store<S>, plain: &Plain, set: usize)
-    requires { IsGround store.now.tables }
+    requires ground { IsGround store.now.tables }
+    requires set { set < 6 }
 {
-    assert!(rt; set < SETS);
     let (owned, member) = ENDS[set];
     if owned.is_none() {
         agrees_on_list(rt, store, plain, set, 0);
