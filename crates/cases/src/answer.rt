@@ -25,26 +25,47 @@ pub fn put_answer(
 
 /// The same of a text as it is.
 fn put_given(alloc: Global, out: &mut Vec<u8>, way: &str, text: &[u8]) -> Result<(), AllocError> {
-    let put = match way {
-        "EXAMPLE" => return put_example(alloc, out, text),
+    match way {
+        "EXAMPLE" => put_example(alloc, out, text),
+        "BEGINNINGS" => put_beginnings(alloc, out, text),
+        "PIECES" => pieces::put_refusals(alloc, out, text),
+        "CHECK" => checked::put_outcome(alloc, out, text),
+        "LOCAL" => checked::put_local(alloc, out, text),
+        "PLACES" => checked::put_places(alloc, out, text),
+        _ => {
+            let put = put_refusable(alloc, out, way, text);
+            or_refusal(alloc, out, put)
+        }
+    }
+}
+
+/// The same of a text that is given up where it is refused.
+fn put_refusable(
+    alloc: Global,
+    out: &mut Vec<u8>,
+    way: &str,
+    text: &[u8],
+) -> Result<(), TextFault> {
+    match way {
+        "LINES" => items::put_lines(alloc, out, text),
+        "ITEMS" => items::put_items(alloc, out, text),
+        "PROGRAM" => places::put_counts(alloc, out, text),
+        "SECTIONS" => sections::put_sections(alloc, out, text),
+        "BODY" => sections::put_body(alloc, out, text),
+        "SIZES" => sections::put_counts(alloc, out, text),
+        _ => put_of_words(alloc, out, way, text),
+    }
+}
+
+/// The same of words.
+fn put_of_words(alloc: Global, out: &mut Vec<u8>, way: &str, text: &[u8]) -> Result<(), TextFault> {
+    match way {
         "WORDS" => raw::put_words(alloc, out, text),
         "COUNT" => raw::put_count(alloc, out, text),
         "PLAIN" => plain::put_words(alloc, out, text),
         "PLACED" => plain::put_placed(alloc, out, text),
-        "LINES" => items::put_lines(alloc, out, text),
-        "ITEMS" => items::put_items(alloc, out, text),
-        "PROGRAM" => places::put_counts(alloc, out, text),
-        "BEGINNINGS" => return put_beginnings(alloc, out, text),
-        "SECTIONS" => sections::put_sections(alloc, out, text),
-        "BODY" => sections::put_body(alloc, out, text),
-        "SIZES" => sections::put_counts(alloc, out, text),
-        "PIECES" => return pieces::put_refusals(alloc, out, text),
-        "CHECK" => return checked::put_outcome(alloc, out, text),
-        "LOCAL" => return checked::put_local(alloc, out, text),
-        "PLACES" => return checked::put_places(alloc, out, text),
-        _ => Ok(out.extend_from_slice(b"no such way")?),
-    };
-    or_refusal(alloc, out, put)
+        _ => Ok(put_text(out, "no such way")?),
+    }
 }
 
 /// Puts the rule and the line of a refusal; nothing where there is none.

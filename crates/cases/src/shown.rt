@@ -1,4 +1,4 @@
-use crate::answer::{put_string, put_text};
+use crate::answer::put_text;
 use ss_routines::{LocalNames, Section, Spot};
 use std::alloc::{AllocError, Global};
 
@@ -47,48 +47,44 @@ fn put_place(alloc: Global, out: &mut Vec<u8>, spot: &Spot) -> Result<(), AllocE
 /// Puts a text with each name of one letter, alone or as a reference or a value, as its letter, and
 /// with each value of one digit as that digit.
 fn put_shown(alloc: Global, out: &mut Vec<u8>, text: String) -> Result<(), AllocError> {
-    put_string(out, shown(alloc, text)?)
+    let mut text = text;
+    let put = put_shortened(alloc, out, &mut text);
+    drop(text);
+    put
 }
 
-fn shown(alloc: Global, text: String) -> Result<String, AllocError> {
-    let mut text = text;
+/// The same of a text that is lent.
+fn put_shortened(alloc: Global, out: &mut Vec<u8>, text: &mut String) -> Result<(), AllocError> {
     for letter in LETTERS.split(' ') {
-        text = with_letter(alloc, text, letter)?;
+        shorten_name(alloc, text, letter)?;
     }
     for digit in DIGITS.split(' ') {
         let factor = format!(in alloc; "Number({digit})");
-        text = with_value(alloc, text, factor, digit)?;
+        replace_value(alloc, text, factor, digit)?;
     }
-    Ok(text)
+    put_text(out, text.as_str())
 }
 
-/// The text with the name of one letter as this letter.
-fn with_letter(alloc: Global, text: String, letter: &str) -> Result<String, AllocError> {
+/// Puts a letter in place of the name of that letter.
+fn shorten_name(alloc: Global, text: &mut String, letter: &str) -> Result<(), AllocError> {
     let name = letter.as_bytes();
     let reference = format!(in alloc; "Reference {{ name: {name:?}, subscript: None }}");
-    let text = replaced(alloc, text, reference, letter)?;
-    let text = with_value(alloc, text, format!(in alloc; "Name({name:?})"), letter)?;
-    replaced(alloc, text, format!(in alloc; "{name:?}"), letter)
+    replace(alloc, text, reference, letter)?;
+    replace_value(alloc, text, format!(in alloc; "Name({name:?})"), letter)?;
+    replace(alloc, text, format!(in alloc; "{name:?}"), letter)
 }
 
-/// The text with each value of one factor as this.
-fn with_value(
+/// Puts another text in place of each value of one factor.
+fn replace_value(
     alloc: Global,
-    text: String,
+    text: &mut String,
     factor: Result<String, AllocError>,
-    shown: &str,
-) -> Result<String, AllocError> {
-    match factor {
-        Ok(factor) => {
-            let value = value(alloc, factor.as_str());
-            drop(factor);
-            replaced(alloc, text, value, shown)
-        }
-        Err(fault) => {
-            drop(text);
-            Err(fault)
-        }
-    }
+    other: &str,
+) -> Result<(), AllocError> {
+    let factor = factor?;
+    let value = value(alloc, factor.as_str());
+    drop(factor);
+    replace(alloc, text, value, other)
 }
 
 /// How a value of one factor is shown.
@@ -98,23 +94,16 @@ fn value(alloc: Global, factor: &str) -> Result<String, AllocError> {
     )
 }
 
-/// The text with each of these parts as another one.
-fn replaced(
+/// Puts another text in place of each of these parts.
+fn replace(
     alloc: Global,
-    text: String,
+    text: &mut String,
     part: Result<String, AllocError>,
     other: &str,
-) -> Result<String, AllocError> {
-    match part {
-        Ok(part) => {
-            let replaced = text.replace(alloc, part.as_str(), other);
-            drop(part);
-            drop(text);
-            replaced
-        }
-        Err(fault) => {
-            drop(text);
-            Err(fault)
-        }
-    }
+) -> Result<(), AllocError> {
+    let part = part?;
+    let replaced = text.replace(alloc, part.as_str(), other);
+    drop(part);
+    *text = replaced?;
+    Ok(())
 }

@@ -68,8 +68,8 @@ fn add_files<R: Files + AllocGlobal>(
     files: &mut Vec<Vec<u8>>,
     name: &str,
 ) -> io::Result<()> {
-    for (ending, otherwise) in FILES {
-        files.push(file(rt, name, ending, otherwise)?)?;
+    for (ending, otherwise) in &FILES {
+        files.push(file(rt, name, ending, *otherwise)?)?;
     }
     Ok(())
 }
@@ -98,11 +98,20 @@ pub fn file<R: Files + AllocGlobal>(
     let path = format!(in rt.alloc(); "{name}.{ending}")?;
     let read = fs::read(rt, path.as_str());
     drop(path);
-    match (read, otherwise) {
-        (Err(error), Some(bytes)) if error.kind() == ErrorKind::NotFound => {
+    match otherwise {
+        Some(bytes) if is_missing(&read) => {
+            drop(read);
             Ok(Vec::from_slice(rt.alloc(), bytes)?)
         }
-        (read, _) => read,
+        _ => read,
+    }
+}
+
+/// Whether there was no file to read.
+fn is_missing(read: &io::Result<Vec<u8>>) -> bool {
+    match read {
+        Ok(_) => false,
+        Err(error) => error.kind() == ErrorKind::NotFound,
     }
 }
 
@@ -113,11 +122,20 @@ impl Example<'_> {
         requires pending { S.board pending ≡ empty_board }
     {
         let mut out = MemoryOutlet::new(alloc);
-        let (model, data, commands) = (self.model, self.data, self.commands);
-        let end = session_over(alloc, sets, pending, model, data, commands, &mut out);
+        let status = self.run_over(alloc, sets, pending, &mut out);
         let gives = out.bytes() == self.transcript;
         drop(out);
-        gives && is_status(self.status, exit_status(&end))
+        gives && is_status(self.status, status)
+    }
+
+    /// Runs a session over these boards, and gives its status.
+    fn run_over<S: SetBoard>(self, alloc: Global, sets: S, pending: S, out: &mut MemoryOutlet) -> u8
+        requires sets { S.board sets ≡ empty_board }
+        requires pending { S.board pending ≡ empty_board }
+        requires out { out.old.failures ≡ 0 }
+    {
+        let (model, data, commands) = (self.model, self.data, self.commands);
+        exit_status(&session_over(alloc, sets, pending, model, data, commands, out))
     }
 }
 

@@ -27,7 +27,11 @@ fn ends<A: Answerer, C: Console>(
 {
     let mut line = Vec::with_capacity(alloc, LONGEST_LINE + 1).expect(rt, "a line");
     let mut answer = Vec::new(alloc);
-    same(rt, converse(answerer, console, &mut line, &mut answer), ended);
+    same(
+        rt,
+        converse(answerer, console, &mut line, &mut answer),
+        ended,
+    );
     drop(answer);
     drop(line);
 }
@@ -115,7 +119,11 @@ fn cuts(rt: &impl Abort, alloc: Global, console: &mut MemoryConsole<'_>)
 {
     let mut line = Vec::with_capacity(alloc, LONGEST_LINE + 1).expect(rt, "a line");
     same(rt, console.read_line(&mut line), Ok(true));
-    same(rt, (line.len(), line.last()), (LONGEST_LINE + 1, Some(&b'x')));
+    same(
+        rt,
+        (line.len(), line.last()),
+        (LONGEST_LINE + 1, Some(&b'x')),
+    );
     same(rt, console.read_line(&mut line), Ok(false));
     drop(line);
 }
@@ -165,7 +173,14 @@ fn streams_are_read_and_written(rt: HostRuntime) {
     let alloc = rt.alloc();
     let mut counter = Counter::new();
     let mut out = Vec::new(alloc);
-    reads(&rt, alloc, &mut counter, &mut out, b"a\nb".as_slice(), Ok(()));
+    reads(
+        &rt,
+        alloc,
+        &mut counter,
+        &mut out,
+        b"a\nb".as_slice(),
+        Ok(()),
+    );
     let broken = Broken { left: 3 };
     reads(&rt, alloc, &mut counter, &mut out, broken, Err(Cut::Read));
     same(&rt, out.as_slice(), b"0 a\n1 b\n2 aa\n".as_slice());

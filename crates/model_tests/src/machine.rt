@@ -46,7 +46,11 @@ fn compare<S: SetBoard>(rt: &impl Abort, machine: &Machine<S>, run: &Run, positi
     let (values, status, report) = run.states[position];
     let values = values.as_slice();
     let place = (0, position.min(2));
-    same(rt, (machine.position(), machine.place()), (position as u64, place));
+    same(
+        rt,
+        (machine.position(), machine.place()),
+        (position as u64, place),
+    );
     let clock = machine.variable(Variable::Clock);
     same(rt, (position, machine.clock(), clock), (position, 0, 0));
     let ended = (machine.status(), machine.report());

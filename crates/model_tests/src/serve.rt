@@ -93,7 +93,11 @@ fn cuts(rt: &impl Abort, alloc: Global, both: &[u8], cut: usize)
     } else {
         Err(SessionFault::CannotRead)
     };
-    let events = if cut < ASKED.len() { b"".as_slice() } else { ANSWERED };
+    let events = if cut < ASKED.len() {
+        b"".as_slice()
+    } else {
+        ANSWERED
+    };
     holds(rt, alloc, &both[..cut], 1_000, ended, events);
 }
 

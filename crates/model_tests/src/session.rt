@@ -155,7 +155,11 @@ fn fail_once(rt: &impl Abort, alloc: Global, out: &mut FailsOnce, of: Session, c
     let fails_at = out.fails_at;
     let end = run(alloc, model, SOME, out);
     if fails_at < calls {
-        same(rt, (end, out.calls), (Err(SessionFault::Write), fails_at + 1));
+        same(
+            rt,
+            (end, out.calls),
+            (Err(SessionFault::Write), fails_at + 1),
+        );
         same(rt, whole.as_bytes().starts_with(&out.bytes), true);
     } else {
         same(rt, (end, out.calls), (wanted, calls));
