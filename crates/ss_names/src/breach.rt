@@ -97,7 +97,7 @@ pub struct Standpoint<'a> {
 }
 
 /// What is wrong with a name.
-#[derive(Clone, Copy, Debug, PartialEq, Eq)]
+#[derive(Clone, Copy)]
 pub enum Wrong {
     DeclaredTwice,
     WrongClass,
@@ -120,7 +120,7 @@ pub enum Wrong {
 }
 
 /// The rules that are about names, each with its question.
-#[derive(Clone, Copy, Debug, PartialEq, Eq)]
+#[derive(Clone, Copy)]
 pub enum NameRule {
     /// C1
     DeclaredTwice,

@@ -12,7 +12,7 @@ use ss_words::{Mark, Plain, PlainWord, Reserved};
 use std::alloc::{AllocError, Global};
 
 /// Which names are collected.
-#[derive(Clone, Copy, Debug, PartialEq, Eq)]
+#[derive(Clone, Copy)]
 pub enum Wanted {
     /// Those that are declared, and as what.
     Declared,

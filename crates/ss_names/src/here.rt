@@ -9,7 +9,7 @@ use ss_words::limits::MOST_PARENTHESES;
 use ss_words::{Mark, Plain, PlainWord, Reserved, Sign};
 
 /// What stands before a word.
-#[derive(Clone, Copy, Debug, PartialEq, Eq)]
+#[derive(Clone, Copy)]
 pub struct Here {
     /// Whether the preamble is open.
     pub in_preamble: bool,

@@ -26,7 +26,7 @@ pub const OF_MEMBERS: [&[u8]; 3] = [b"P.", b"S.", b"M."];
 pub const OF_CLASS: [&[u8]; 1] = [b"N."];
 
 /// What a name is.
-#[derive(Clone, Copy, Debug, PartialEq, Eq)]
+#[derive(Clone, Copy)]
 pub enum What {
     /// No declaration gives it: in a section, a local variable.
     Undeclared,

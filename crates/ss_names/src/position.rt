@@ -7,7 +7,7 @@ use crate::here::Here;
 use ss_words::{Mark, PlainWord, Reserved, Sign};
 
 /// How a name stands.
-#[derive(Clone, Copy, Debug, PartialEq, Eq)]
+#[derive(Clone, Copy)]
 pub enum Position {
     /// It is declared.
     Declared,

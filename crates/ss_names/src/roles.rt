@@ -9,7 +9,7 @@ use ss_words::{Mark, Plain, PlainWord, Reserved, Sign};
 use std::alloc::{AllocError, Global};
 
 /// How a name is used where it stands.
-#[derive(Clone, Copy, Debug, PartialEq, Eq)]
+#[derive(Clone, Copy)]
 pub enum Role {
     /// In a DEFINE or a HAS.
     Declared,
@@ -22,7 +22,7 @@ pub enum Role {
 }
 
 /// What stands before a word.
-#[derive(Clone, Copy, Debug, PartialEq, Eq)]
+#[derive(Clone, Copy)]
 pub struct Standing {
     /// The reserved word or sign directly before it, if that is one.
     pub before: Option<Mark>,

@@ -14,7 +14,7 @@ use ss_words::{Mark, PlainWord, Reserved};
 use std::alloc::{AllocError, Global};
 
 /// The rules that are about statements, each with its question.
-#[derive(Clone, Copy, Debug, PartialEq, Eq)]
+#[derive(Clone, Copy)]
 pub enum StatementRule {
     /// C10
     WrongPicture,

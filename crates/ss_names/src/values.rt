@@ -92,7 +92,7 @@ fn is_reserved(mark: Option<Mark>) -> bool
 }
 
 /// The list that is looked for.
-#[derive(Clone, Copy, Debug, PartialEq, Eq)]
+#[derive(Clone, Copy)]
 pub enum List {
     /// Behind GIVEN.
     Given,
