@@ -1,6 +1,6 @@
 //! HELP: the wording is in the table; the definitions read it too (specs/Help.antt).
-ghost use Rattle.std.specs.Prelude.{◌≡◌, ◌++◌, ◌∷◌, [], map, OnOk};
-ghost use Rattle.ss_prompt.specs.Help.{all_rows, rows_of, help_said};
+ghost use Rattle.std.specs.Prelude.{◌≡◌, ◌++◌, ◌∷◌, [], codes, map, OnOk};
+ghost use Rattle.ss_prompt.specs.Help.{all_rows, rows_of, help_rows, help_or_none, help_said};
 
 use ss_debug::Name;
 use std::alloc::AllocError;
@@ -159,20 +159,47 @@ fn push_rows_of(
     Ok(())
 }
 
+/// The rows of the table.
+fn help_rows() -> &'static [(&'static [u8], &'static [u8])]
+    ensures { map (λ row. (row.0.now, row.1.now)) result.now ≡ help_rows }
+{
+    &HELP_ROWS
+}
+
+/// Appends that there is no help on a word.
+fn push_no_help(text: &mut Vec<u8>, word: &[u8]) -> Result<(), AllocError>
+    ensures { OnOk result (text.new.items
+        ≡ text.old.items ++ codes "NO HELP ON " ++ word.now ++ 10 ∷ []) }
+{
+    text.extend_from_slice(b"NO HELP ON ")?;
+    text.extend_from_slice(word)?;
+    text.extend_from_slice(b"\n")
+}
+
+/// Appends what HELP answers on a word, by these rows.
+fn push_help_by(
+    text: &mut Vec<u8>,
+    word: &[u8],
+    rows: &'static [(&'static [u8], &'static [u8])],
+) -> Result<(), AllocError>
+    ensures { OnOk result (text.new.items ≡ text.old.items ++ help_or_none word.now
+        (rows_of word.now (map (λ row. (row.0.now, row.1.now)) rows.now))) }
+{
+    let length = text.len();
+    push_rows_of(text, word, rows)?;
+    if length < text.len() {
+        return Ok(());
+    }
+    push_no_help(text, word)
+}
+
 /// Appends what HELP answers.
 #[tactic(auto, unfolding(crate::specs::Help::help_said))]
 pub(crate) fn push_help(text: &mut Vec<u8>, word: Option<Name>) -> Result<(), AllocError>
     ensures { OnOk result (text.new.items ≡ text.old.items ++ help_said word) }
 {
-    let Some(word) = word else {
-        return push_all(text, &HELP_ROWS);
-    };
-    let length = text.len();
-    push_rows_of(text, word.as_slice(), &HELP_ROWS)?;
-    if length < text.len() {
-        return Ok(());
+    match word {
+        None => push_all(text, help_rows()),
+        Some(word) => push_help_by(text, word.as_slice(), help_rows()),
     }
-    text.extend_from_slice(b"NO HELP ON ")?;
-    text.extend_from_slice(word.as_slice())?;
-    text.extend_from_slice(b"\n")
 }
