@@ -145,6 +145,14 @@ pub const DROPPED: [&[u8]; 6] = [b"A", b"AN", b"THE", b"THIS", b"MAY", b"OUTPUT"
 /// The words that keep an article directly behind them.
 pub const SCHEDULING: [&[u8]; 2] = [b"SCHEDULE", b"CAUSE"];
 
+/// The table of the reserved words.
+#[tactic(auto, unfolding(crate::specs::Reserved::reserved_words))]
+pub fn reserved_words() -> &'static [&'static [u8]]
+    ensures { map (λ row. row.now) result.now ≡ spec.reserved_words }
+{
+    &RESERVED
+}
+
 /// Whether a name is in a table.
 pub fn is_among(name: &[u8], mut table: &[&[u8]]) -> bool
     ensures { result ≡ spec.is_among name.now (map (λ row. row.now) table.entry.now) }

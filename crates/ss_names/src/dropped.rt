@@ -4,7 +4,7 @@ ghost use Rattle.ss_words.specs.Words.{kind_of, word_at};
 ghost use Rattle.ss_names.specs.Warnings as spec;
 
 use crate::once::push_warning;
-use ss_columns::{RESERVED, SCHEDULING, is_among, is_kind_among};
+use ss_columns::{SCHEDULING, is_among, is_kind_among, reserved_words};
 use ss_words::{Word, WordKind};
 use std::alloc::AllocError;
 
@@ -23,12 +23,11 @@ fn is_sign(kind: Option<&WordKind>) -> bool
 }
 
 /// Whether a word is a name that is not reserved.
-#[tactic(auto, unfolding(ss_columns::specs::Reserved::reserved_words))]
 fn is_plain_name(kind: Option<&WordKind>) -> bool
     ensures { result ≡ spec.is_plain_name (spec.kind_seen kind.entry) }
 {
     match kind {
-        Some(WordKind::Name(name)) => !is_among(name.bytes(), &RESERVED),
+        Some(WordKind::Name(name)) => !is_among(name.bytes(), reserved_words()),
         _ => false,
     }
 }

@@ -9,7 +9,7 @@ ghost use Rattle.ss_sentences.specs.Pieces.{last_kind};
 use crate::candidate::{Judgement, keeps_article};
 use crate::expected::fits;
 use crate::pieces::{last_kind, last_text, push_filled, push_number};
-use ss_columns::{DROPPED, RESERVED, is_kind_among};
+use ss_columns::{DROPPED, is_kind_among, reserved_words};
 use ss_words::{Word, WordKind};
 use std::alloc::{AllocError, Global};
 
@@ -86,7 +86,6 @@ fn push_hint(text: &mut Vec<u8>, is_given: bool, hint: &[u8], word: &[u8]) -> Re
 }
 
 /// Appends what a refused word hints at, behind these words.
-#[tactic(auto, unfolding(ss_columns::specs::Reserved::reserved_words))]
 pub fn push_word_hints(
     text: &mut Vec<u8>,
     judged: &[Judgement],
@@ -96,7 +95,7 @@ pub fn push_word_hints(
     ensures { OnOk result (text.new.items
         ≡ text.old.items ++ spec.word_hints judged.now (word_at refused.now).kind told.now) }
 {
-    let reserved = is_word_among(refused, &RESERVED);
+    let reserved = is_word_among(refused, reserved_words());
     let name = reserved && fits(judged, b"a name") && !fits(judged, b"LET");
     push_hint(text, name, RESERVED_HINT, told)?;
     let unit = is_name(refused) && !reserved && fits(judged, b"UNITS");
