@@ -221,16 +221,23 @@ fn judge(alloc: Global, words: &mut Words, told: &[u8], tried: Tried) -> Result<
     goes_on_with(alloc, words, told, tried)
 }
 
-/// Judges each candidate behind these words, which are numbered from 0.
+/// The table of the candidates.
 #[tactic(auto, unfolding(crate::specs::Candidates::candidates))]
+fn candidates() -> &'static [(&'static [u8], Tried)]
+    ensures { map (λ row. (row.0.now, row.1)) result.now ≡ spec.candidates }
+{
+    &CANDIDATES
+}
+
+/// Judges each candidate behind these words, which are numbered from 0.
 pub fn judge_all(alloc: Global, words: &mut Words) -> Result<Vec<Judgement>, AllocError>
     ensures judged { IfOk result
         (λ all. All (λ j. IsFitting words.old j.told.now j.tried j.fits) all.items) }
     ensures complete { IfOk result
         (λ all. map spec.candidate_of all.items ≡ spec.candidates) }
 {
-    let mut all = Vec::with_capacity(alloc, CANDIDATES.len())?;
-    let mut rows: &'static [(&'static [u8], Tried)] = &CANDIDATES;
+    let mut rows = candidates();
+    let mut all = Vec::with_capacity(alloc, rows.len())?;
     while let [row, rest @ ..] = rows {
         let (told, tried) = *row;
         let fits = judge(alloc, words, told, tried)?;
