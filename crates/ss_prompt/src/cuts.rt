@@ -21,7 +21,7 @@ pub(crate) const SHOW_WORDS: &[u8] =
     b"CLOCK WHERE VAR SET EVENTS TAKEN ENTRY REPORT COUNT IN CALLS LOCALS CLASSES SETS GLOBALS SECTIONS CHANGED";
 
 /// Where a word stands.
-#[derive(Clone, Copy, Debug, PartialEq, Eq)]
+#[derive(Clone, Copy)]
 pub(crate) enum Standing {
     /// It is the first of its line.
     First,

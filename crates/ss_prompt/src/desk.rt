@@ -370,27 +370,28 @@ impl<'a> PromptDesk<'a> {
         ensures memory { OnErr result (IsRefused (state_at debugger.old self.old) command
             (state_at debugger.new self.new)) }
     {
-        match command {
+        let done = match command {
             PromptCommand::Plain(command) => return self.obey_plain(debugger, command, answer),
-            PromptCommand::Travel(movement) => self.travel(debugger, movement, answer)?,
-            PromptCommand::Lines(line) => self.list(debugger, line, answer)?,
-            PromptCommand::SectionLines(name) => self.list_section(debugger, &name, answer)?,
-            PromptCommand::BreakSection(name) => self.break_section(debugger, &name, answer)?,
-            PromptCommand::ClearSection(name) => self.clear_section(debugger, &name, answer)?,
-            PromptCommand::Breaks => self.breaks(debugger, answer)?,
-            PromptCommand::Ask(question) => push_answer(debugger, &question, answer)?,
-            PromptCommand::See(sight) => self.see(debugger, sight, answer)?,
-            PromptCommand::Changed => self.changed(debugger, answer)?,
-            PromptCommand::Why(question) => self.why(debugger, &question, answer)?,
+            PromptCommand::Travel(movement) => self.travel(debugger, movement, answer),
+            PromptCommand::Lines(line) => self.list(debugger, line, answer),
+            PromptCommand::SectionLines(name) => self.list_section(debugger, &name, answer),
+            PromptCommand::BreakSection(name) => self.break_section(debugger, &name, answer),
+            PromptCommand::ClearSection(name) => self.clear_section(debugger, &name, answer),
+            PromptCommand::Breaks => self.breaks(debugger, answer),
+            PromptCommand::Ask(question) => push_answer(debugger, &question, answer),
+            PromptCommand::See(sight) => self.see(debugger, sight, answer),
+            PromptCommand::Changed => self.changed(debugger, answer),
+            PromptCommand::Why(question) => self.why(debugger, &question, answer),
             PromptCommand::History(question, rows) => {
-                self.history(debugger, &question, rows, answer)?
+                self.history(debugger, &question, rows, answer)
             }
-            PromptCommand::Display(question) => self.display(question, answer)?,
-            PromptCommand::Undisplay => self.undisplay(answer)?,
-            PromptCommand::Names(name) => self.names(name, answer)?,
-            PromptCommand::Warnings => self.warnings(debugger, answer)?,
-            PromptCommand::Help(word) => push_help(answer, word)?,
-        }
+            PromptCommand::Display(question) => self.display(question, answer),
+            PromptCommand::Undisplay => self.undisplay(answer),
+            PromptCommand::Names(name) => self.names(name, answer),
+            PromptCommand::Warnings => self.warnings(debugger, answer),
+            PromptCommand::Help(word) => push_help(answer, word),
+        };
+        done?;
         Ok(Go::On)
     }
 
