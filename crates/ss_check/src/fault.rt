@@ -63,7 +63,7 @@ impl CheckRule {
 
 /// Why a spelled program is refused: the statement that begins on `line` breaks `rule` (lines count
 /// from 1). Or that a growth was refused: `Memory`.
-#[derive(Clone, Copy, Debug, Drop, PartialEq, Eq, Error)]
+#[derive(Clone, Copy, Debug, Drop, Error)]
 pub enum CheckFault {
     #[error("line {line}: {rule:?}")]
     Broken { rule: CheckRule, line: usize },

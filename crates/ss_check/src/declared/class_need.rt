@@ -1,5 +1,5 @@
 /// The kind of class that a statement needs.
-#[derive(Clone, Copy, PartialEq, Eq)]
+#[derive(Clone, Copy)]
 pub enum ClassNeed {
     Permanent,
     /// A class whose entities can end: a temporary class or an event class.

@@ -1,5 +1,5 @@
 /// A function of the language (docs/LANGUAGE.md, "Names and values").
-#[derive(Clone, Copy, PartialEq, Eq)]
+#[derive(Clone, Copy)]
 pub enum Function {
     /// `ABS.F`
     Absolute,
