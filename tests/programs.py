@@ -72,8 +72,7 @@ def write(path, text):
 
 def own(*texts):
     """Writes texts to files of the calling thread, and returns their paths."""
-    own_name = f"{ROOM}/{threading.get_ident()}"
-    return [write(f"{own_name}.{number}", it) for number, it in enumerate(texts)]
+    return [write(f"{ROOM}/{threading.get_ident()}.{at}", it) for at, it in enumerate(texts)]
 
 
 def rows(name):

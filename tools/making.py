@@ -13,8 +13,6 @@ import tempfile
 import time
 
 TOP = os.path.dirname(os.path.dirname(os.path.realpath(__file__)))
-# The exit status of what the user ends.
-INTERRUPTED = 130
 
 
 class Place:
@@ -78,7 +76,7 @@ def copy_of_sources():
 
         def leave(*_):
             shutil.rmtree(room, ignore_errors=True)
-            os._exit(INTERRUPTED)
+            os._exit(130)
 
         for it in (signal.SIGINT, signal.SIGTERM, signal.SIGHUP):
             signal.signal(it, leave)
