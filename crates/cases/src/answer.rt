@@ -99,7 +99,7 @@ fn put_example(alloc: Global, out: &mut Vec<u8>, text: &[u8]) -> Result<(), Allo
 
 /// Puts a blank and a number.
 pub fn put_number(alloc: Global, out: &mut Vec<u8>, number: usize) -> Result<(), AllocError> {
-    put_string(out, format!(in alloc; " {number}")?)
+    put_string(out, format!(in alloc; " {number}"))
 }
 
 /// Puts a text behind what is written.
@@ -107,9 +107,9 @@ pub fn put_text(out: &mut Vec<u8>, text: &str) -> Result<(), AllocError> {
     out.extend_from_slice(text.as_bytes())
 }
 
-/// The same of a text that ends with it.
-pub fn put_string(out: &mut Vec<u8>, text: String) -> Result<(), AllocError> {
-    out.extend_from_slice(text.as_str().as_bytes())
+/// The same of a text that is made for it, and ends with it.
+pub fn put_string(out: &mut Vec<u8>, text: Result<String, AllocError>) -> Result<(), AllocError> {
+    put_text(out, text?.as_str())
 }
 
 /// Puts what is given for each beginning of the text that ends with a line, a comma behind each.

@@ -49,7 +49,7 @@ fn put_local_of(
 ) -> Result<(), AllocError> {
     let local = program.local(program.main(), name);
     let global = program.find(name);
-    put_string(out, format!(in alloc; "{local:?} {global:?}")?)
+    put_string(out, format!(in alloc; "{local:?} {global:?}"))
 }
 
 /// Puts the number and the line of MAIN, how many local variables it has, and the line of each
@@ -71,7 +71,7 @@ fn put_places_of(alloc: Global, out: &mut Vec<u8>, program: &Program) -> Result<
     let section = program.section(main);
     let line = section.line;
     let count = section.locals.len();
-    put_string(out, format!(in alloc; "{main} {line} {count}:")?)?;
+    put_string(out, format!(in alloc; "{main} {line} {count}:"))?;
     for spot in &section.places {
         put_number(alloc, out, spot.line)?;
     }

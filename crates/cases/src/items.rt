@@ -29,10 +29,10 @@ fn put_lines_of(
 ) -> Result<(), AllocError> {
     for item in &decls.items {
         let line = item.line;
-        put_string(out, format!(in alloc; "{line} ")?)?;
+        put_string(out, format!(in alloc; "{line} "))?;
     }
     let end = decls.end;
-    put_string(out, format!(in alloc; "END {end:?}")?)?;
+    put_string(out, format!(in alloc; "END {end:?}"))?;
     put_number(alloc, out, number)
 }
 
@@ -52,6 +52,6 @@ fn put_items_of(
     number: usize,
 ) -> Result<(), AllocError> {
     let items = &decls.items;
-    put_string(out, format!(in alloc; "{items:?}")?)?;
+    put_string(out, format!(in alloc; "{items:?}"))?;
     put_number(alloc, out, number)
 }

@@ -60,5 +60,5 @@ fn put_pieces(alloc: Global, out: &mut Vec<u8>, pieces: usize) -> Result<(), All
     if !out.is_empty() {
         put_text(out, ", ")?;
     }
-    put_string(out, format!(in alloc; "{pieces}:")?)
+    put_string(out, format!(in alloc; "{pieces}:"))
 }

@@ -8,7 +8,7 @@ use std::alloc::Global;
 /// Puts how many items the preamble has, and how many sections stand behind it.
 pub fn put_counts(alloc: Global, out: &mut Vec<u8>, text: &[u8]) -> Result<(), TextFault> {
     let (items, count) = counts(alloc, text)?;
-    put_string(out, format!(in alloc; "{items} {count}")?)?;
+    put_string(out, format!(in alloc; "{items} {count}"))?;
     Ok(())
 }
 

@@ -68,18 +68,18 @@ fn put_place(
     let index = word.index;
     match shown {
         Shown::Alone => Ok(()),
-        Shown::Placed => put_string(out, format!(in alloc; "{line}.{index} ")?),
+        Shown::Placed => put_string(out, format!(in alloc; "{line}.{index} ")),
     }
 }
 
 fn put_word(alloc: Global, out: &mut Vec<u8>, word: Plain<'_>) -> Result<(), AllocError> {
     match word {
         Plain::Mark(Mark::Reserved(reserved)) => {
-            put_string(out, format!(in alloc; "{reserved:?}")?)
+            put_string(out, format!(in alloc; "{reserved:?}"))
         }
         Plain::Mark(Mark::Sign(sign)) => put_text(out, sign_text(sign)),
         Plain::Name(name) => out.extend_from_slice(name.bytes()),
-        Plain::Number(number) => put_string(out, format!(in alloc; "{number}")?),
-        Plain::Picture(lines) => put_string(out, format!(in alloc; "{lines:?}")?),
+        Plain::Number(number) => put_string(out, format!(in alloc; "{number}")),
+        Plain::Picture(lines) => put_string(out, format!(in alloc; "{lines:?}")),
     }
 }

@@ -17,7 +17,7 @@ pub fn put_count(alloc: Global, out: &mut Vec<u8>, text: &[u8]) -> Result<(), Te
     let words = words(alloc, text)?;
     let count = words.list.len();
     drop_words(words);
-    put_string(out, format!(in alloc; "{count}")?)?;
+    put_string(out, format!(in alloc; "{count}"))?;
     Ok(())
 }
 
@@ -33,10 +33,10 @@ fn put_all(alloc: Global, out: &mut Vec<u8>, words: &[Word]) -> Result<(), Alloc
 
 fn put_word(alloc: Global, out: &mut Vec<u8>, word: &Word) -> Result<(), AllocError> {
     let line = word.line;
-    put_string(out, format!(in alloc; "{line}:")?)?;
+    put_string(out, format!(in alloc; "{line}:"))?;
     match &word.kind {
         WordKind::Name(name) => out.extend_from_slice(name.bytes()),
-        WordKind::Number(number) => put_string(out, format!(in alloc; "#{number}")?),
+        WordKind::Number(number) => put_string(out, format!(in alloc; "#{number}")),
         WordKind::Sign(sign) => put_text(out, sign_text(*sign)),
         WordKind::Picture(lines) => put_picture(out, lines),
     }

@@ -67,7 +67,7 @@ pub fn put_counts(alloc: Global, out: &mut Vec<u8>, text: &[u8]) -> Result<(), T
     let sections = sections_of(alloc, text)?;
     let (count, places) = counts(&sections);
     drop(sections);
-    put_string(out, format!(in alloc; "{count} {places}")?)?;
+    put_string(out, format!(in alloc; "{count} {places}"))?;
     Ok(())
 }
 

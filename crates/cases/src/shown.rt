@@ -11,7 +11,7 @@ const DIGITS: &str = "0 1 2 3 4 5 6 7 8 9";
 pub fn put_section(alloc: Global, out: &mut Vec<u8>, section: &Section) -> Result<(), AllocError> {
     let line = section.line;
     let kind = &section.kind;
-    put_shown(alloc, out, format!(in alloc; "[{line} {kind:?} ")?)?;
+    put_shown(alloc, out, format!(in alloc; "[{line} {kind:?} "))?;
     out.extend_from_slice(section.name.bytes())?;
     for local in &section.locals {
         put_local(alloc, out, local)?;
@@ -24,7 +24,7 @@ pub fn put_section(alloc: Global, out: &mut Vec<u8>, section: &Section) -> Resul
 fn put_local(alloc: Global, out: &mut Vec<u8>, local: &LocalNames) -> Result<(), AllocError> {
     let line = local.line;
     let names = &local.names;
-    put_shown(alloc, out, format!(in alloc; " ({line} {names:?})")?)
+    put_shown(alloc, out, format!(in alloc; " ({line} {names:?})"))
 }
 
 /// Puts places, each behind its line.
@@ -41,13 +41,17 @@ pub fn put_places(alloc: Global, out: &mut Vec<u8>, places: &[Spot]) -> Result<(
 fn put_place(alloc: Global, out: &mut Vec<u8>, spot: &Spot) -> Result<(), AllocError> {
     let line = spot.line;
     let place = &spot.place;
-    put_shown(alloc, out, format!(in alloc; "{line} {place:?}")?)
+    put_shown(alloc, out, format!(in alloc; "{line} {place:?}"))
 }
 
 /// Puts a text with each name of one letter, alone or as a reference or a value, as its letter, and
 /// with each value of one digit as that digit.
-fn put_shown(alloc: Global, out: &mut Vec<u8>, text: String) -> Result<(), AllocError> {
-    let mut text = text;
+fn put_shown(
+    alloc: Global,
+    out: &mut Vec<u8>,
+    text: Result<String, AllocError>,
+) -> Result<(), AllocError> {
+    let mut text = text?;
     let put = put_shortened(alloc, out, &mut text);
     drop(text);
     put

@@ -89,6 +89,6 @@ fn put_machine(
     let frames = machine.frames();
     put_string(
         answer,
-        format!(in alloc; "AT {position} KEPT {kept} FRAMES {frames}\n")?,
+        format!(in alloc; "AT {position} KEPT {kept} FRAMES {frames}\n"),
     )
 }
