@@ -160,6 +160,46 @@ fn push_all_attributes<S: SetBoard>(
     Ok(())
 }
 
+/// Appends the entities of a class that the last step ended.
+fn push_ended<S: SetBoard>(
+    alloc: Global,
+    debugger: &mut Debugger<S>,
+    class: usize,
+    changes: &mut Vec<Change>,
+) -> Result<(), AllocError>
+    requires { debugger.old.machine.forgotten < position debugger.old.machine }
+    ensures stays { OnOk result (HasReturned debugger.old debugger.new) }
+    ensures changes { OnOk result (changes.new.items ≡ changes.old.items
+        ++ changed_among debugger.old (absent_in (program_of debugger.old)
+        (state_of debugger.old) (entities_in (state_before debugger.old) class))) }
+    ensures memory { OnErr result (IsBehind debugger.old debugger.new) }
+{
+    let lived = entities_before(alloc, debugger, class)?;
+    debugger.machine().known();
+    let ended = absent_parts(alloc, debugger.machine(), &lived)?;
+    push_changed(alloc, debugger, &ended, changes)
+}
+
+/// Appends the entities of a class that the last step made.
+fn push_made<S: SetBoard>(
+    alloc: Global,
+    debugger: &mut Debugger<S>,
+    class: usize,
+    changes: &mut Vec<Change>,
+) -> Result<(), AllocError>
+    requires { debugger.old.machine.forgotten < position debugger.old.machine }
+    ensures stays { OnOk result (HasReturned debugger.old debugger.new) }
+    ensures changes { OnOk result (changes.new.items ≡ changes.old.items
+        ++ changed_among debugger.old (absent_in (program_of debugger.old)
+        (state_before debugger.old) (entities_in (state_of debugger.old) class))) }
+    ensures memory { OnErr result (IsBehind debugger.old debugger.new) }
+{
+    debugger.machine().known();
+    let living = entities_now(alloc, debugger.machine(), class)?;
+    let made = absent_before(alloc, debugger, &living)?;
+    push_changed(alloc, debugger, &made, changes)
+}
+
 /// Appends the entities of a class that the last step ended, then those that it made.
 fn push_entities<S: SetBoard>(
     alloc: Global,
@@ -174,14 +214,8 @@ fn push_entities<S: SetBoard>(
         (state_before debugger.old) (state_of debugger.old) class)) }
     ensures memory { OnErr result (IsBehind debugger.old debugger.new) }
 {
-    let lived = entities_before(alloc, debugger, class)?;
-    debugger.machine().known();
-    let ended = absent_parts(alloc, debugger.machine(), &lived)?;
-    push_changed(alloc, debugger, &ended, changes)?;
-    debugger.machine().known();
-    let living = entities_now(alloc, debugger.machine(), class)?;
-    let made = absent_before(alloc, debugger, &living)?;
-    push_changed(alloc, debugger, &made, changes)
+    push_ended(alloc, debugger, class, changes)?;
+    push_made(alloc, debugger, class, changes)
 }
 
 /// Appends the entities of all classes that the last step made or ended.
@@ -243,6 +277,43 @@ fn push_all_lists<S: SetBoard>(
     Ok(())
 }
 
+/// Appends the notices before the last step that it changed.
+fn push_earlier_notices<S: SetBoard>(
+    alloc: Global,
+    debugger: &mut Debugger<S>,
+    changes: &mut Vec<Change>,
+) -> Result<(), AllocError>
+    requires { debugger.old.machine.forgotten < position debugger.old.machine }
+    ensures stays { OnOk result (HasReturned debugger.old debugger.new) }
+    ensures changes { OnOk result (changes.new.items ≡ changes.old.items
+        ++ changed_among debugger.old (notices_in (program_of debugger.old)
+        (state_before debugger.old))) }
+    ensures memory { OnErr result (IsBehind debugger.old debugger.new) }
+{
+    let earlier = notices_before(alloc, debugger)?;
+    push_changed(alloc, debugger, &earlier, changes)
+}
+
+/// Appends the notices that the last step scheduled.
+fn push_new_notices<S: SetBoard>(
+    alloc: Global,
+    debugger: &mut Debugger<S>,
+    changes: &mut Vec<Change>,
+) -> Result<(), AllocError>
+    requires { debugger.old.machine.forgotten < position debugger.old.machine }
+    ensures stays { OnOk result (HasReturned debugger.old debugger.new) }
+    ensures changes { OnOk result (changes.new.items ≡ changes.old.items
+        ++ changed_among debugger.old (absent_in (program_of debugger.old)
+        (state_before debugger.old)
+        (notices_in (program_of debugger.old) (state_of debugger.old)))) }
+    ensures memory { OnErr result (IsBehind debugger.old debugger.new) }
+{
+    debugger.machine().known();
+    let pending = notices_now(alloc, debugger.machine())?;
+    let new = absent_before(alloc, debugger, &pending)?;
+    push_changed(alloc, debugger, &new, changes)
+}
+
 /// Appends the notices that the last step took off, then those that it scheduled.
 fn push_notices<S: SetBoard>(
     alloc: Global,
@@ -256,12 +327,31 @@ fn push_notices<S: SetBoard>(
         (state_before debugger.old) (state_of debugger.old))) }
     ensures memory { OnErr result (IsBehind debugger.old debugger.new) }
 {
-    let earlier = notices_before(alloc, debugger)?;
-    push_changed(alloc, debugger, &earlier, changes)?;
-    debugger.machine().known();
-    let pending = notices_now(alloc, debugger.machine())?;
-    let new = absent_before(alloc, debugger, &pending)?;
-    push_changed(alloc, debugger, &new, changes)
+    push_earlier_notices(alloc, debugger, changes)?;
+    push_new_notices(alloc, debugger, changes)
+}
+
+/// Appends what the last step changed.
+fn push_last_changes<S: SetBoard>(
+    alloc: Global,
+    debugger: &mut Debugger<S>,
+    changes: &mut Vec<Change>,
+) -> Result<(), AllocError>
+    requires kept { debugger.old.machine.forgotten < position debugger.old.machine }
+    requires none { changes.old.items ≡ [] }
+    ensures stays { OnOk result (HasReturned debugger.old debugger.new) }
+    ensures changes { OnOk result (changes.new.items ≡ changes_between
+        (program_of debugger.old) (state_before debugger.old) (state_of debugger.old)) }
+    ensures memory { OnErr result (IsBehind debugger.old debugger.new) }
+{
+    push_globals(alloc, debugger, changes)?;
+    push_locals(alloc, debugger, changes)?;
+    push_all_attributes(alloc, debugger, changes)?;
+    push_all_entities(alloc, debugger, changes)?;
+    push_all_lists(alloc, debugger, changes)?;
+    push_notices(alloc, debugger, changes)?;
+    let others = [Part::Taken, Part::Entry, Part::Clock, Part::Report];
+    push_changed(alloc, debugger, &others, changes)
 }
 
 /// What the last step changed.
@@ -276,13 +366,6 @@ pub fn last_changes<S: SetBoard>(
     ensures memory { OnErr result (IsBehind debugger.old debugger.new) }
 {
     let mut changes = Vec::new(alloc);
-    push_globals(alloc, debugger, &mut changes)?;
-    push_locals(alloc, debugger, &mut changes)?;
-    push_all_attributes(alloc, debugger, &mut changes)?;
-    push_all_entities(alloc, debugger, &mut changes)?;
-    push_all_lists(alloc, debugger, &mut changes)?;
-    push_notices(alloc, debugger, &mut changes)?;
-    let others = [Part::Taken, Part::Entry, Part::Clock, Part::Report];
-    push_changed(alloc, debugger, &others, &mut changes)?;
+    push_last_changes(alloc, debugger, &mut changes)?;
     Ok(changes)
 }

@@ -7,8 +7,8 @@ use Rattle.ss_changes.specs.Parts.{below_of, global_part, local_parts, attribute
 use Rattle.ss_changes.specs.Parts.{notice_parts, parts_of}
 use Rattle.ss_changes.specs.View.{program_of, state_of, state_before, changed_among}
 use Rattle.ss_changes.proofs.Returns.{stayed, returned_on}
-use Rattle.ss_changes.proofs.Saying.{next_section}
-use Rattle.ss_changes.proofs.changes.last_changes.Goals as goal
+use Rattle.ss_changes.proofs.Saying.{next_section, on_ok}
+use Rattle.ss_changes.proofs.changes.push_last_changes.Goals as goal
 
 abbrev Section : Type 0
 Section = ProgramTable → State → State → List Part
@@ -65,8 +65,8 @@ returns-clause-changes g c =
     let f5 = both f4 lists in
     let f6 = both f5 notice_parts in
     let k1 =
-    next_section d d nothing globals c.new-changes.result.items c.push_globals.new.changes.items h0
-    c.new-changes.ensures.items c.in_ok-push_globals.ensures.changes in
+    next_section d d nothing globals c.args.changes.now.items c.push_globals.new.changes.items h0
+    c.requires.none c.in_ok-push_globals.ensures.changes in
     let k2 =
     next_section d c.push_globals.new.debugger f1 local_parts c.push_globals.new.changes.items
     c.push_locals.new.changes.items h1 k1 c.in_ok-push_locals.ensures.changes in
@@ -82,7 +82,7 @@ returns-clause-changes g c =
     let k6 =
     next_section d c.push_all_lists.new.debugger f5 notice_parts c.push_all_lists.new.changes.items
     c.push_notices.new.changes.items h5 k5 c.in_ok-push_notices.ensures.changes in
-    let k7 =
+    on_ok c.push_changed.result c.push_changed.ensures.changes (λ e.
     next_section d c.push_notices.new.debugger f6 others c.push_notices.new.changes.items
-    c.push_changed.new.changes.items h6 k6 c.in_ok-push_changed.ensures.changes in
-    k7 ∙ ap (λ (xs : List Part). changed_among d xs) (in_order (program_of d) (state_before d) (state_of d))
+    c.push_changed.new.changes.items h6 k6 e
+    ∙ ap (λ (xs : List Part). changed_among d xs) (in_order (program_of d) (state_before d) (state_of d)))
