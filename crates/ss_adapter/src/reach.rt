@@ -14,21 +14,21 @@ use ss_trace::{Movement, Question, make_movement};
 use std::alloc::{AllocError, Global};
 
 /// Which way the run goes.
-#[derive(Clone, Copy, Debug, PartialEq, Eq)]
+#[derive(Clone, Copy)]
 pub enum Way {
     Forward,
     Back,
 }
 
 /// How far a movement leads, in steps, and whether it ends at a change.
-#[derive(Clone, Copy, Debug, PartialEq, Eq)]
+#[derive(Clone, Copy)]
 pub struct Reach {
     pub steps: u64,
     pub met: bool,
 }
 
 /// The reach of the text in a place.
-#[derive(Clone, Copy, Debug, PartialEq, Eq)]
+#[derive(Clone, Copy)]
 pub struct Found {
     pub place: usize,
     pub reach: Reach,

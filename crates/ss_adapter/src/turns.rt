@@ -15,7 +15,7 @@ use ss_messages::{Command, Post, Request};
 use std::alloc::AllocError;
 
 /// Whether a session goes on behind a request.
-#[derive(Clone, Copy, Debug, PartialEq, Eq)]
+#[derive(Clone, Copy)]
 pub enum Further {
     /// The next request is read.
     On,

@@ -12,7 +12,7 @@ pub const MOST_ROWS: usize = 1_000;
 pub const FIRST_LOCALS: u32 = 7;
 
 /// What a reference refers to.
-#[derive(Clone, Copy, Debug, PartialEq, Eq)]
+#[derive(Clone, Copy)]
 pub enum Group {
     Nothing,
     /// The global variables.

@@ -21,7 +21,7 @@ use std::alloc::AllocError;
 
 /// A kept attribute: `F.s`, `L.s` and `N.s` of the owners of a set's lists, `P.s`, `S.s` and `M.s`
 /// of its members.
-#[derive(Clone, Copy, Debug, PartialEq, Eq)]
+#[derive(Clone, Copy)]
 pub enum Kept {
     First,
     Last,

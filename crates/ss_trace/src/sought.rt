@@ -13,7 +13,7 @@ use ss_machine::Status;
 use std::alloc::AllocError;
 
 /// What a movement looks for, at another position than where it begins.
-#[derive(Clone, Copy, Debug, PartialEq, Eq)]
+#[derive(Clone, Copy)]
 pub enum Sought {
     /// No more frames than so many.
     Level(usize),

@@ -13,7 +13,7 @@ use ss_links::SetBoard;
 use ss_program::{Assign, Control, Filing, Looping, Making, Place, Target};
 
 /// A part of a state at which a question looks beside its glance.
-#[derive(Clone, Copy, Debug, PartialEq, Eq)]
+#[derive(Clone, Copy)]
 pub enum Part {
     /// Any part.
     Anything,
@@ -28,7 +28,7 @@ pub enum Part {
 }
 
 /// How much a step may change of the part at which a question looks.
-#[derive(Clone, Copy, Debug, PartialEq, Eq)]
+#[derive(Clone, Copy)]
 pub enum Touch {
     /// Nothing of it.
     Nothing,
