@@ -1,12 +1,12 @@
 -- Where a question changes, seen from the debugger that stands there.
 use Rattle.std.proofs.Common.{◌≡◌, ℕ, ◌+◌, ◌-◌, ◌<◌, ◌≤◌, zero, suc, List, Bool, true, false, refl, sym, ◌∙◌, arith}
-use Rattle.std.specs.Prelude.{nat_lt, not, bytes_eq, ◌&&◌, ◌||◌}
+use Rattle.std.specs.Prelude.{nat_lt, not, bytes_eq, ◌&&◌}
 use Rattle.std.specs.Bool.{one_answer}
 use Rattle.std.proofs.lemmas.Bool.{lt-ltb}
 use borrow.Author.Tests.{ltb-true}
 use Rattle.std.proofs.lemmas.Slice.Eq.{bytes_eq-Decides}
 use Rattle.ss_machine.specs.Run.{Input}
-use Rattle.ss_debug.specs.Move.{is_ready_at, is_on_break, is_stop, stops, stops_back}
+use Rattle.ss_debug.specs.Move.{is_stop, stops, stops_back}
 use Rattle.ss_trace.specs.declared.question.Question.{Question}
 use Rattle.ss_trace.specs.Question.{answer_at, changes_at}
 use Rattle.ss_trace.specs.Movements.{has_changed, ahead_condition, is_met, is_met_back}
@@ -19,18 +19,6 @@ same_turned xs ys =
     (λ h. sym (d.0 h), λ e. d.1 (sym e))
 
 -- ---- forward
-
-stop_of : (r l t b m : Bool) → m ≡ (l && t) → (not r || m || (l && b)) ≡ (not r || false || (l && (t || b)))
-stop_of false l t b m e = refl
-stop_of true false t b m e = rw e refl
-stop_of true true true b m e = rw e refl
-stop_of true true false b m e = rw e refl
-
--- where a movement stops, if it is known whether it met what it looks for
-pub stop_where : (t : Input) (bs : List ℕ) (test : ℕ → Bool) (p q : ℕ) (m : Bool) → m ≡ is_met test p q →
-    (not (is_ready_at t q) || m || (nat_lt p q && is_on_break t bs q)) ≡ is_stop t (ahead_condition t bs test) p q
-stop_where t bs test p q m e =
-    stop_of (is_ready_at t q) (nat_lt p q) (test q) (is_on_break t bs q) m e
 
 -- what stops a movement forward at q, k positions on
 pub stops_here : (t u : Input) (bs cs : List ℕ) (x : Question) (p q k from : ℕ) → u ≡ t → cs ≡ bs → q ≡ p + k →
@@ -61,10 +49,6 @@ met_behind t x p q r h e =
 pub stops_back_where : (test : ℕ → Bool) (p q k : ℕ) → p ≡ q + k → 0 < k → stops_back test p k ≡ test q
 stops_back_where test p q k e h =
     let some : nat_lt 0 k ≡ true = lt-ltb 0 k h in let here : p - k ≡ q = omega (arith, e) in rw (some, here) refl
-
--- it does not stop where it begins
-pub no_stop_at_first : (test : ℕ → Bool) (p : ℕ) → stops_back test p 0 ≡ false
-no_stop_at_first test p = refl
 
 -- a movement back met what it looks for where its test holds
 pub met_back_at : (test : ℕ → Bool) (p q : ℕ) → q < p → is_met_back test p q ≡ test q

@@ -5,7 +5,7 @@ use Rattle.ss_machine.specs.Moment.{position, HasGoneBack}
 use Rattle.ss_machine.specs.Run.{Input}
 use Rattle.ss_debug.specs.Move.{is_ready_at}
 use Rattle.ss_debug.specs.View.{DebuggerView}
-use Rattle.ss_trace.specs.View.{IsBetween, HasLookedBack}
+use Rattle.ss_trace.specs.View.{HasLookedBack}
 
 -- it did not go
 pub looked_nowhere : (d : DebuggerView) → HasLookedBack d d
@@ -52,37 +52,3 @@ looked_on old l new h k = record {
         j < position old.machine → is_ready_at old.machine.input j ≡ true
     on_by true j e a b = rw h.input at (k.ready j a (omega (arith, ltb-true _ _ e)))
     on_by false j e a b = h.ready j (omega (arith, ltb-false _ _ e)) b
-
--- it stands at a kept position, not behind where it began
-pub looked_between : (old new : DebuggerView) → HasLookedBack old new →
-    IsBetween old old.machine.forgotten (position old.machine) new
-looked_between old new h = record {
-  input = h.input;
-  forgotten = h.forgotten;
-  breaks = h.breaks;
-  no_earlier = omega (arith, h.forgotten);
-  no_later = h.no_later;
-}
-
--- it stands between where it looked back to and where it began
-pub between_looked : (old l new : DebuggerView) (p : ℕ) → HasLookedBack old l → p ≤ position old.machine →
-    IsBetween l (position l.machine) p new → IsBetween old old.machine.forgotten (position old.machine) new
-between_looked old l new p h o k = record {
-  input = k.input ∙ h.input;
-  forgotten = k.forgotten ∙ h.forgotten;
-  breaks = k.breaks ∙ h.breaks;
-  no_earlier = omega (arith, h.forgotten, k.no_earlier);
-  no_later = omega (arith, k.no_later, o);
-}
-
--- it was refused memory further back
-pub between_on : (old l new : DebuggerView) → HasLookedBack old l →
-    IsBetween l l.machine.forgotten (position l.machine) new →
-    IsBetween old old.machine.forgotten (position old.machine) new
-between_on old l new h k = record {
-  input = k.input ∙ h.input;
-  forgotten = k.forgotten ∙ h.forgotten;
-  breaks = k.breaks ∙ h.breaks;
-  no_earlier = omega (arith, h.forgotten, k.no_earlier);
-  no_later = omega (arith, h.no_later, k.no_later);
-}
