@@ -1,50 +1,10 @@
 -- The members of a list by their places.
-use Rattle.std.proofs.Common.{◌≡◌, ℕ, zero, suc, ◌+◌, ◌-◌, ◌<◌, ◌≤◌, ◌==◌, Bool, true, false, cond, List, [], ◌∷◌, ◌++◌}
-use Rattle.std.proofs.Common.{length, take, drop, refl, sym, ap, ◌∙◌, arith, Option, Some, None, slice_get, unwrap_or}
-use Rattle.std.specs.Prelude.{is_some, Ok}
-use Rattle.std.specs.Result.{result_unwrap_or}
+use Rattle.std.proofs.Common.{◌≡◌, ℕ, zero, suc, ◌+◌, ◌-◌, ◌≤◌, ◌==◌, true, false, List, [], ◌∷◌, ◌++◌}
+use Rattle.std.proofs.Common.{take, drop, refl, sym, ap, ◌∙◌, arith, Some, None, slice_get}
 use Rattle.std.proofs.lemmas.Bool.Decides.{nat_tests}
-use Rattle.ss_words.specs.declared.fault.RunFault.TheVariants.{NoEntity}
 use Rattle.ss_links.specs.Seats.{has, times_in, first_of, next_in}
 use Rattle.ss_links.proofs.SeatLaws.{times_in-present}
-use Rattle.ss_store.specs.declared.shape.SetShape.{SetShape}
-use Rattle.ss_store.specs.Store.{Store, exists, list_by, members_of, unless}
-use Rattle.ss_store.specs.Filing.{walk_first, count, is_in}
 use Rattle.ss_store.proofs.Core.{some_eq}
-
--- ---- what is read of a list
-
-first_read : (o : Option (List ℕ)) →
-    result_unwrap_or (unless NoEntity (is_some o) (Ok (first_of (unwrap_or o [])))) None
-    ≡ slice_get (unwrap_or o []) 0
-first_read None = refl
-first_read (Some []) = refl
-first_read (Some (k ∷ ks)) = refl
-
--- the first member
-pub first_found : (s : SetShape) (st : Store) (o : ℕ) →
-    result_unwrap_or (walk_first s st o) None ≡ slice_get (members_of s st o) 0
-first_found s st o = first_read (list_by s.owner s.list st o)
-
-count_read : (o : Option (List ℕ)) →
-    result_unwrap_or (unless NoEntity (is_some o) (Ok (length (unwrap_or o [])))) 0 ≡ length (unwrap_or o [])
-count_read None = refl
-count_read (Some ks) = refl
-
--- how many there are
-pub count_found : (s : SetShape) (st : Store) (o : ℕ) →
-    result_unwrap_or (count s st o) 0 ≡ length (members_of s st o)
-count_found s st o = count_read (list_by s.owner s.list st o)
-
-has_read : (o : Option (List ℕ)) (k : ℕ) →
-    result_unwrap_or (unless NoEntity (is_some o) (Ok (has (unwrap_or o []) k))) false ≡ has (unwrap_or o []) k
-has_read None k = refl
-has_read (Some ks) k = refl
-
--- whether an entity that exists is a member
-pub has_found : (s : SetShape) (st : Store) (o k : ℕ) → exists st s.member k ≡ true →
-    result_unwrap_or (is_in s st o k) false ≡ has (members_of s st o) k
-has_found s st o k h = rw h (has_read (list_by s.owner s.list st o) k)
 
 -- ---- a walk
 

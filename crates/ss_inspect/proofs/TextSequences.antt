@@ -9,12 +9,6 @@ pub text_more : (text : ℕ → List ℕ) (n m : ℕ) (old so_far new : List ℕ
 text_more text n m old so_far new e h k =
     let next : m ≡ suc n = omega (arith, e) in rw (next, k, h) (append_assoc old _ _)
 
--- one text more, of a number whose text is empty
-pub nothing_more : (text : ℕ → List ℕ) (n m : ℕ) (old so_far : List ℕ) → m ≡ n + 1 →
-    so_far ≡ old ++ lines_below text n → text n ≡ [] → so_far ≡ old ++ lines_below text m
-nothing_more text n m old so_far e h k =
-    let next : m ≡ suc n = omega (arith, e) in rw (next, k, append-nil (lines_below text n)) h
-
 past_by : (text : ℕ → List ℕ) (n d m : ℕ) → m ≡ n + d → ((i : ℕ) → n ≤ i → text i ≡ []) →
     lines_below text m ≡ lines_below text n
 past_by text n zero m e h = let same : m ≡ n = omega (arith, e) in rw same refl
