@@ -147,6 +147,11 @@ def differs(wanted, found):
     return "; ".join(f"{name} was {str(it)[:300]}" for name, it, right in parts if it != right)
 
 
+def wrong_run(wanted, words, refused=()):
+    """Returns what is wrong with how a run ends, beside what is wanted, with this refused."""
+    return differs(wanted, run(words, **dict(refused)))
+
+
 def fits(shown, told):
     """Whether what is told is what is shown, where a line `..` stands for lines left out."""
     if told == shown:

@@ -11,8 +11,7 @@
                         WRITES_FAIL is set
 
    It says 'growth refused' on standard error where it refuses one, and tells numbers there, a line
-   each. tests/programs.py builds it and has it loaded before the C library, whose heap serves the
-   rest. It is a tool of the tests, and no part of any crate. */
+   each. tests/programs.py has it loaded before the C library, whose heap serves the rest. */
 
 typedef __SIZE_TYPE__ size_t;
 
