@@ -82,7 +82,7 @@ fn append(rt: &impl Abort, report: &mut Report, picture: &Picture) {
     refuses(rt, report, 1000, StepFault::Memory, bytes);
 }
 
-// tests/refused runs this with each of its growths refused in turn.
+// tests/growths runs this with each of its growths refused in turn.
 #[test]
 fn a_refused_growth_leaves_the_report(rt: HostRuntime) {
     if let Ok(picture) = picture(rt.alloc(), b"***") {
