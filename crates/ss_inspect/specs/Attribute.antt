@@ -42,10 +42,6 @@ told_text class x None program store = class_text class x program store (class_n
 told_text class x (Some name) program store =
     class_attribute_text class x name program store (class_named program class)
 
--- the answer to SHOW c k a in state p
-unfoldable pub attribute_text : List ℕ → ℤ → List ℕ → Input → ℕ → List ℕ
-attribute_text class x name input p = told_text class x (Some name) input.program (run input p).store
-
 -- ---- by a variable
 
 -- the answer with the value of a variable as the number, or that there is no such variable

@@ -1,49 +1,18 @@
--- How many members a list has, a part of them, and the lists in which an entity is.
-use Rattle.std.specs.Prelude.{ℕ, suc, ◌==◌, ℤ, pos, List, [], ◌∷◌, ◌++◌, length, take, drop, codes, decimal}
+-- A part of the members of a list, and the lists in which an entity is.
+use Rattle.std.specs.Prelude.{ℕ, suc, ◌==◌, ℤ, pos, List, [], ◌++◌, length, take, drop, codes, decimal}
 use Rattle.std.specs.Prelude.{Option, Some, None, if◌then◌else◌, nat_eq}
-use Rattle.std.specs.Fmt.{signed_decimal}
 use Rattle.ss_links.specs.Seats.{has}
 use Rattle.ss_program.specs.declared.kinds.Owner.{Owner}
 use Rattle.ss_program.specs.declared.kinds.Owner.TheVariants.{System, OwnedBy}
-use Rattle.ss_program.specs.Program.{ProgramTable, class_of, set_of}
+use Rattle.ss_program.specs.Program.{ProgramTable, set_of}
 use Rattle.ss_store.specs.Store.{Store, number_of, exists, greatest_number, members_of}
 use Rattle.ss_events.specs.Agenda.{Pending, pending_at}
 use Rattle.ss_events.specs.Slots.{slot_of}
 use Rattle.ss_machine.specs.State.{State}
 use Rattle.ss_machine.specs.Run.{Input, run}
 use Rattle.ss_debug.specs.Answer.{notice_line}
-use Rattle.ss_debug.specs.Entities.{class_named, set_named, shape_of, no_entity_text, listed_text, owner_or_variable}
+use Rattle.ss_debug.specs.Entities.{class_named, shape_of, no_entity_text, listed_text}
 use Rattle.ss_inspect.specs.Texts.{texts_below, no_such_text}
-
--- ---- how many members
-
--- how many members the list of set number s has for the owner that x names
-abbrev pub counted_text : ProgramTable → Store → ℕ → ℤ → List ℕ
-counted_text program store s x =
-    codes ": " ++ decimal (length (members_of (shape_of program s) store (number_of x))) ++ 10 ∷ []
-
--- the same for the entity of class c that x names, or that there is none
-abbrev pub owned_count_text : List ℕ → ProgramTable → Store → ℕ → ℕ → ℤ → List ℕ
-owned_count_text name program store s c x =
-    if exists store c (number_of x)
-    then codes "COUNT " ++ name ++ codes " " ++ signed_decimal x ++ counted_text program store s x
-    else no_entity_text (class_of program c).name x
-
--- the same of set number s, whose lists are the system's or a class's
-abbrev pub list_count_text : List ℕ → Option ℤ → ProgramTable → State → ℕ → Owner → List ℕ
-list_count_text name None program state s System = codes "COUNT " ++ name ++ counted_text program state.store s (pos 0)
-list_count_text name (Some x) program state s System = no_entity_text (codes "SYSTEM") x
-list_count_text name owner program state s (OwnedBy c) =
-    owned_count_text name program state.store s c (owner_or_variable owner program state c)
-
--- the same of the set of this number, or that there is no set of this name
-abbrev pub named_count_text : List ℕ → Option ℤ → ProgramTable → State → Option ℕ → List ℕ
-named_count_text name owner program state None = no_such_text (codes "SET") name
-named_count_text name owner program state (Some s) = list_count_text name owner program state s (set_of program s).owner
-
--- the answer to SHOW COUNT s k in state p
-unfoldable pub count_text : List ℕ → Option ℤ → Input → ℕ → List ℕ
-count_text name owner input p = named_count_text name owner input.program (run input p) (set_named input.program name)
 
 -- ---- a part of a list
 

@@ -1,14 +1,13 @@
-//! The answers to SHOW c k a, SHOW c v and SHOW c v a.
+//! The answers to SHOW c v and SHOW c v a.
 ghost use Rattle.std.specs.Prelude.{◌≡◌, ◌++◌, ◌<◌, length, OnOk};
 ghost use Rattle.std.specs.Option.{option_map};
 ghost use Rattle.ss_store.specs.Store.{number_of};
 ghost use Rattle.ss_machine.specs.Moment.{position};
 ghost use Rattle.ss_machine.specs.Readings.{variable_in};
-ghost use Rattle.ss_machine.specs.Run.{run};
 ghost use Rattle.ss_debug.specs.Answer.{variable_named};
 ghost use Rattle.ss_debug.specs.Entities.{entity_lines};
 ghost use Rattle.ss_inspect.specs.Attribute.{tells, line_telling, line_or_none, told_text};
-ghost use Rattle.ss_inspect.specs.Attribute.{attribute_text, by_variable_text};
+ghost use Rattle.ss_inspect.specs.Attribute.{by_variable_text};
 
 use crate::texts::{push_no_entity, push_no_such};
 use ss_debug::{find_class, find_variable, push_entity, push_integer, split_line};
@@ -99,24 +98,6 @@ fn push_told<S: SetBoard>(
     push_entity(text, machine, class, x)
 }
 
-/// Appends the answer to SHOW c k a: the line `a = value` of the entity of the class of this name
-/// with the number x, kept attributes as well, or `NO CLASS c`, `NO ENTITY c k`, `NO ATTRIBUTE a`.
-#[tactic(auto, unfolding(crate::specs::Attribute::attribute_text))]
-pub fn push_attribute<S: SetBoard>(
-    alloc: Global,
-    text: &mut Vec<u8>,
-    machine: &Machine<S>,
-    class: &[u8],
-    x: i64,
-    name: &[u8],
-) -> Result<(), AllocError>
-    ensures { OnOk result (text.new.items ≡ text.old.items
-        ++ attribute_text class.now x name.now machine.now.input (position machine.now)) }
-{
-    machine.known();
-    push_told(alloc, text, machine, class, x, Some(name))
-}
-
 /// The value of the variable of this name: TIME.V, else a global variable, else a local of the last
 /// frame; `None` where there is none.
 pub fn variable_value<S: SetBoard>(machine: &Machine<S>, name: &[u8]) -> Option<i64>
@@ -128,8 +109,8 @@ pub fn variable_value<S: SetBoard>(machine: &Machine<S>, name: &[u8]) -> Option<
     Some(machine.variable(variable))
 }
 
-/// Appends the answer to SHOW c v, or to SHOW c v a where an attribute is named: what SHOW c k or
-/// SHOW c k a answer where k is the value of the variable v, or `NO VARIABLE v`.
+/// Appends the answer to SHOW c v, or to SHOW c v a where an attribute is named, kept ones as well:
+/// what SHOW c k or SHOW c k a answer where k is the value of the variable v, or `NO VARIABLE v`.
 #[tactic(auto, unfolding(crate::specs::Attribute::by_variable_text))]
 pub fn push_by_variable<S: SetBoard>(
     alloc: Global,

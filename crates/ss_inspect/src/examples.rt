@@ -4,8 +4,8 @@
 ghost use Rattle.std.specs.Prelude.{◌≡◌, codes, pos, Some, None};
 ghost use Rattle.ss_inspect.specs.Frames.{calls_text, locals_text, globals_text};
 ghost use Rattle.ss_inspect.specs.Living.{living_text};
-ghost use Rattle.ss_inspect.specs.Attribute.{attribute_text, by_variable_text};
-ghost use Rattle.ss_inspect.specs.Lists.{count_text, places_text};
+ghost use Rattle.ss_inspect.specs.Attribute.{by_variable_text};
+ghost use Rattle.ss_inspect.specs.Lists.{places_text};
 ghost use Rattle.ss_inspect.specs.Tables.{classes_text, sets_text, sections_text};
 ghost use Rattle.ss_inspect.specs.Examples as e;
 
@@ -19,19 +19,17 @@ fn frames_and_variables_are_seen()
     ensures globals { globals_text e.desks_run 5 ≡ codes "DESK = 0\nN.DESK = 3\nJOB = 1\n" }
 {}
 
-/// Which entities live, and one attribute, also of the entity that a variable names.
+/// Which entities live, and one attribute of the entity that a variable names.
 fn entities_are_seen()
     ensures living { living_text (codes "DESK") e.desks_run 5 ≡ codes "DESK: 1 2 3\n" }
     ensures none { living_text (codes "JOB") e.jobs_run 0 ≡ codes "JOB: EMPTY\n" }
     ensures no_class { living_text (codes "ROW") e.jobs_run 0 ≡ codes "NO CLASS ROW\n" }
-    ensures attribute { attribute_text (codes "DESK") (pos 2) (codes "OPEN") e.desks_run 5
-        ≡ codes "OPEN = 7\n" }
-    ensures kept { attribute_text (codes "DESK") (pos 2) (codes "N.ROW") e.desks_run 5
-        ≡ codes "N.ROW = 1\n" }
-    ensures no_attribute { attribute_text (codes "DESK") (pos 2) (codes "SIZE") e.desks_run 5
-        ≡ codes "NO ATTRIBUTE SIZE\n" }
-    ensures no_entity { attribute_text (codes "DESK") (pos 4) (codes "OPEN") e.desks_run 5
-        ≡ codes "NO ENTITY DESK 4\n" }
+    ensures kept { by_variable_text (codes "JOB") (codes "JOB") (Some (codes "M.ROW"))
+        e.jobs_run 3 ≡ codes "M.ROW = 1\n" }
+    ensures no_attribute { by_variable_text (codes "JOB") (codes "JOB") (Some (codes "OPEN"))
+        e.jobs_run 3 ≡ codes "NO ATTRIBUTE OPEN\n" }
+    ensures no_entity { by_variable_text (codes "DESK") (codes "DESK") (Some (codes "OPEN"))
+        e.desks_run 5 ≡ codes "NO ENTITY DESK 0\n" }
     ensures by_variable { by_variable_text (codes "JOB") (codes "JOB") (Some (codes "SIZE"))
         e.jobs_run 3 ≡ codes "SIZE = 5\n" }
     ensures whole { by_variable_text (codes "JOB") (codes "JOB") None e.jobs_run 3
@@ -40,13 +38,8 @@ fn entities_are_seen()
         ≡ codes "NO VARIABLE Y\n" }
 {}
 
-/// How many members a list has, and where an entity is.
+/// Where an entity is.
 fn lists_are_seen()
-    ensures count { count_text (codes "ROW") None e.jobs_run 3 ≡ codes "COUNT ROW: 1\n" }
-    ensures owned { count_text (codes "ROW") (Some (pos 2)) e.desks_run 4
-        ≡ codes "COUNT ROW 2: 1\n" }
-    ensures no_owner { count_text (codes "ROW") None e.desks_run 4 ≡ codes "NO ENTITY DESK 0\n" }
-    ensures no_set { count_text (codes "LINE") None e.desks_run 4 ≡ codes "NO SET LINE\n" }
     ensures in_set { places_text (codes "JOB") (pos 1) e.jobs_run 5 ≡ codes "ROW: 1\n" }
     ensures in_owned_set { places_text (codes "JOB") (pos 1) e.desks_run 5 ≡ codes "ROW 2: 1\n" }
     ensures pending { places_text (codes "TICK") (pos 1) e.ticks_run 1 ≡ codes "TICK 1 AT 3\n" }

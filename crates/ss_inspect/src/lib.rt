@@ -1,5 +1,5 @@
 //! What is seen of a state beside the debugger's own answers: frames and locals, global variables,
-//! the entities of a class that live, one attribute, counts and parts of lists, where an entity is,
+//! the entities of a class that live, one attribute, parts of lists, where an entity is,
 //! and the tables of the program. Each answer is read off the state of the run at the machine's
 //! position; names are given in upper case.
 //!
@@ -8,20 +8,20 @@
 #![tactic(auto)]
 
 mod attribute;
-mod counts;
 mod entities;
 mod examples;
 mod frames;
 mod laws;
+mod pages;
 mod places;
 mod rows;
 mod tables;
 mod texts;
 
-pub use attribute::{push_attribute, push_by_variable, variable_value};
-pub use counts::{members_page, push_count};
+pub use attribute::{push_by_variable, variable_value};
 pub use entities::{count_living, living_numbers, push_living};
 pub use frames::{push_calls, push_globals, push_locals};
 pub use laws::the_living_are_those_that_exist;
+pub use pages::members_page;
 pub use places::push_places;
 pub use tables::{push_classes, push_sections, push_sets};

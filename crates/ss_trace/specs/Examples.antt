@@ -3,12 +3,12 @@ use Rattle.std.specs.Prelude.{ℕ, pos, List, [], ◌∷◌, codes, false, None}
 use Rattle.ss_words.specs.declared.terms.SetEnd.TheVariants as ends
 use Rattle.ss_words.specs.declared.terms.TermSign.TheVariants.{Plus}
 use Rattle.ss_program.specs.declared.target.Target.TheVariants.{Variable as ToVariable, Attribute as ToAttribute}
-use Rattle.ss_program.specs.declared.making.Making.TheVariants.{Create, Destroy}
+use Rattle.ss_program.specs.declared.making.Making.TheVariants.{Create, CreateEvery, Destroy}
 use Rattle.ss_program.specs.declared.filing.Position.TheVariants.{ByRule}
 use Rattle.ss_program.specs.declared.filing.Filing.TheVariants.{File, RemoveAt}
-use Rattle.ss_program.specs.declared.kinds.ClassKind.TheVariants.{Temporary, Event as OfEvent}
+use Rattle.ss_program.specs.declared.kinds.ClassKind.TheVariants.{Permanent, Temporary, Event as OfEvent}
 use Rattle.ss_program.specs.declared.kinds.Discipline.TheVariants.{Fifo}
-use Rattle.ss_program.specs.declared.kinds.Owner.TheVariants.{System}
+use Rattle.ss_program.specs.declared.kinds.Owner.TheVariants.{System, OwnedBy}
 use Rattle.ss_program.specs.declared.kinds.SectionKind.{SectionKind}
 use Rattle.ss_program.specs.declared.kinds.SectionKind.TheVariants.{Main, Routine, Event}
 use Rattle.ss_program.specs.declared.place.Assign.TheVariants.{Let}
@@ -18,7 +18,7 @@ use Rattle.ss_program.specs.declared.place.Place.TheVariants.{Assign, Making, Fi
 use Rattle.ss_program.specs.declared.timing.Listing.TheVariants.{Given}
 use Rattle.ss_program.specs.declared.timing.When.TheVariants.{At}
 use Rattle.ss_program.specs.declared.variable.Variable.TheVariants.{Global, Local}
-use Rattle.ss_program.specs.ProgramExpr.{expr, no_sums, sum, term, no_products, variable, digits, implied}
+use Rattle.ss_program.specs.ProgramExpr.{expr, no_sums, sum, term, no_products, variable, digits, implied, at}
 use Rattle.ss_program.specs.Program.{ProgramTable, SectionTable}
 use Rattle.ss_machine.specs.Run.{Input, input_with}
 use Rattle.ss_machine.specs.Examples.{alone, number, job, queue, end_place, start_place, tick_of, on_one_line}
@@ -114,6 +114,30 @@ ticks = record {
 -- its run
 abbrev pub ticks_run : Input
 ticks_run = input_with ticks []
+
+-- desks, each with a row of jobs: 0 READ N.DESK; 1 CREATE EVERY DESK; 2 CREATE A JOB; 3 FILE JOB IN ROW(2);
+-- 4 LET OPEN(2) = 7; 5 END
+abbrev pub desks : ProgramTable
+desks = record {
+  globals = codes "DESK" ∷ codes "N.DESK" ∷ codes "JOB" ∷ [];
+  classes =
+      record { name = codes "DESK"; kind = Permanent 1; variable = 0; attributes = codes "OPEN" ∷ [] }
+      ∷ record { name = codes "JOB"; kind = Temporary; variable = 2; attributes = [] }
+      ∷ [];
+  sets = record { name = codes "ROW"; discipline = Fifo; owner = OwnedBy 0; member = 1 } ∷ [];
+  priority = [];
+  sections = section (codes "MAIN") Main 0 0 [] (
+      Read (ToVariable (Global 1) ∷ [])
+      ∷ Making (CreateEvery 0 None 1)
+      ∷ Making (Create 1 false (ToVariable (Global 2)))
+      ∷ Filing (File (alone (variable (Global 2))) ByRule (record { set = 0; owner = at (number 2) }))
+      ∷ Assign (Let false (ToAttribute 0 0 (at (number 2))) (number 7))
+      ∷ end_place ∷ []) ∷ [];
+}
+
+-- its run over the number of desks
+abbrev pub desks_run : Input
+desks_run = input_with desks (codes "3\n")
 
 -- 0 READ A, B, A; 1 LET A = 5; 2 END
 abbrev pub readings : ProgramTable

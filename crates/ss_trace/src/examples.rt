@@ -1,10 +1,10 @@
 //! Searches and histories of small runs: each function is a law, proved by computing.
 #![tactic(auto, unfolding(crate::proofs::Unfoldings::answers_together))]
 
-ghost use Rattle.std.specs.Prelude.{◌≡◌, ◌∷◌, [], codes, false, true, None, pos};
+ghost use Rattle.std.specs.Prelude.{◌≡◌, ◌∷◌, [], codes, false, true, Some, None, pos};
 ghost use Rattle.ss_debug.specs.declared.commands.Question.TheVariants as shown;
 ghost use Rattle.ss_trace.specs.declared.question.Question.TheVariants.{Shown, Count};
-ghost use Rattle.ss_trace.specs.Question.{changes_at};
+ghost use Rattle.ss_trace.specs.Question.{attribute_text, count_text, changes_at};
 ghost use Rattle.ss_trace.specs.History.{history, history_text};
 ghost use Rattle.ss_trace.specs.declared.touches.Part.TheVariants as parts;
 ghost use Rattle.ss_trace.specs.declared.touches.Touch.TheVariants.{Nothing, Attribute, Attributes, Set, Entities};
@@ -22,6 +22,23 @@ fn lists_and_entities_change()
     ensures attribute { history e.jobs_run e.size 0 11 ≡ 8 ∷ 1 ∷ 0 ∷ [] }
     ensures entity { history e.jobs_run (e.job_shown 1) 0 11 ≡ 8 ∷ 7 ∷ 2 ∷ 1 ∷ 0 ∷ [] }
     ensures another { history e.jobs_run (e.job_shown 2) 0 11 ≡ 9 ∷ [] }
+{}
+
+/// One attribute, a kept one too, and how many members a list has.
+fn attributes_and_counts_are_told()
+    ensures attribute { attribute_text (codes "DESK") (pos 2) (codes "OPEN") e.desks_run 5
+        ≡ codes "OPEN = 7\n" }
+    ensures kept { attribute_text (codes "DESK") (pos 2) (codes "N.ROW") e.desks_run 5
+        ≡ codes "N.ROW = 1\n" }
+    ensures no_attribute { attribute_text (codes "DESK") (pos 2) (codes "SIZE") e.desks_run 5
+        ≡ codes "NO ATTRIBUTE SIZE\n" }
+    ensures no_entity { attribute_text (codes "DESK") (pos 4) (codes "OPEN") e.desks_run 5
+        ≡ codes "NO ENTITY DESK 4\n" }
+    ensures count { count_text (codes "ROW") None e.jobs_run 3 ≡ codes "COUNT ROW: 1\n" }
+    ensures owned { count_text (codes "ROW") (Some (pos 2)) e.desks_run 4
+        ≡ codes "COUNT ROW 2: 1\n" }
+    ensures no_owner { count_text (codes "ROW") None e.desks_run 4 ≡ codes "NO ENTITY DESK 0\n" }
+    ensures no_set { count_text (codes "LINE") None e.desks_run 4 ≡ codes "NO SET LINE\n" }
 {}
 
 /// A set that is filed into and removed from in neighbouring steps changes at both.

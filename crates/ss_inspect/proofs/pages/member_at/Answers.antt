@@ -6,7 +6,7 @@ use Rattle.ss_store.specs.Tables.{set_of}
 use Rattle.ss_store.specs.Store.{number_of, members_of}
 use Rattle.ss_debug.proofs.Walks.{member_once, well_members}
 use Rattle.ss_inspect.proofs.Members.{has_at, next_at, none_further}
-use Rattle.ss_inspect.proofs.counts.member_at.Goals as goal
+use Rattle.ss_inspect.proofs.pages.member_at.Goals as goal
 
 pub member_behind-requires-clause-there : goal.member_behind-requires-clause-there
 member_behind-requires-clause-there g c = has_at _ c.loop-place.place c.loop-place.member c.loop-place.invariant

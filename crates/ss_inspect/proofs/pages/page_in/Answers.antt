@@ -5,7 +5,7 @@ use Rattle.ss_store.specs.Tables.{set_of}
 use Rattle.ss_store.specs.Store.{number_of, members_of}
 use Rattle.ss_debug.proofs.Walks.{member_once, well_members}
 use Rattle.ss_inspect.proofs.Members.{has_at, next_at, page_more, page_ends}
-use Rattle.ss_inspect.proofs.counts.page_in.Goals as goal
+use Rattle.ss_inspect.proofs.pages.page_in.Goals as goal
 
 pub loop-taken-init : goal.loop-taken-init
 loop-taken-init g c =

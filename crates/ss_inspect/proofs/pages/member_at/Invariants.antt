@@ -1,7 +1,7 @@
 use Rattle.std.proofs.Common.{◌≡◌, Some, slice_get}
 use Rattle.ss_store.specs.Tables.{set_of}
 use Rattle.ss_store.specs.Store.{number_of, members_of}
-use Rattle.ss_inspect.proofs.counts.member_at.Given as goal
+use Rattle.ss_inspect.proofs.pages.member_at.Given as goal
 
 abbrev pub invariant-loop-place : goal.invariant-loop-place
 invariant-loop-place g l =
