@@ -1,4 +1,4 @@
--- One entity, or one attribute of it, whose number is given or is the value of a variable.
+-- One entity, or one attribute of it, whose number is the value of a variable.
 use Rattle.std.specs.Prelude.{ℕ, ℤ, Bool, ◌&&◌, List, [], ◌∷◌, ◌++◌, length, drop, codes, Option, Some, None, find}
 use Rattle.std.specs.Prelude.{if◌then◌else◌, nat_eq}
 use Rattle.std.specs.List.{slice_split, starts_with}
