@@ -20,3 +20,6 @@ pub shown : (old new : DebuggerView) (k : DeskView) (displays : List Question) (
     lent_state new k.model displays ≡ prompt_state_after (lent_state old k.model k.displays) command →
     desk_showing k displays ≡ desk_showing k (console_after (adapter_state_of old k) command).displays
 shown old new k displays command e = ap (λ (v : PromptState). desk_showing k v.displays) e
+
+-- both
+pub ruleset left_behind = (led, shown)

@@ -103,7 +103,7 @@ fn first_line(alloc: Global, answer: &[u8]) -> Result<Vec<u8>, AllocError>
 }
 
 /// Obeys a command as the prompt does, and answers with what that says.
-#[tactic(auto, using(crate::proofs::Consoles::led, crate::proofs::Consoles::shown), unfolding(ss_messages::specs::Messages::posted_all))]
+#[tactic(auto, using(crate::proofs::Consoles::left_behind), unfolding(ss_messages::specs::Messages::posted_all))]
 fn say<S: SetBoard>(
     debugger: &mut Debugger<S>,
     desk: &mut Desk,

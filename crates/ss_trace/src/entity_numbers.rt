@@ -70,7 +70,7 @@ pub fn kept_number<S: SetBoard>(
 
 /// The members of a set beside an entity, and whether a list of the set holds it; none and `false`
 /// where the entities of its class are no members, or it does not exist.
-#[tactic(auto, using(crate::proofs::Neighbours::read_kept, crate::proofs::Neighbours::none_read, crate::proofs::Neighbours::none_kept, ss_debug::proofs::Tables::sets_kept))]
+#[tactic(auto, using(ss_debug::proofs::Tables::sets_kept))]
 pub fn neighbours_of<S: SetBoard>(
     machine: &Machine<S>,
     class: usize,
