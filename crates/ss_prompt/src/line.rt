@@ -1,5 +1,5 @@
 //! Lines that are made of words, and what they say to the debugger.
-ghost use Rattle.std.specs.Prelude.{◌≡◌, ◌≤◌, ◌∷◌, [], length, codes, Some};
+ghost use Rattle.std.specs.Prelude.{◌≡◌, ◌<◌, ◌≤◌, ◌∷◌, [], length, codes, None, Some};
 ghost use Rattle.ss_console.specs.declared.lines.TheConstants.{LONGEST_LINE};
 ghost use Rattle.ss_debug.specs.CommandLines.{command_words};
 ghost use Rattle.ss_prompt.specs.Words.{with_word, line_behind, command_behind, only_name_of};
@@ -27,7 +27,8 @@ impl Model for Line {
 impl Line {
     /// A line of these bytes; none where they are more than a line may have.
     pub fn new(bytes: &[u8]) -> Option<Line>
-        ensures { length bytes.now ≤ LONGEST_LINE → result ≡ Some bytes.now }
+        ensures fits { length bytes.now ≤ LONGEST_LINE → result ≡ Some bytes.now }
+        ensures long { LONGEST_LINE < length bytes.now → result ≡ None }
     {
         let mut line = Line {
             bytes: ArrayVec::new(),
