@@ -21,5 +21,5 @@ pub shown : (old new : DebuggerView) (k : DeskView) (displays : List Question) (
     desk_showing k displays ≡ desk_showing k (console_after (adapter_state_of old k) command).displays
 shown old new k displays command e = ap (λ (v : PromptState). desk_showing k v.displays) e
 
--- both
+-- what a command of the prompt left: the debugger and the desk
 pub ruleset left_behind = (led, shown)
