@@ -2,7 +2,7 @@
 use Rattle.std.proofs.lemmas.Bool.Decides.{nat_tests}
 use Rattle.std.proofs.Common.{◌≡◌, ◌⊎◌, inl, inr, ℕ, zero, suc, ◌<◌, ◌≤◌, ◌==◌, ◌&&◌, List, [], ◌∷◌, length}
 use Rattle.std.proofs.Common.{refl, ap, sym}
-use Rattle.std.proofs.Common.{subst, ◌∙◌, arith, slice_get, Option, Some, None, Bool, true, false, nat_lt, nat_le}
+use Rattle.std.proofs.Common.{subst, ◌∙◌, arith, slice_get, Some, Bool, true, false, nat_lt, nat_le}
 use Rattle.std.specs.Prelude.{not}
 use Rattle.std.specs.List.{list_all}
 use Rattle.ss_program.specs.Program.{is_same_owner}
@@ -12,8 +12,7 @@ use Rattle.ss_store.specs.declared.shape.ClassShape.{ClassShape}
 use Rattle.ss_store.specs.declared.shape.SetShape.{SetShape}
 use Rattle.ss_store.specs.Tables.{Tables, class_in, class_of}
 use Rattle.ss_store.specs.Tables.{AreTables, IsSet, owned_by}
-use Rattle.ss_store.specs.Value.{empty_value}
-use Rattle.model_tests.specs.Ground.{ground_classes, ground_sets, AreGroundSets, IsGround}
+use Rattle.model_tests.specs.Ground.{ground_classes, ground_sets, AreGroundSets}
 
 some_eq : {A : Type 0} {a b : A} → Some a ≡ Some b → a ≡ b
 some_eq e = cc
@@ -150,15 +149,3 @@ others zero lt = absurd (omega (arith, lt))
 others (suc zero) lt = refl
 others (suc (suc zero)) lt = refl
 others (suc (suc (suc c))) lt = refl
-
-pub is_ground : (cs : List ClassShape) (ss : List SetShape) → cs ≡ ground_classes → AreGroundSets ss
-    → IsGround (record { classes = cs; sets = ss; system = 2 })
-is_ground cs ss e s =
-    let all : IsGround (record { classes = ground_classes; sets = ground_sets s.a s.b s.c s.d s.e s.f; system = 2 }) =
-    record {
-      classes = refl;
-      sets = refl;
-      made = refl;
-      given = others;
-    } in
-    subst IsGround (λ i. record { classes = sym e i; sets = sym s.is i; system = 2 }) all

@@ -1,15 +1,14 @@
 -- What the calls leave.
-use Rattle.std.proofs.Common.{◌≡◌, ℕ, ℤ, suc, ◌<◌, List, [], ◌∷◌, refl, ap, sym, subst, ◌∙◌, length}
+use Rattle.std.proofs.Common.{◌≡◌, ℕ, ℤ, List, [], ◌∷◌, refl, ap, sym, subst, ◌∙◌}
 use Rattle.std.specs.Prelude.{Result, Ok, Err}
 use Rattle.ss_words.specs.declared.fault.RunFault.{RunFault}
 use Rattle.ss_words.specs.declared.fault.StepFault.{StepFault}
 use Rattle.ss_words.specs.declared.fault.StepFault.TheVariants.{Fault, Memory}
 use Rattle.ss_journal.specs.Undoing.{unapply_all}
 use Rattle.ss_store.specs.declared.change.StoreChange.{StoreChange}
-use Rattle.ss_store.specs.Tables.{Tables}
 use Rattle.ss_store.specs.Store.{Store}
 use Rattle.ss_store.specs.Value.{StoreValue}
-use Rattle.ss_store.specs.Change.{FitsStore, unapply_store, IsOutcome, IsRemoval, IsCreation, IsMaking}
+use Rattle.ss_store.specs.Change.{FitsStore, unapply_store, IsOutcome, IsRemoval, IsCreation}
 use Rattle.ss_words.specs.Outcomes.{RefusesAs}
 use Rattle.model_tests.specs.Ground.{IsGround, IsMade, with_number}
 
@@ -34,28 +33,6 @@ created (Ok r) (Ok s) old new n c d e =
 created (Ok r) (Err f) old new n c d e = absurd d
 created (Err f) s old new n c d e = cc
 
-pub created_ok : (r : Result (ℕ × StoreChange) StepFault) (s : Result Store RunFault) (old new : StoreValue) (n : ℕ)
-    (c : StoreChange) (z : ℤ) → IsCreation r s old new → r ≡ Ok (n, c) → IsMade (Ok (z, c)) old new
-created_ok r s old new n c z d e = created r s old new n c d e
-
-pub created_err : (r : Result (ℕ × StoreChange) StepFault) (s : Result Store RunFault) (old new : StoreValue)
-    (f : StepFault) → IsCreation r s old new → r ≡ Err f → new ≡ old
-created_err (Ok r) s old new f d e = cc
-created_err (Err g) s old new f d e = refused g s old new d
-
-pub all_ok : (r : Result StoreChange StepFault) (s : Result Store RunFault) (old new : StoreValue) (c : StoreChange)
-    (z : ℤ) → IsMaking r s old new → r ≡ Ok c → IsMade (Ok (z, c)) old new
-all_ok (Ok r) (Ok s) old new c z d e =
-    let is : r ≡ c = cc in
-    subst (λ (z : StoreChange). FitsStore z new × (unapply_store z new ≡ old)) is (d.fits, d.back)
-all_ok (Ok r) (Err f) old new c z d e = absurd d
-all_ok (Err f) s old new c z d e = cc
-
-pub all_err : (r : Result StoreChange StepFault) (s : Result Store RunFault) (old new : StoreValue) (f : StepFault)
-    → IsMaking r s old new → r ≡ Err f → new ≡ old
-all_err (Ok r) s old new f d e = cc
-all_err (Err g) s old new f d e = refused g s old new d
-
 pub removed_ok : (r : Result (ℕ × StoreChange) RunFault) (s : Result (ℕ × Store) RunFault) (old new : StoreValue)
     (n : ℕ)
     (c : StoreChange) (z : ℤ) → IsRemoval r s old new → r ≡ Ok (n, c) → IsMade (Ok (z, c)) old new
@@ -70,16 +47,6 @@ pub removed_err : (r : Result (ℕ × StoreChange) RunFault) (s : Result (ℕ ×
 removed_err (Ok r) s old new f d e = cc
 removed_err (Err g) (Err h) old new f d e = d.1
 removed_err (Err g) (Ok s) old new f d e = absurd d
-
--- the tables stay
-pub made_tables : (r : Result (ℤ × StoreChange) StepFault) (old new : StoreValue) → IsMade r old new
-    → new.tables ≡ old.tables
-made_tables (Ok r) old new d = ap (λ (z : StoreValue). z.tables) d.1
-made_tables (Err e) old new d = ap (λ (z : StoreValue). z.tables) d
-
-pub still_ground : (r : Result (ℤ × StoreChange) StepFault) (old new : StoreValue) → IsMade r old new
-    → IsGround old.tables → IsGround new.tables
-still_ground r old new d g = subst IsGround (sym (made_tables r old new d)) g
 
 undone_tables : (cs : List StoreChange) (v : StoreValue) → (unapply_all unapply_store cs v).tables ≡ v.tables
 undone_tables [] v = refl

@@ -3,7 +3,7 @@ use Rattle.std.proofs.Common.{◌≡◌, ℕ, zero, suc, ◌+◌, ◌-◌, ◌<�
 use Rattle.std.proofs.Common.{◌∙◌, sym, subst, arith, All, length}
 use Rattle.std.specs.Prelude.{take, drop, reverse, max, nat_le, if◌then◌else◌}
 use Rattle.std.proofs.lemmas.List.{take_all, take-append-drop, reverse-append}
-use Rattle.std.proofs.lemmas.Bool.{le-leb, lt-leb, leb-true, leb-false}
+use Rattle.std.proofs.lemmas.Bool.{lt-leb, leb-true, leb-false}
 use Rattle.std.proofs.lemmas.List.Elements.{All-head, All-tail, All-nil, All-cons, All-append}
 use Rattle.ss_byte_journal.specs.declared.sparse_journal.Numbered.{Numbered}
 use Rattle.ss_byte_journal.specs.Numbered.{changes_of_step, changes_before, steps_from, AreOrdered}
@@ -61,15 +61,6 @@ newest_step oldest k cs h =
 pub steps_length : {C : Type 0} (n oldest : ℕ) (cs : List (Numbered C)) → length (steps_from n oldest cs) ≡ n
 steps_length zero oldest cs = refl
 steps_length (suc n) oldest cs = omega (arith, steps_length n oldest (changes_before (oldest + n) cs))
-
--- a change of the open step
-pub of_open : {C : Type 0} (k : ℕ) (c : Numbered C) (cs : List (Numbered C)) → k ≤ c.step →
-    changes_of_step k (c ∷ cs) ≡ c.change ∷ changes_of_step k cs
-of_open k c cs h = rw (le-leb k c.step h) refl
-
-pub before_open : {C : Type 0} (k : ℕ) (c : Numbered C) (cs : List (Numbered C)) → k ≤ c.step →
-    changes_before k (c ∷ cs) ≡ changes_before k cs
-before_open k c cs h = rw (le-leb k c.step h) refl
 
 pub not_of_open : {C : Type 0} (k : ℕ) (c : Numbered C) (cs : List (Numbered C)) → c.step < k →
     changes_of_step k (c ∷ cs) ≡ []

@@ -1,7 +1,7 @@
 -- Names that are words of the language: the rows of the tables of src/reserved.rt.
 use Rattle.std.specs.Prelude.{ℕ, Bool, true, false, List, [], ◌∷◌, map, bytes_eq}
 use Rattle.ss_words.specs.Words.{Kind, name, number, sign, picture}
-use Rattle.ss_columns.specs.declared.reserved.TheConstants.{RESERVED, DROPPED, SCHEDULING}
+use Rattle.ss_columns.specs.declared.reserved.TheConstants.{DROPPED, SCHEDULING}
 
 -- a name is in a table
 abbrev pub is_among : List ℕ → List (List ℕ) → Bool
@@ -15,11 +15,7 @@ is_kind_among table (number n) = false
 is_kind_among table (sign s) = false
 is_kind_among table (picture ls) = false
 
--- the reserved words
-unfoldable pub reserved_words : List (List ℕ)
-reserved_words = map (λ row. row.now) RESERVED
-
--- those of them that are dropped, unless they stand directly behind these
+-- the reserved words that are dropped, unless they stand directly behind these
 unfoldable pub dropped_words : List (List ℕ)
 dropped_words = map (λ row. row.now) DROPPED
 

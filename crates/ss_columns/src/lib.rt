@@ -12,4 +12,4 @@ pub use column::{
     Place, behind_feed, behind_feeds, line_at, line_of, place_of, with_blank_comments,
 };
 pub use numbering::{copied_kind, numbered_words};
-pub use reserved::{DROPPED, SCHEDULING, is_among, is_kind_among, reserved_words};
+pub use reserved::{DROPPED, SCHEDULING, is_among, is_kind_among};

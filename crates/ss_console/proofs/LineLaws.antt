@@ -10,7 +10,7 @@ use Rattle.std.proofs.Math.ListN.{length-set}
 use Rattle.ss_console.specs.Lines.{lines, is_stop, keep, kept_part, known_lines, Gives, IsAtEnd}
 use Rattle.ss_console.specs.Faults.{lines_read}
 use Rattle.ss_console.specs.declared.lines.TheConstants.{LONGEST_LINE, LINE_FEED}
-use Rattle.ss_console.proofs.KnownBytes.{consumes_none, consumes_then}
+use Rattle.ss_console.proofs.KnownBytes.{consumes_then}
 
 -- ---- what is kept of a line
 
@@ -82,9 +82,6 @@ pub record IsWithin (old now : Option (List ℕ)) (line : List ℕ) : Type 0 whe
   pub consumed : Consumes old now done
   pub one : has_feed done ≡ false
   pub kept_so_far : line ≡ kept_part done
-
-pub within_none : (a : Option (List ℕ)) → IsWithin a a []
-within_none a = record { done = []; consumed = consumes_none a; one = refl; kept_so_far = refl }
 
 pub within_more : (old mid now : Option (List ℕ)) (line : List ℕ) (b : ℕ) → IsWithin old mid line →
     Consumes mid now (b ∷ []) → (b == LINE_FEED) ≡ false → IsWithin old now (keep line b)

@@ -8,7 +8,7 @@ use Rattle.ss_console.specs.Meaning.{Meaning}
 use Rattle.ss_console.specs.Puts.{AddsPart}
 use Rattle.ss_console.specs.Dialogue.{Turn, answered, refused, line_of, answer_of, state_after, is_last, IsAllowed}
 use Rattle.ss_console.specs.Dialogue.{prompt, turn_events, events, state_after_all, AreAllowed, has_last}
-use Rattle.ss_console.specs.Dialogue.{Lead, EndsByInput, EndsByLine, EndsByRead, EndsInPrompt, EndsInAnswer}
+use Rattle.ss_console.specs.Dialogue.{Lead, EndsByInput, EndsByLine, EndsInPrompt, EndsInAnswer}
 use Rattle.ss_console.specs.Dialogue.{EndsByCount}
 use Rattle.ss_console.specs.declared.reply.Reply.{Reply}
 use Rattle.ss_console.specs.Reply.{IsReply, reply_text, reply_ends}
@@ -144,18 +144,6 @@ ends_by_input m terminal from to before after after' left old mid mid' new n tex
   led = lead_same m from to before after left d.turns d.led (rw same at g);
   goes_on = d.goes_on;
   input = end;
-  told = rw (← e) (adds_then old mid new _ _ d.told (adds_no_more mid mid' new _ a b));
-}
-
-pub ends_by_read : (m : Meaning) (terminal : Bool) (from to : m.State) (before after : Option (List (List ℕ)))
-    (old mid mid' new : Option (List Event)) (n : ℕ) (text : List ℕ) →
-    AreDone m terminal from to before after old mid n → text ≡ prompt terminal (m.position to) →
-    Adds mid mid' (write_events text) → Adds mid' new [] → EndsByRead m terminal from to before old new
-ends_by_read m terminal from to before after old mid mid' new n text d e a b = record {
-  turns = d.turns;
-  left = after;
-  led = d.led;
-  goes_on = d.goes_on;
   told = rw (← e) (adds_then old mid new _ _ d.told (adds_no_more mid mid' new _ a b));
 }
 

@@ -15,15 +15,6 @@ event-below [] c h = absurd (cc)
 event-below (r ∷ rs) zero h = omega arith
 event-below (r ∷ rs) (suc c) h = let rest = event-below rs c h in omega (arith, rest)
 
--- there are no more event classes than classes
-pub events-few : (a : ℕ) (rs : List Rule) → length (events_from a rs) ≤ length rs
-events-few a [] = omega arith
-events-few a (r ∷ rs) = let rest = events-few (a + 1) rs in elim (r.for_events)
-    as (λ t. length (cond t (a ∷ events_from (a + 1) rs) (events_from (a + 1) rs)) ≤ suc (length rs)) [
-      | true ↦ omega (arith, rest)
-      | false ↦ omega (arith, rest)
-    ]
-
 -- an event class stands at its number
 pub record StandsAt (a : ℕ) (rs : List Rule) (c : ℕ) : Type 0 where
   pub below : event_number rs c < length (events_from a rs)

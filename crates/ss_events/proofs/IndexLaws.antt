@@ -1,13 +1,13 @@
 -- What the search in the index of a class's notices finds.
-use Rattle.std.proofs.Common.{◌≡◌, ℕ, ◌<◌, ◌≤◌, ◌++◌, ◌||◌, ◌&&◌, Bool, true, false, cond, eqb, List, [], ◌∷◌, length}
+use Rattle.std.proofs.Common.{◌≡◌, ℕ, ◌<◌, ◌≤◌, ◌++◌, ◌||◌, Bool, true, false, cond, eqb, List, [], ◌∷◌, length}
 use Rattle.std.proofs.Common.{get_or}
-use Rattle.std.proofs.Common.{Option, Some, None, refl, sym, ap, ◌∙◌, arith, subst, ◌-◌}
+use Rattle.std.proofs.Common.{Option, Some, refl, sym, ap, ◌∙◌, arith, subst, ◌-◌}
 use Rattle.std.proofs.Math.ListN.{set}
 use Rattle.std.proofs.lemmas.List.{get_or_default}
 use Rattle.std.proofs.lemmas.Bool.Decides.{nat_tests}
 use Rattle.std.specs.List.{list_all}
 use Rattle.ss_links.specs.declared.board.Place.{Place}
-use Rattle.ss_links.specs.Board.{Board, IsSound, list_at, list_of, head_of, after_relink, after_unlink}
+use Rattle.ss_links.specs.Board.{Board, IsSound, list_at, head_of, after_relink, after_unlink}
 use Rattle.ss_links.specs.Seats.{has, times_in, last_of, list_without, put_at}
 use Rattle.ss_links.proofs.SeatLaws.{without-between}
 use Rattle.ss_links.proofs.BoardLaws.{once-list_at, lists-unlinked}
@@ -30,11 +30,11 @@ use Rattle.ss_events.proofs.RowLaws.{pending_at-each, from-same}
 use Rattle.ss_events.proofs.BeforeLaws.{IsKeyed, IsOrder-is_before}
 use Rattle.ss_events.proofs.StateLaws.{seat_in-below, seat_in-notice}
 use Rattle.ss_events.proofs.EventLaws.{list_at-by, event-at}
-use Rattle.ss_events.proofs.BoardOf.{IsTold, class_seats, Each-order, AreKeyed-order, IsSorted-order, pending_in-class}
+use Rattle.ss_events.proofs.BoardOf.{class_seats, Each-order, AreKeyed-order, IsSorted-order, pending_in-class}
 use Rattle.ss_events.proofs.Stands.{told, sound_board, Each-pending_at, seats_of-append, once-between, each-between}
 use Rattle.ss_events.proofs.Stands.{length-lists}
 use Rattle.ss_events.proofs.PutAndTakeOut.{pending-seat, has-row, row-is, taken-head}
-use Rattle.ss_events.proofs.Predecessors.{IsBetween, between}
+use Rattle.ss_events.proofs.Predecessors.{between}
 
 Each-both : (P Q : Pending → Type 0) (es : List Pending) → Each P es → Each Q es → Each (λ e. P e × Q e) es
 Each-both P Q [] h k = tt

@@ -14,13 +14,11 @@ use Rattle.ss_events.specs.declared.pending_notice.Row.{Row}
 use Rattle.ss_events.specs.declared.listing.Listing.{Listing}
 use Rattle.ss_events.specs.Agenda.{Pending, pending_at, is_before, least, of_class}
 use Rattle.ss_events.specs.State.{AgendaState, Each, IsPending, seat_in, seats_of, order}
-use Rattle.ss_events.specs.Places.{first, earlier, notice_on, pending_on, IsTaken, IsTakenIfSome}
+use Rattle.ss_events.specs.Places.{first, earlier, notice_on, pending_on, IsTakenIfSome}
 use Rattle.ss_events.specs.Listings.{seat_of_class, left_of, IsListing}
 use Rattle.ss_events.specs.Views.{notice_of}
 use Rattle.ss_events.specs.Rows.{and_others, notices_from, IsAgenda}
 use Rattle.ss_events.proofs.OrderLaws.{IsSorted, Each-map, Each-of_class, length-sorted}
-use Rattle.std.specs.Option.{option_map, IsSome}
-use Rattle.ss_events.proofs.RowLaws.{pending_at-each}
 use Rattle.ss_events.proofs.BeforeLaws.{IsKeyed, IsOrder-is_before}
 use Rattle.ss_events.proofs.WalkLaws.{of_classes_below, first-earlier, of_classes_below-all, of_classes_below-none}
 use Rattle.ss_events.specs.Rules.{Rule, is_event_class}
@@ -243,29 +241,6 @@ pub listing-begins : (s : AgendaState) (seats : List (Option ℕ)) → length se
     c < length s.rules → get_or seats c None ≡ first_of (class_seats s c)) →
     IsListing s (record { seats = seats; listed = 0 })
 listing-begins s seats a h = record { all = a; seats = h }
-
--- past the end of the order is nothing
-none-past : (es : List Pending) (i j : ℕ) → option_map (λ e. e.notice) (slice_get es i) ≡ None → i ≤ j →
-    option_map (λ e. e.notice) (slice_get es j) ≡ None
-none-past [] i j h l = refl
-none-past (f ∷ fs) zero j h l = absurd (cc)
-none-past (f ∷ fs) (suc i) zero h l = absurd (omega arith)
-none-past (f ∷ fs) (suc i) (suc j) h l = none-past fs i j h (omega arith)
-
-pub none-left : (s : AgendaState) (i j : ℕ) → None ≡ option_map (λ e. e.notice) (slice_get (order s) i) → i ≤ j →
-    None ≡ option_map (λ e. e.notice) (slice_get (order s) j)
-none-left s i j h l = sym (none-past (order s) i j (sym h) l)
-
--- the notice of a seat
-pub least-notice : (rows : List Row) (s : AgendaState) (b : Board) (x : ℕ) → IsAgenda rows s b → IsTaken s x →
-    option_map (λ e. e.notice) (pending_at s.agenda.pending (notice_on s x)) ≡ Some (notice_on s x)
-least-notice rows s b x k t = go (pending_at s.agenda.pending (notice_on s x)) refl t.pending
-  where
-    go : (o : Option Pending) → pending_at s.agenda.pending (notice_on s x) ≡ o → IsSome o →
-        option_map (λ e. e.notice) o ≡ Some (notice_on s x)
-    go None e i = absurd (cc)
-    go (Some f) e i = ap (λ (n : ℕ). Some n) (pending_at-each (IsPending s.rules s.notices s.agenda.next_filing)
-        s.agenda.pending (notice_on s x) f k.pending e).1
 
 -- the first seats of the classes below a number, and one more
 pub seats-more : (seats : List (Option ℕ)) (n : ℕ) (at : Option ℕ) (f : ℕ → List ℕ) → n < length seats →

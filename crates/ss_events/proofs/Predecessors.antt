@@ -1,5 +1,5 @@
 -- The notice that stands directly before another of its class.
-use Rattle.std.proofs.Common.{◌≡◌, ℕ, ◌-◌, ◌<◌, ◌++◌, Bool, true, false, cond, eqb, List, [], ◌∷◌, length}
+use Rattle.std.proofs.Common.{◌≡◌, ℕ, ◌<◌, ◌++◌, Bool, true, false, cond, eqb, List, [], ◌∷◌, length}
 use Rattle.std.proofs.Common.{Option, Some, None, unwrap_or, refl, sym, ap, ◌∙◌, arith}
 use Rattle.std.proofs.lemmas.Bool.Decides.{nat_tests}
 use Rattle.std.specs.Option.{option_map, ForSome}
@@ -9,9 +9,9 @@ use Rattle.ss_events.specs.declared.pending_notice.PendingNotice.{PendingNotice}
 use Rattle.ss_events.specs.declared.pending_notice.Row.{Row}
 use Rattle.ss_events.specs.Agenda.{Pending, pending_at, is_before, of_class, without_notice}
 use Rattle.ss_events.specs.State.{AgendaState, Each, seat_in, seats_of, order, board_of}
-use Rattle.ss_events.specs.Places.{notices_passed, last, predecessor_of, rank_place, notice_on}
+use Rattle.ss_events.specs.Places.{notices_passed, last, predecessor_of, notice_on}
 use Rattle.ss_events.specs.Views.{notice_of}
-use Rattle.ss_events.specs.Rows.{row_at, IsAgenda}
+use Rattle.ss_events.specs.Rows.{IsAgenda}
 use Rattle.ss_events.specs.Changes.{with_pending}
 use Rattle.ss_events.proofs.OrderLaws.{IsOrder, IsSorted, AreNoted, Each-of_class, without-absent, of_class-without}
 use Rattle.ss_events.proofs.OrderLaws.{IsSorted-of_class}
@@ -21,7 +21,7 @@ use Rattle.ss_events.proofs.StateLaws.{AreSeated, AreNoted-of_class, seat_in-bel
 use Rattle.ss_events.proofs.BoardOf.{AreNoted-order, AreKeyed-order, Each-order, IsSorted-order, order-without}
 use Rattle.ss_events.proofs.BoardOf.{pending_in-class}
 use Rattle.ss_events.proofs.Stands.{stands, each-between, told, sound_board}
-use Rattle.ss_events.proofs.PutAndTakeOut.{has-row, seat-is, passed-number, pending-seat}
+use Rattle.ss_events.proofs.PutAndTakeOut.{pending-seat}
 
 -- a pending notice stands between two parts
 pub record IsBetween (es : List Pending) (e : Pending) : Type 0 where
@@ -80,14 +80,6 @@ Each-last P (e ∷ es) f h k = elim (last es)
       | None ↦ λ a b. let same : e ≡ f = cc in rw (← same) h.0
       | Some g ↦ λ a b. let same : g ≡ f = cc in Each-last P es f h.1 (a ∙ b)
     ] refl k
-
-Each-passed : (P : Pending → Type 0) (lt : Pending → Pending → Bool) (e : Pending) (es : List Pending) →
-    Each P es → Each P (notices_passed lt e es)
-Each-passed P lt e [] h = tt
-Each-passed P lt e (f ∷ fs) h = elim (lt e f) as (λ t. Each P (cond t [] (f ∷ notices_passed lt e fs))) [
-  | true ↦ tt
-  | false ↦ (h.0, Each-passed P lt e fs h.1)
-]
 
 -- what the last seat of some notices tells
 record IsLastOf (s : AgendaState) (es : List Pending) (at : Option ℕ) : Type 0 where

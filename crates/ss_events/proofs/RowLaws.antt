@@ -1,5 +1,5 @@
 -- Laws of the pending notices that are read off rows.
-use Rattle.std.proofs.Common.{◌≡◌, ℕ, ◌+◌, ◌-◌, ◌≤◌, ◌<◌, ◌++◌, true, false, cond, eqb, ltb, List, [], ◌∷◌, length}
+use Rattle.std.proofs.Common.{◌≡◌, ℕ, ◌+◌, ◌-◌, ◌≤◌, ◌<◌, true, false, cond, eqb, ltb, List, [], ◌∷◌, length}
 use Rattle.std.proofs.Common.{Option, Some, None, refl, sym, ap, ◌∙◌, arith, suc, zero}
 use Rattle.std.proofs.Math.ListN.{set}
 use Rattle.std.proofs.lemmas.Bool.Decides.{nat_tests}
@@ -54,14 +54,6 @@ AreNoted-from n rs = AreNoted-ascend (notices_from n rs) (Ascend-from n rs)
 pub pending_at-none : (n : ℕ) (es : List Pending) → NoneNoted n es → pending_at es n ≡ None
 pending_at-none n [] h = refl
 pending_at-none n (e ∷ es) h = rw h.0 (pending_at-none n es h.1)
-
-pub NoneNoted-pending_at : (n : ℕ) (es : List Pending) → pending_at es n ≡ None → NoneNoted n es
-NoneNoted-pending_at n [] h = tt
-NoneNoted-pending_at n (e ∷ es) h = elim (eqb e.notice n)
-    as (λ t. cond t (Some e) (pending_at es n) ≡ None → (t ≡ false) × NoneNoted n es) [
-      | true ↦ λ k. absurd (cc)
-      | false ↦ λ k. (refl, NoneNoted-pending_at n es k)
-    ] h
 
 -- what holds of each holds of the notice with a number
 pub pending_at-each : (P : Pending → Type 0) (es : List Pending) (n : ℕ) (e : Pending) → Each P es →
@@ -155,11 +147,6 @@ pub from-same : (b : ℕ) (rs : List Row) (i : ℕ) (r : Row) → r.pending ≡ 
 from-same b [] i r h = refl
 from-same b (q ∷ qs) zero r h = rw h refl
 from-same b (q ∷ qs) (suc i) r h = ap (and_others b q.pending) (from-same (b + 1) qs i r h)
-
--- a row more, without an entry
-pub from-more : (b : ℕ) (rs : List Row) (r : Row) → r.pending ≡ None → notices_from b (rs ++ r ∷ []) ≡ notices_from b rs
-from-more b [] r h = rw h refl
-from-more b (q ∷ qs) r h = ap (and_others b q.pending) (from-more (b + 1) qs r h)
 
 -- a notice taken out and put in again, or put in and taken out
 pub with-without : (es : List Pending) (n : ℕ) (e : Pending) → Ascend es → pending_at es n ≡ Some e →

@@ -94,10 +94,6 @@ pub without-seats_filed : (p : ℕ → Bool) (x : ℕ) (l : List ℕ) → has l 
 without-seats_filed p x [] h = grind (arith, nat_tests)
 without-seats_filed p x (y ∷ l) h = grind (arith, nat_tests, without-seats_filed p x l, without-absent l x)
 
-pub has-seats_filed : (p : ℕ → Bool) (x y : ℕ) (l : List ℕ) → has (seats_filed p x l) y ≡ ((x == y) || has l y)
-has-seats_filed p x y [] = refl
-has-seats_filed p x y (z ∷ l) = grind (arith, nat_tests, has-seats_filed p x y l)
-
 -- what is passed stands in the list
 pub has-seats_passed : (p : ℕ → Bool) (l : List ℕ) (y : ℕ) → has (seats_passed p l) y ≡ true → has l y ≡ true
 has-seats_passed p [] y h = absurd (cc)

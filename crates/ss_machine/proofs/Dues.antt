@@ -1,17 +1,16 @@
 -- pending notices exist and are not before the clock
-use Rattle.std.proofs.Common.{◌≡◌, ◌≢◌, ℕ, ℤ, suc, pos, zero, List, [], ◌∷◌, Bool, true, false, Option, Some, None}
-use Rattle.std.proofs.Common.{Result, Ok, Err, refl, sym, ap, arith, ◌∙◌, subst, rules}
-use Rattle.std.specs.Prelude.{int_lt, nat_lt, nat_eq, ◌==◌, ◌<◌, ◌≤◌, is_some, if◌then◌else◌, cond}
-use Rattle.std.specs.Ordering.{is_lt, ordering_then, int_cmp, nat_cmp}
+use Rattle.std.proofs.Common.{◌≡◌, ◌≢◌, ℕ, ℤ, List, [], ◌∷◌, Bool, true, false, Option, Some, None}
+use Rattle.std.proofs.Common.{refl, sym, arith, ◌∙◌, subst, rules}
+use Rattle.std.specs.Prelude.{int_lt, nat_lt, ◌==◌, ◌<◌, is_some, if◌then◌else◌, cond}
+use Rattle.std.specs.Ordering.{is_lt, ordering_then, int_cmp}
 use Rattle.std.specs.declared.cmp.Ordering.{Ordering}
 use Rattle.std.specs.declared.cmp.Ordering.TheVariants.{Less, Equal, Greater}
 use Rattle.std.proofs.lemmas.Bool.{eq-eqb, eqb-true}
 use Rattle.std.proofs.lemmas.Int.{ints}
 use Rattle.std.specs.Option.{option_map}
-use Rattle.ss_program.specs.Keys.{by_keys}
 use Rattle.ss_program.specs.Program.{ProgramTable}
-use Rattle.ss_events.specs.Rules.{Rule, rule_at}
-use Rattle.ss_events.specs.Agenda.{Pending, Agenda, pending_at, is_pending, by_time, least_of, least, without_notice}
+use Rattle.ss_events.specs.Rules.{Rule}
+use Rattle.ss_events.specs.Agenda.{Pending, pending_at, by_time, least_of, least, without_notice}
 use Rattle.ss_events.specs.Agenda.{with_notice}
 use Rattle.ss_events.specs.State.{Each}
 use Rattle.ss_events.specs.Slots.{slot_of}

@@ -1,11 +1,10 @@
 -- the entry of an external event stays well-formed
-use Rattle.std.proofs.Common.{◌≡◌, ◌≢◌, ℕ, ℤ, List, [], ◌∷◌, Bool, true, false, Option, Some, None, Result, Ok, Err}
+use Rattle.std.proofs.Common.{◌≡◌, ℕ, List, [], ◌∷◌, Bool, true, false, Some, None}
 use Rattle.std.proofs.Common.{refl, sym, ap, subst, ◌∙◌}
 use Rattle.std.specs.Prelude.{is_some, nat_lt, ◌==◌, if◌then◌else◌}
 use Rattle.std.proofs.lemmas.Bool.{eq-eqb, eqb-true}
-use Rattle.ss_words.specs.declared.fault.RunFault.{RunFault}
 use Rattle.ss_program.specs.declared.kinds.SectionKind.{SectionKind}
-use Rattle.ss_program.specs.declared.kinds.SectionKind.TheVariants.{Main, Routine, Event}
+use Rattle.ss_program.specs.declared.kinds.SectionKind.TheVariants.{Routine}
 use Rattle.ss_program.specs.Program.{ProgramTable, event_of, section_of, is_event_kind}
 use Rattle.ss_events.specs.Agenda.{Pending, pending_at, without_notice, with_notice}
 use Rattle.ss_events.specs.State.{Each}
@@ -13,7 +12,7 @@ use Rattle.ss_machine.specs.declared.entry.Entry.{Entry}
 use Rattle.ss_machine.specs.declared.entry.Entry.TheVariants.{Absent, Waiting, Running}
 use Rattle.ss_machine.specs.State.{FrameState, waits_for, entry_at_start}
 use Rattle.ss_machine.specs.Well.{AreOfClass, IsSecond, IsWellEntry}
-use Rattle.ss_machine.proofs.Dues.{AreOthers, others_of}
+use Rattle.ss_machine.proofs.Dues.{AreOthers}
 
 clash : {b : Bool} → b ≡ true → b ≡ false → ⊥
 clash {b} e f = cc

@@ -2,12 +2,10 @@
 use Rattle.std.proofs.Common.{◌≡◌, ℕ, ◌+◌, ◌-◌, ◌*◌, ◌/◌, ◌%◌, ◌^◌, ◌<◌, ◌≤◌, List, [], ◌∷◌, length, refl, ap, ◌∙◌}
 use Rattle.std.proofs.Common.{arith, zero, suc, Bool, true, false, nat_lt, All}
 use Rattle.std.proofs.Math.Nat.{pow-suc, pow-le-pow_right}
-use Rattle.std.proofs.lemmas.List.Elements.{All-nil, All-cons, All-head, All-tail, All-same, All-rest}
+use Rattle.std.proofs.lemmas.List.Elements.{All-nil, All-cons, All-head, All-tail, All-same}
 use Rattle.std.proofs.lemmas.Bool.{lt-ltb, le-ltb}
-use Rattle.std.specs.Prelude.{map, take, if◌then◌else◌, MatchBool, MatchOption, Option, Some, None}
-use Rattle.std.proofs.lemmas.List.Sums.{sum_by-cons}
-use Rattle.ss_journal.specs.Log.{newest, change_count}
-use Rattle.ss_machine.specs.History.Numbers.{with_group, with_byte, numbers_of, AreSmall, IsHigher}
+use Rattle.std.specs.Prelude.{if◌then◌else◌, MatchBool}
+use Rattle.ss_machine.specs.History.Numbers.{with_group, numbers_of, AreSmall, IsHigher}
 
 some_group : (group : ℕ) (numbers : List ℕ) → with_group group numbers ≡ [] → ⊥
 some_group group [] none = omega (arith, ap length none)
@@ -67,19 +65,6 @@ small_behind group (higher ∷ others) small =
 pub small_rest : (byte : ℕ) (bytes : List ℕ) → 128 ≤ byte → All (λ n. n < 2 ^ 64) (numbers_of (byte ∷ bytes)) →
     All (λ n. n < 2 ^ 64) (numbers_of bytes)
 small_rest byte bytes great small = small_behind (byte - 128) (numbers_of bytes) (rw great_byte at small)
-
--- the newest steps have no more changes than all
-pub change_count-newest : {C : Type 0} (n : ℕ) (steps : List (List C)) →
-    change_count (newest n steps) ≤ change_count steps
-change_count-newest zero steps = omega arith
-change_count-newest (suc n) [] = omega arith
-change_count-newest (suc n) (step ∷ steps) =
-    omega (
-      arith,
-      sum_by-cons (λ k. k) (length step) (map length (take n steps)),
-      sum_by-cons (λ k. k) (length step) (map length steps),
-      change_count-newest n steps,
-    )
 
 -- what is left behind a number of one byte
 pub small_behind_byte : (byte : ℕ) (bytes : List ℕ) → byte < 128 →

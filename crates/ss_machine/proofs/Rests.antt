@@ -1,6 +1,6 @@
 -- What assignments, entities and sets leave as it was.
-use Rattle.std.proofs.Common.{◌≡◌, ℕ, ℤ, ◌+◌, List, [], ◌∷◌, Option, Some, None, Result, Ok, Err, refl, ◌∙◌}
-use Rattle.std.specs.Prelude.{pos, length, slice_index_or, int_lt}
+use Rattle.std.proofs.Common.{◌≡◌, ℕ, ℤ, ◌+◌, List, [], ◌∷◌, Result, Ok, Err, refl, ◌∙◌}
+use Rattle.std.specs.Prelude.{pos, slice_index_or, int_lt}
 use Rattle.ss_words.specs.declared.fault.RunFault.{RunFault}
 use Rattle.ss_program.specs.declared.variable.Variable.{Variable}
 use Rattle.ss_program.specs.declared.variable.Variable.TheVariants.{Global, Local, Clock}
@@ -10,7 +10,6 @@ use Rattle.ss_program.specs.declared.target.Target.TheVariants as targets
 use Rattle.ss_program.specs.declared.place.Assign.{Assign}
 use Rattle.ss_program.specs.declared.making.Making.{Making}
 use Rattle.ss_program.specs.declared.making.Making.TheVariants.{Create, CreateEvery, Destroy}
-use Rattle.ss_words.specs.declared.terms.SetEnd.{SetEnd}
 use Rattle.ss_program.specs.declared.filing.Filing.{Filing}
 use Rattle.ss_program.specs.declared.filing.Filing.TheVariants.{File, FileAt, RemoveAt, Remove}
 use Rattle.ss_program.specs.declared.looping.Telling.{Telling}
@@ -33,10 +32,10 @@ use Rattle.ss_machine.specs.Readings.{readings}
 use Rattle.ss_machine.specs.Statements.{state_after_assignment, state_with_store, state_with_value, state_with_values}
 use Rattle.ss_machine.specs.Statements.{entity_named}
 use Rattle.ss_machine.specs.Statements.Assigning.{target_of, state_after_assign}
-use Rattle.ss_machine.specs.Statements.Entities.{state_after_create, number_asked, state_after_create_every}
-use Rattle.ss_machine.specs.Statements.Entities.{state_after_destroy, state_after_making, store_without}
-use Rattle.ss_machine.specs.Statements.Filing.{which_at, how_at, how_asked, state_after_file, state_after_remove_end}
-use Rattle.ss_machine.specs.Statements.Filing.{state_after_remove, state_after_filing}
+use Rattle.ss_machine.specs.Statements.Entities.{number_asked}
+use Rattle.ss_machine.specs.Statements.Entities.{state_after_making, store_without}
+use Rattle.ss_machine.specs.Statements.Filing.{which_at, how_at, how_asked, state_after_file}
+use Rattle.ss_machine.specs.Statements.Filing.{state_after_filing}
 use Rattle.ss_machine.specs.Statements.Looping.{statistic_value, state_after_telling}
 use Rattle.ss_machine.specs.Statements.Timing.{arguments_asked, time_asked, attributes_now, tie_attributes}
 use Rattle.ss_machine.specs.Statements.Timing.{state_with_attributes, state_with_agenda, state_with_notice}

@@ -1,11 +1,9 @@
 -- no step changes the items of the data
 use Rattle.std.proofs.Common.{◌≡◌, ℕ, ℤ, zero, suc, ◌+◌, Bool, true, false, List, [], ◌∷◌, Option, Some, None, Result}
 use Rattle.std.proofs.Common.{Ok, Err, refl, ap, ◌∙◌}
-use Rattle.std.specs.Prelude.{pos, int_lt, length, slice_index_or, if◌then◌else◌}
+use Rattle.std.specs.Prelude.{int_lt, length, if◌then◌else◌}
 use Rattle.std.specs.List.{range_with_len}
 use Rattle.ss_words.specs.declared.fault.RunFault.{RunFault}
-use Rattle.ss_program.specs.declared.variable.Variable.{Variable}
-use Rattle.ss_program.specs.declared.variable.Variable.TheVariants.{Global, Local, Clock}
 use Rattle.ss_program.specs.declared.place.Output.TheVariants.{Print, Skip}
 use Rattle.ss_program.specs.declared.place.Control.TheVariants.{Stop, Return, End}
 use Rattle.ss_program.specs.declared.place.Place.{Place}
@@ -14,7 +12,6 @@ use Rattle.ss_program.specs.declared.place.Place.TheVariants.{Call, Timing, Read
 use Rattle.ss_program.specs.declared.place.Spot.{Spot}
 use Rattle.ss_program.specs.declared.branch.Branch.TheVariants.{If, Else, Always}
 use Rattle.ss_program.specs.declared.looping.ForPhrase.{ForPhrase}
-use Rattle.ss_program.specs.declared.looping.Telling.{Telling}
 use Rattle.ss_program.specs.declared.looping.Looping.TheVariants.{For, Loop, Find, Gather, Tell}
 use Rattle.ss_program.specs.declared.timing.Timing.TheVariants.{Schedule, Cancel, Start}
 use Rattle.ss_program.specs.declared.ways.Resets.{Resets}

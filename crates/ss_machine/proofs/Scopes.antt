@@ -1,6 +1,6 @@
 -- what places may name, by the tables of the store and by the program
-use Rattle.std.proofs.Common.{◌≡◌, ℕ, zero, suc, ◌+◌, ◌<◌, List, [], ◌∷◌, length, Bool, true, false, Option, Some, None}
-use Rattle.std.proofs.Common.{ℤ, length-set, Result, Ok, arith, refl, ap, sym, subst, ◌∙◌}
+use Rattle.std.proofs.Common.{◌≡◌, ℕ, zero, suc, ◌+◌, ◌<◌, List, [], ◌∷◌, length, Bool, Option, Some}
+use Rattle.std.proofs.Common.{arith, refl, ap, sym, subst, ◌∙◌}
 use Rattle.std.specs.Prelude.{map, slice_get, unwrap_or}
 use Rattle.std.specs.List.{range_with_len}
 use Rattle.std.proofs.lemmas.List.{length-map}
@@ -8,24 +8,14 @@ use Rattle.std.proofs.lemmas.List.FromFn.{length-map-range_with_len}
 use Rattle.ss_program.specs.declared.kinds.ClassKind.{ClassKind}
 use Rattle.ss_program.specs.declared.kinds.ClassKind.TheVariants.{Permanent, Temporary, Event}
 use Rattle.ss_program.specs.declared.place.Spot.{Spot}
-use Rattle.ss_program.specs.Program.{ClassTable, SetTable, ProgramTable, is_permanent, locals_of, spot_at}
+use Rattle.ss_program.specs.Program.{ClassTable, ProgramTable, is_permanent, locals_of, spot_at}
 use Rattle.ss_program.specs.Program as program
 use Rattle.ss_program.specs.ProgramSound.{Scope, IsSound, IsSoundPlace}
 use Rattle.ss_store.specs.declared.shape.ClassShape.{ClassShape}
-use Rattle.ss_store.specs.declared.shape.SetShape.{SetShape}
-use Rattle.ss_store.specs.Tables.{Tables, tables_of, class_shape, set_shape, class_in}
+use Rattle.ss_store.specs.Tables.{tables_of, class_shape, set_shape, class_in}
 use Rattle.ss_store.specs.Tables as shapes
-use Rattle.ss_words.specs.declared.fault.RunFault.{RunFault}
-use Rattle.ss_program.specs.declared.variable.Variable.{Variable}
-use Rattle.ss_program.specs.declared.variable.Variable.TheVariants.{Global, Local, Clock}
-use Rattle.ss_program.specs.declared.target.Target.{Target}
 use Rattle.ss_program.specs.declared.target.Target.TheVariants as targets
-use Rattle.ss_store.specs.Store.{Store, number_of, with_attribute}
-use Rattle.ss_values.specs.Values.{subscript_value}
-use Rattle.ss_machine.specs.Statements.{state_after_assignment, state_with_value}
-use Rattle.ss_machine.proofs.Ranges.{Got, after_got, anything}
 use Rattle.ss_values.specs.Seen.{scope_of}
-use Rattle.ss_machine.specs.State.{State}
 use Rattle.ss_machine.specs.Held.{Held}
 use Rattle.ss_machine.specs.Readings.{readings}
 use Rattle.ss_machine.specs.Seen.{InHeld}
@@ -124,24 +114,3 @@ kind_is (s ∷ ss) zero b e = cc
 kind_is (s ∷ ss) (suc c) b e = kind_is ss c b e
 
 -- ---- an assignment leaves the scope
-
-pub assigned_scope : (t : Tables) (s : State) (v : Variable) (x : ℤ) →
-    scope_of (readings t (state_after_assignment s v x)) ≡ scope_of (readings t s)
-assigned_scope t s (Global i) x = scopes _ _ _ _ _ _ _ _ (length-set s.variables i x) refl refl refl
-assigned_scope t s (Local i) x = scopes _ _ _ _ _ _ _ _ refl (length-set s.frame.locals i x) refl refl
-assigned_scope t s Clock x = refl
-
--- a state with the scope of another one
-abbrev HasScope : Tables → State → State → Type 0
-HasScope t s r = scope_of (readings t r) ≡ scope_of (readings t s)
-
-value_scope_got : (t : Tables) (s : State) (x : Target) (z : ℤ) → Got (HasScope t s) (state_with_value t s x z)
-value_scope_got t s (targets.Variable v) z = assigned_scope t s v z
-value_scope_got t s (targets.Attribute c a i) z =
-    after_got (λ (_ : ℤ). Unit {0}) (HasScope t s) (subscript_value (readings t s) i) _ (anything _) (λ x _.
-    after_got (λ (_ : Store). Unit {0}) (HasScope t s) (with_attribute s.store c a (number_of x) z) _ (anything _)
-    (λ st _. refl))
-
-pub value_scope : (t : Tables) (s r : State) (x : Target) (z : ℤ) → state_with_value t s x z ≡ Ok r →
-    scope_of (readings t r) ≡ scope_of (readings t s)
-value_scope t s r x z e = subst (λ (q : Result State RunFault). Got (HasScope t s) q) e (value_scope_got t s x z)

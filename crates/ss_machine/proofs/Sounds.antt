@@ -19,7 +19,7 @@ use Rattle.ss_program.specs.Program.{is_event, places_of, locals_of, no_section,
 use Rattle.ss_program.specs.ProgramSound.{Scope, IsSound, IsSoundSection, AreSoundSections, IsSoundPlace}
 use Rattle.ss_program.specs.ProgramSound.{AreSoundPlaces, IsEnded, LeadsOn, IsCalledBy, IsLinkedPlace, AreLinkedPlaces}
 use Rattle.ss_program.specs.ProgramSound.{AreLinkedSections, IsTimed, AreTimed, IsEventClass, IsSoundClass}
-use Rattle.ss_program.specs.ProgramSound.{IsSoundEvent, IsSoundKind, HasSoundTables}
+use Rattle.ss_program.specs.ProgramSound.{IsSoundEvent, IsSoundKind}
 use Rattle.ss_machine.specs.State.{FrameState}
 use Rattle.ss_machine.specs.Moment.{call_targets, call_targets_by, yield_count}
 

@@ -1,7 +1,7 @@
 -- what is known where notices are scheduled and events start
-use Rattle.std.proofs.Common.{◌≡◌, ◌<◌, ◌≤◌, ◌+◌, ◌^◌, ℕ, ℤ, zero, suc, pos, List, [], ◌∷◌, length, Bool, true, false}
+use Rattle.std.proofs.Common.{◌≡◌, ◌<◌, ◌≤◌, ℕ, ℤ, suc, pos, List, [], ◌∷◌, length, Bool, true, false}
 use Rattle.std.proofs.Common.{Option, Some, None, Result, Ok, Err, arith, refl, sym, ap, subst, ◌∙◌}
-use Rattle.std.specs.Prelude.{map, unwrap_or, is_some, ◌==◌, if◌then◌else◌}
+use Rattle.std.specs.Prelude.{map, is_some, ◌==◌, if◌then◌else◌}
 use Rattle.std.specs.Option.{option_map}
 use Rattle.std.specs.List.{range_with_len}
 use Rattle.std.proofs.lemmas.Bool.{eq-eqb}
@@ -12,7 +12,7 @@ use Rattle.ss_words.specs.declared.fault.RunFault.{RunFault}
 use Rattle.ss_words.specs.declared.fault.StepFault.{StepFault}
 use Rattle.ss_words.specs.declared.fault.StepFault.TheVariants.{Fault, Memory}
 use Rattle.ss_journal.specs.Log.{Log}
-use Rattle.ss_journal.specs.Undoing.{WorkKeepsOrigin, FitsAll, unapply_all}
+use Rattle.ss_journal.specs.Undoing.{WorkKeepsOrigin}
 use Rattle.ss_program.specs.declared.kinds.ClassKind.{ClassKind}
 use Rattle.ss_program.specs.declared.kinds.ClassKind.TheVariants.{Permanent, Temporary, Event}
 use Rattle.ss_program.specs.declared.timing.Notice.{Notice}
@@ -20,20 +20,19 @@ use Rattle.ss_program.specs.declared.timing.Listing.{Listing}
 use Rattle.ss_program.specs.declared.timing.Listing.TheVariants.{InParentheses, Given}
 use Rattle.ss_program.specs.ProgramExpr.{Expr}
 use Rattle.ss_program.specs.declared.keys.Key.{Key}
-use Rattle.ss_program.specs.Program.{ProgramTable, class_of, event_of, section_of, is_event, is_main}
-use Rattle.ss_program.specs.ProgramSound.{IsSound, IsEventClass}
+use Rattle.ss_program.specs.Program.{ProgramTable, class_of, event_of, section_of, is_event}
+use Rattle.ss_program.specs.ProgramSound.{IsEventClass}
 use Rattle.ss_store.specs.declared.shape.ClassShape.{ClassShape}
 use Rattle.ss_store.specs.Tables.{tables_of, class_shape}
 use Rattle.ss_store.specs.Tables as shapes
 use Rattle.ss_store.specs.Store.{Store, exists, attribute_of}
 use Rattle.ss_events.specs.Rules.{Rule, rules_of, rule_at, is_event_class}
-use Rattle.ss_events.specs.Agenda.{Pending, pending_at, is_pending, least_of, least}
+use Rattle.ss_events.specs.Agenda.{Pending, pending_at, least_of, least}
 use Rattle.ss_events.specs.State.{Each}
 use Rattle.ss_events.specs.Slots.{slot_of}
 use Rattle.ss_events.specs.declared.agenda.Slot.{Slot}
 use Rattle.ss_events.proofs.RuleLaws.{rule_at-program}
-use Rattle.ss_values.specs.Faults.{◌>>=◌}
-use Rattle.ss_values.specs.Values.{Readings, values_of, number_value, FaultIs}
+use Rattle.ss_values.specs.Values.{Readings, values_of, number_value}
 use Rattle.ss_machine.specs.Change.{Change}
 use Rattle.ss_machine.specs.State.{State, FrameState, new_frame}
 use Rattle.ss_machine.specs.Held.{Held}
@@ -43,14 +42,14 @@ use Rattle.ss_machine.specs.Statements.Timing.{notice_named, arguments_asked, at
 use Rattle.ss_machine.specs.Statements.Timing.{store_at_start, state_at_time, state_after_start, external_class}
 use Rattle.ss_program.specs.declared.variable.Variable.TheVariants.{Global}
 use Rattle.ss_machine.specs.Storing.{IsScheduling}
-use Rattle.ss_machine.specs.Well.{IsInBounds, IsDue}
+use Rattle.ss_machine.specs.Well.{IsInBounds}
 use Rattle.ss_machine.proofs.Ranges.{Got, after_got, anything}
 use Rattle.ss_machine.proofs.ValueCounts.{values_counted}
 use Rattle.ss_machine.proofs.Sounds.{event_within}
 use Rattle.ss_machine.proofs.Staying.{named_positive}
 use Rattle.ss_machine.proofs.Dues.{least_of_each, least_due}
 use Rattle.ss_data.specs.Items.{Item}
-use Rattle.ss_machine.proofs.Wells.Simulating.{main_alone, named_well}
+use Rattle.ss_machine.proofs.Wells.Simulating.{named_well}
 
 -- ---- tables and rules of a class
 
@@ -177,11 +176,6 @@ least_is None k x h = cc
 least_is (Some n) k x h =
     let e : ◌≡◌ {A = ℕ × Slot} (k, x) (n.notice, slot_of n) = cc in
     (n, refl, ap (λ (y : ℕ × Slot). y.0) e, ap (λ (y : ℕ × Slot). y.1) e)
-
-pub least_is_none : (o : Option Pending) →
-    None ≡ option_map {T = Pending} {U = ℕ × Slot} (λ e. (e.notice, slot_of e)) o → o ≡ None
-least_is_none None h = refl
-least_is_none (Some n) h = cc
 
 first_among : (e : Pending) (es : List Pending) → is_some (pending_at (e ∷ es) e.notice) ≡ true
 first_among e es = chosen (e.notice == e.notice) (eq-eqb e.notice e.notice refl)

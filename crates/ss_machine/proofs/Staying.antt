@@ -42,12 +42,6 @@ StaysBut k st new = (d j : ℕ) → j ≢ k → exists st d j ≡ true → exist
 abbrev KeepsClass : (Entity → Entity) → Type 0
 KeepsClass f = (e : Entity) → (f e).class ≡ e.class
 
-pub stays_same : (st : Store) → Stays st st
-stays_same st d j h = h
-
-pub stays_then : (a b c : Store) → Stays a b → Stays b c → Stays a c
-stays_then a b c f g d j h = g d j (f d j h)
-
 made_there : (f : Entity → Entity) (es : List Entity) (i j : ℕ) →
     is_some (slice_get (change_at f es i) j) ≡ is_some (slice_get es j)
 made_there f [] i j = refl

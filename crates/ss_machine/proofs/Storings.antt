@@ -30,12 +30,12 @@ use Rattle.ss_machine.specs.Statements.Filing.{which_at, state_after_file, state
 use Rattle.ss_machine.specs.Statements.Timing.{state_with_agenda, state_with_notice}
 use Rattle.ss_store.specs.Store.{Store, number_of}
 use Rattle.ss_store.specs.Value.{StoreValue}
-use Rattle.ss_store.specs.Change.{Leaves, IsOutcome, IsRemoval, IsCreation, IsMaking, unapply_store}
+use Rattle.ss_store.specs.Change.{Leaves, IsOutcome, IsRemoval, IsMaking}
 use Rattle.ss_words.specs.Outcomes.{RefusesAs}
 use Rattle.ss_machine.specs.declared.state.change.Change.{Change}
 use Rattle.ss_machine.specs.declared.state.change.Change.TheVariants as c
 use Rattle.ss_machine.specs.Held.{Held, store_of, with_store, agenda_of, with_agenda}
-use Rattle.ss_machine.specs.Storing.{LeavesStore, IsStoring, IsRemoving, IsRefused, IsCreating, IsMakingAll}
+use Rattle.ss_machine.specs.Storing.{LeavesStore, IsStoring, IsRemoving, IsRefused, IsMakingAll}
 use Rattle.ss_machine.specs.Storing.{LeavesState, IsScheduling}
 use Rattle.ss_machine.specs.Outcome.{LeadsTo, LeadsToOrRefuses, IsSettledOrRefused}
 
@@ -82,17 +82,6 @@ refused (Fault e) (Err f) h v o = (o.0, same_store h v o.1)
 refused Memory (Ok s) h v o = same_store h v o
 refused (Fault e) (Ok s) h v o = o
 refused Memory (Err f) h v o = o
-
-pub creating : (k : ℕ) (change : StoreChange) (r : Result Store RunFault) (h : Held) (v : StoreValue) →
-    IsCreation (Ok (k, change)) r (store_of h) v →
-    IsCreating (Ok (k, c.Store change)) r h (with_store h v)
-creating k change (Ok st) h v o = (o.0, leaves_store change st h v o.1)
-creating k change (Err f) h v o = o
-
-pub not_creating : (e : StepFault) (r : Result Store RunFault) (h : Held) (v : StoreValue) →
-    IsCreation (Err e) r (store_of h) v →
-    IsCreating (Err e) r h (with_store h v)
-not_creating e r h v o = refused e r h v o
 
 pub making_all : (change : StoreChange) (r : Result Store RunFault) (h : Held) (v : StoreValue) →
     IsMaking (Ok change) r (store_of h) v →

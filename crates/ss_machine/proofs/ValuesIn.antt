@@ -1,8 +1,7 @@
 -- the values of expressions are in range
-use Rattle.std.proofs.Common.{ℕ, ℤ, pos, List, [], ◌∷◌, Bool, true, false, Option, Some, None, Result, Ok, Err, refl}
+use Rattle.std.proofs.Common.{ℕ, ℤ, pos, Bool, true, false, Option, refl}
 use Rattle.std.specs.Prelude.{◌*ℤ◌, ◌+ℤ◌, ◌-ℤ◌, unsigned_abs, unwrap_or}
 use Rattle.std.specs.Int.{int_min, int_max}
-use Rattle.ss_words.specs.declared.fault.RunFault.{RunFault}
 use Rattle.ss_words.specs.declared.terms.OwnerKept.{OwnerKept}
 use Rattle.ss_words.specs.declared.terms.OwnerKept.TheVariants.{First, Last, Count}
 use Rattle.ss_words.specs.declared.terms.MemberKept.{MemberKept}

@@ -1,16 +1,13 @@
 -- A head is read byte by byte.
 use Rattle.std.proofs.Common.{◌≡◌, ℕ, List, [], ◌∷◌, Option, Some, None, refl, ◌∙◌, ap}
 use Rattle.std.specs.Io.KnownBytes.{Consumes}
-use Rattle.ss_messages.specs.Frames.{head, GoesOn, IsNoHead, HasLength, HasNoLength}
+use Rattle.ss_messages.specs.Frames.{head, GoesOn, HasLength}
 
 -- where the bytes are told: what is left of them goes on as they began
 abbrev pub IsWithin : Option (List ℕ) → Option (List ℕ) → ℕ → Option ℕ → List ℕ → ℕ → Type 0
 IsWithin old new first said line byte =
     (text : List ℕ) → old ≡ Some text →
     (rest : List ℕ) × (new ≡ Some rest) × (head None [] (first ∷ text) ≡ head said line (byte ∷ rest))
-
-pub within_first : (old : Option (List ℕ)) (first : ℕ) → IsWithin old old first None [] first
-within_first old first = λ text e. (text, e, refl)
 
 -- the byte that was read is the first of those that were left
 byte_told : (mid new : Option (List ℕ)) (rest : List ℕ) (b : ℕ) → mid ≡ Some rest → Consumes mid new (b ∷ []) →
@@ -35,8 +32,3 @@ pub head_ends : (old new : Option (List ℕ)) (first : ℕ) (said : Option ℕ) 
 head_ends old new first said line byte n next more w g =
     λ text e. let at = w text e in
     (at.0, at.1, at.2 ∙ g at.0)
-
--- no head goes on
-pub head_fails : (old new : Option (List ℕ)) (first : ℕ) (said : Option ℕ) (line : List ℕ) (byte : ℕ) →
-    IsWithin old new first said line byte → IsNoHead said line byte → HasNoLength old first
-head_fails old new first said line byte w g = λ text e. let at = w text e in at.2 ∙ g at.0

@@ -4,13 +4,14 @@ use Rattle.std.specs.Prelude.{count_by, bytes_eq, Option, Some, None, Ok, Err}
 use Rattle.std.specs.Borrow.{Bor}
 use Rattle.ss_words.specs.Plain.{PlainAt, name, number, mark, picture}
 use Rattle.ss_words.specs.PlainRules.{mark_in, plain_words_of}
+use Rattle.ss_words.specs.Spellings.{is_reserved_name}
 use Rattle.ss_words.specs.TextWords.{words_of}
 use Rattle.ss_words.specs.declared.word.WordKind.{WordKind}
 use Rattle.ss_words.specs.Words.{Kind, WordAt, kind_of}
 use Rattle.ss_words.specs.Words as w
 use Rattle.ss_names.specs.declared.once.TheConstants.{ONCE}
 use Rattle.ss_names.specs.declared.dropped.TheConstants.{ARTICLES, FILLERS, DROPPED_HERE}
-use Rattle.ss_columns.specs.Reserved.{is_among, is_kind_among, reserved_words, scheduling_words}
+use Rattle.ss_columns.specs.Reserved.{is_kind_among, scheduling_words}
 use Rattle.ss_names.specs.Names.{names_in, is_of_language}
 use Rattle.ss_names.specs.Saying.{warning_line}
 use Rattle.ss_names.specs.declared.collected.Wanted.TheVariants as wanted
@@ -57,7 +58,7 @@ is_sign _ = false
 
 -- a name that is not reserved
 abbrev pub is_plain_name : Option Kind → Bool
-is_plain_name (Some (w.name n)) = not (is_among n reserved_words)
+is_plain_name (Some (w.name n)) = not (is_reserved_name n)
 is_plain_name _ = false
 
 -- SCHEDULE or CAUSE

@@ -4,8 +4,8 @@ ghost use Rattle.ss_words.specs.Words.{kind_of, word_at};
 ghost use Rattle.ss_names.specs.Warnings as spec;
 
 use crate::once::push_warning;
-use ss_columns::{SCHEDULING, is_among, is_kind_among, reserved_words};
-use ss_words::{Word, WordKind};
+use ss_columns::{SCHEDULING, is_kind_among};
+use ss_words::{Word, WordKind, is_reserved_name};
 use std::alloc::AllocError;
 
 /// Those that are told beside a sign. The definitions read these tables too.
@@ -27,7 +27,7 @@ fn is_plain_name(kind: Option<&WordKind>) -> bool
     ensures { result ≡ spec.is_plain_name (spec.kind_seen kind.entry) }
 {
     match kind {
-        Some(WordKind::Name(name)) => !is_among(name.bytes(), reserved_words()),
+        Some(WordKind::Name(name)) => !is_reserved_name(name.bytes()),
         _ => false,
     }
 }

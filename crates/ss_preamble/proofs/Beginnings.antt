@@ -1,5 +1,5 @@
 -- A text that ends inside a preamble.
-use Rattle.std.proofs.Common.{◌≡◌, ◌⊎◌, ℕ, zero, suc, ◌+◌, ◌-◌, ◌≤◌, ◌<◌, List, [], ◌∷◌, ◌++◌, length, length-append}
+use Rattle.std.proofs.Common.{◌≡◌, ◌⊎◌, ℕ, zero, suc, ◌+◌, ◌-◌, ◌<◌, List, [], ◌∷◌, ◌++◌, length, length-append}
 use Rattle.std.proofs.Common.{take, drop, None, refl, sym, ap, subst, ◌∙◌, append_assoc, arith}
 use mathlib.Core.Logic.{inl, inr}
 use Rattle.std.proofs.lemmas.List.{append-nil, length-map, take_at, take-append-drop}

@@ -16,7 +16,7 @@ use Rattle.ss_preamble.specs.declared.item.Heading.{Heading}
 use Rattle.ss_preamble.specs.declared.item.Heading.TheVariants as h
 use Rattle.ss_words.specs.declared.terms.Rank.{Rank}
 use Rattle.ss_words.specs.declared.terms.Rank.TheVariants as k
-use Rattle.ss_preamble.specs.Tree.{Clause, Has, Owns, BelongsTo, Fifo, Lifo, Ranked, Variables, Sets, PriorityOrder}
+use Rattle.ss_preamble.specs.Tree.{Has, Owns, BelongsTo, Fifo, Lifo, Ranked, Variables, Sets, PriorityOrder}
 use Rattle.ss_preamble.specs.Tree.{BreakTies, ExternalEvents, Item, Normally, Headed, OfEvery, OfSystem, Defines}
 use Rattle.ss_preamble.specs.Tree.{Orders}
 use Rattle.ss_preamble.specs.Spelling.{word, spell_heading, spell_clause, spell_other_clauses, spell_clauses}
@@ -33,10 +33,6 @@ use Rattle.ss_preamble.specs.ItemReading.{external_with, item_by, next_item, ite
 abbrev one_name : Several Name
 one_name = record { first = []; others = [] }
 
--- some clauses
-abbrev one_clause : Several Clause
-one_clause = record { first = Has one_name; others = [] }
-
 -- a word and what stands behind it, without what is read of the word
 expect_then : {A : Type 0} (sp : A → List Plain) (pre : List Plain) (w : Mark) (p : Unit {0} → Reading A)
     → Good Any sp (pre ++ mark w ∷ []) (p tt) → Good Any sp pre (bind (expect w) p)
@@ -47,11 +43,6 @@ last_part : {A B : Type 0} (spA : A → List Plain) (sp : B → List Plain) (pre
     → ((a : A) → pre ++ spA a ≡ sp (f a)) → (p : Reading A) → Good Any spA [] p
     → Good Any sp pre (bind p (λ a. pure (f a)))
 last_part spA sp pre f same p g = bind_good Any Any spA sp pre _ (λ a u. pure_good Any sp _ (f a) tt (same a)) p g
-
--- the same, where what stood before is in its spelling
-whole_part : {A B : Type 0} (spA : A → List Plain) (sp : B → List Plain) (pre : List Plain) (f : A → B)
-    → ((a : A) → spA a ≡ sp (f a)) → (p : Reading A) → Good Any spA pre p → Good Any sp pre (bind p (λ a. pure (f a)))
-whole_part spA sp pre f same p g = then_good Any Any spA sp pre _ (λ a u. pure_good Any sp _ (f a) tt (same a)) p g
 
 -- ---- clauses
 

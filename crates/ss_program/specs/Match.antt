@@ -68,6 +68,17 @@ abbrev pub passes : (Place → Bool) → Option Spot → Bool
 passes test None = false
 passes test (Some x) = test x.place
 
+-- what the first phrase of a chain sets back, by what the chain controls
+abbrev pub resets_before : Place → Resets
+resets_before (Looping Find) = resets.Found
+resets_before (Looping (Gather value)) = resets.Statistics
+resets_before other = resets.Nothing
+
+-- the same by the place that stands there, if one does
+abbrev pub resets_by : Option Spot → Resets
+resets_by None = resets.Nothing
+resets_by (Some x) = resets_before x.place
+
 module _ (places : List Spot) where
   -- whether the place at i passes a test
   abbrev pub is_at : (Place → Bool) → ℕ → Bool
@@ -154,17 +165,6 @@ module _ (places : List Spot) where
   abbrev pub chain_of : ℕ → Place → ℕ
   chain_of i (Looping Find) = chain_before i
   chain_of i other = 0
-
-  -- what the first phrase of a chain sets back, by what the chain controls
-  abbrev pub resets_before : Place → Resets
-  resets_before (Looping Find) = resets.Found
-  resets_before (Looping (Gather value)) = resets.Statistics
-  resets_before other = resets.Nothing
-
-  -- the same by the place that stands there, if one does
-  abbrev pub resets_by : Option Spot → Resets
-  resets_by None = resets.Nothing
-  resets_by (Some x) = resets_before x.place
 
   -- what the phrase at i sets back at its entry
   abbrev pub phrase_resets : ℕ → Resets

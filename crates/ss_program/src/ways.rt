@@ -324,6 +324,16 @@ fn behind_loop(spots: &[Spot], i: usize) -> usize
     }
 }
 
+fn resets_before(place: &Place) -> Resets
+    ensures { result ≡ places.resets_before place.now }
+{
+    match place {
+        Place::Looping(Looping::Find) => Resets::Found,
+        Place::Looping(Looping::Gather(_)) => Resets::Statistics,
+        _ => Resets::Nothing,
+    }
+}
+
 fn phrase_resets(spots: &[Spot], i: usize) -> Resets
     requires there { i < length spots.now }
     requires few { length spots.now < 2 ^ 63 }
@@ -333,11 +343,7 @@ fn phrase_resets(spots: &[Spot], i: usize) -> Resets
         return Resets::Nothing;
     }
     match spots.get(controlled_place(spots, i)) {
-        Some(spot) => match &spot.place {
-            Place::Looping(Looping::Find) => Resets::Found,
-            Place::Looping(Looping::Gather(_)) => Resets::Statistics,
-            _ => Resets::Nothing,
-        },
+        Some(spot) => resets_before(&spot.place),
         None => Resets::Nothing,
     }
 }

@@ -59,11 +59,6 @@ row_of_other t q x before now a b e =
     let other : bytes_eq (answer_at t x q) (answer_at t x (q + 1)) ≡ false = rw (← a, ← b) e in
     ap (λ (v : Bool). cond (not v) (csv_row (step_fields t x q)) []) other
 
--- no step has no rows
-pub traced_none : (t : Input) (xs : List Question) (p : ℕ) (o : OutletState) → HasTraced t xs p p o o
-traced_none t xs p o =
-    record { rows = []; follow = sym (append-nil _); put = appends_none o.taken; failures = refl }
-
 -- some steps behind others
 pub traced_on : (t : Input) (xs : List Question) (p q r : ℕ) (a b c : OutletState) → HasTraced t xs p q a b →
     HasTraced t xs q r b c → HasTraced t xs p r a c
@@ -116,10 +111,6 @@ cut_on Write t xs p a b c r h k =
     let part = part_behind _ _ a.taken b.taken c.taken (all_rows t xs p a b h) k.2.0 in
     (p + 1, further_reached t p r k.0 k.1, rw (← rows_more t xs p (p + 1) refl) at part, omega (arith, k.2.1, h.failures))
 
--- a run reaches its end
-pub end_reached : (t : Input) (p : ℕ) → IsRunEnd t p → Reaches t p
-end_reached t p e = record { within = e.within; ready = e.ready }
-
 -- the start is reached
 pub start_reached : (t : Input) → Reaches t 0
 start_reached t = record { within = omega arith; ready = λ k h. absurd (omega arith) }
@@ -140,10 +131,6 @@ pub step_traced : (t u : Input) (xs : List Question) (p q r : ℕ) (a b : Outlet
 step_traced t u xs p q r a b e f g h k =
     let put : Appends a.taken b.taken (step_rows t xs p) = rw (← e, ← f) h in
     traced_step t xs p r a b g put k
-
--- no step at an end
-pub end_traced : (t : Input) (xs : List Question) (p r : ℕ) (a : OutletState) → r ≡ p → HasTraced t xs p r a a
-end_traced t xs p r a e = rw e (traced_none t xs p a)
 
 -- ---- all steps
 

@@ -8,7 +8,8 @@ use Rattle.ss_sentences.specs.declared.hints.TheConstants.{DROPPED_HINT, RESERVE
 use Rattle.ss_sentences.specs.Candidates.{keeps_article}
 use Rattle.ss_sentences.specs.Expected.{fits}
 use Rattle.ss_sentences.specs.Pieces.{gaps_filled, last_kind, last_text}
-use Rattle.ss_columns.specs.Reserved.{dropped_words, is_kind_among, reserved_words}
+use Rattle.ss_words.specs.Spellings.{is_reserved_name}
+use Rattle.ss_columns.specs.Reserved.{dropped_words, is_kind_among}
 
 -- a name, reserved or not
 abbrev pub is_name : Kind → Bool
@@ -16,6 +17,13 @@ is_name (name n) = true
 is_name (number n) = false
 is_name (sign s) = false
 is_name (picture ls) = false
+
+-- a name that is reserved
+abbrev pub is_reserved_word : Kind → Bool
+is_reserved_word (name n) = is_reserved_name n
+is_reserved_word (number n) = false
+is_reserved_word (sign s) = false
+is_reserved_word (picture ls) = false
 
 -- A, AN, THE, THIS, MAY or OUTPUT
 abbrev pub is_dropped_word : Option Kind → Bool
@@ -34,9 +42,9 @@ hint_text is_given hint word = elim is_given [ true ↦ gaps_filled hint word wo
 -- where one fits
 abbrev pub word_hints : List Judgement → Kind → List ℕ → List ℕ
 word_hints js kind told =
-    hint_text (is_kind_among reserved_words kind && fits js (codes "a name") && not (fits js (codes "LET")))
+    hint_text (is_reserved_word kind && fits js (codes "a name") && not (fits js (codes "LET")))
     RESERVED_HINT.now told
-    ++ hint_text (is_name kind && not (is_kind_among reserved_words kind) && fits js (codes "UNITS")) UNIT_HINT.now told
+    ++ hint_text (is_name kind && not (is_reserved_word kind) && fits js (codes "UNITS")) UNIT_HINT.now told
 
 -- the lines of the words that open blocks which no word behind them closes, the innermost last
 abbrev pub open_lines : List (List ℕ) → List (List ℕ) → List ℕ → List WordAt → List ℕ

@@ -9,8 +9,8 @@ ghost use Rattle.ss_sentences.specs.Pieces.{last_kind};
 use crate::candidate::{Judgement, keeps_article};
 use crate::expected::fits;
 use crate::pieces::{last_kind, last_text, push_filled, push_number};
-use ss_columns::{DROPPED, is_kind_among, reserved_words};
-use ss_words::{Word, WordKind};
+use ss_columns::{DROPPED, is_kind_among};
+use ss_words::{Word, WordKind, is_reserved_name};
 use std::alloc::{AllocError, Global};
 
 /// What opens blocks, and what closes them. The definitions read these tables too.
@@ -45,6 +45,16 @@ fn is_name(word: &Word) -> bool
     ensures { result ≡ spec.is_name (word_at word.now).kind }
 {
     matches!(word.kind, WordKind::Name(_))
+}
+
+/// Whether a word is a name that is reserved.
+fn is_reserved_word(word: &Word) -> bool
+    ensures { result ≡ spec.is_reserved_word (word_at word.now).kind }
+{
+    match &word.kind {
+        WordKind::Name(name) => is_reserved_name(name.bytes()),
+        _ => false,
+    }
 }
 
 /// Whether the last of these words is one that is dropped, wherever it stands.
@@ -95,7 +105,7 @@ pub fn push_word_hints(
     ensures { OnOk result (text.new.items
         ≡ text.old.items ++ spec.word_hints judged.now (word_at refused.now).kind told.now) }
 {
-    let reserved = is_word_among(refused, reserved_words());
+    let reserved = is_reserved_word(refused);
     let name = reserved && fits(judged, b"a name") && !fits(judged, b"LET");
     push_hint(text, name, RESERVED_HINT, told)?;
     let unit = is_name(refused) && !reserved && fits(judged, b"UNITS");

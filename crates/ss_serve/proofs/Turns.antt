@@ -1,29 +1,26 @@
 -- Turns, one after the other.
 use Rattle.std.proofs.Common.{◌≡◌, ℕ, ◌+◌, ◌-◌, ◌^◌, Bool, true, false, List, [], ◌∷◌, ◌++◌, length, map, refl}
 use Rattle.std.proofs.Common.{◌∙◌, sym, ap, inl, inr, arith, append_assoc, append-nil, length-append}
-use Rattle.std.proofs.Common.{Option, Some, None, Ok, Err}
+use Rattle.std.proofs.Common.{Option, Some, Ok, Err}
 use Rattle.std.proofs.lemmas.List.{map-append}
 use Rattle.std.specs.Prelude.{Result, IfOk, IfErr}
-use Rattle.ss_console.specs.Event.{Event, read, write_events, Adds}
+use Rattle.ss_console.specs.Event.{Event, Adds}
 use Rattle.ss_console.proofs.Parts.{adds_then, adds_none, adds_no_more}
 use Rattle.ss_console.specs.declared.answerer.Go.{Go}
 use Rattle.ss_console.specs.declared.answerer.Go.TheVariants.{On, Quit}
 use Rattle.ss_console.specs.Going.{go_of}
-use Rattle.ss_messages.specs.Frames.{first_message, message, IsRead, IsMalformed}
-use Rattle.ss_messages.specs.declared.frame.FrameFault.{FrameFault}
+use Rattle.ss_messages.specs.Frames.{first_message, message, IsRead}
 use Rattle.ss_messages.specs.declared.frame.FrameFault.TheVariants as frame
-use Rattle.ss_messages.specs.declared.request.RequestFault.{RequestFault}
 use Rattle.ss_messages.specs.declared.request.RequestFault.TheVariants as asking
 use Rattle.ss_messages.specs.Messages.{Sent, PostView}
 use Rattle.ss_messages.specs.declared.request.Request.{Request}
-use Rattle.ss_serve.specs.Faults.{fault_of_frame, fault_of_request}
 use Rattle.ss_serve.specs.Meaning.{Meaning}
 use Rattle.ss_serve.specs.Seen.{Seen, seen_of}
-use Rattle.ss_serve.specs.Session.{BeginsWith, Gives, request_in, IsNoRequest, Turn, IsTurn, AreTurns, state_after}
+use Rattle.ss_serve.specs.Session.{BeginsWith, Gives, Turn, IsTurn, AreTurns, state_after}
 use Rattle.ss_serve.specs.Session.{messages_of, turn_events}
-use Rattle.ss_serve.specs.Session.{events, sent_after, EndsByStream, EndsByRequest, EndsAtBody, EndsInAnswer}
+use Rattle.ss_serve.specs.Session.{events, sent_after}
 use Rattle.ss_serve.specs.Session.{EndsBy, HasEnded}
-use Rattle.ss_serve.specs.Steps.{IsAsked, NoneAsked, messages_for, IsAnswered, Unanswered, IsMore, IsStep}
+use Rattle.ss_serve.specs.Steps.{IsAsked, IsAnswered, Unanswered, IsMore, IsStep}
 use Rattle.ss_serve.specs.declared.fault.SessionFault.{SessionFault}
 use Rattle.ss_serve.specs.declared.fault.SessionFault.TheVariants.{NoRequest, CannotRead, CannotWrite, Memory, Count}
 
@@ -164,34 +161,6 @@ ends_by_count m from s last n post before left old told k d e = record {
 }
 
 -- ---- one turn, of its parts
-
-pub asked_some : (body : List ℕ) (request : Request) (c : Seen) → request_in body ≡ Some request →
-    IsRead (Some body) c.before c.after → Adds c.old c.new (read body ∷ []) → IsAsked (Some request) c
-asked_some body request c e i a = record { body = body; said = e; input = i; told = a }
-
-pub frame_faults : (fault : FrameFault) (n : ℕ) (c : Seen) → (fault ≡ frame.Malformed → IsMalformed c.before) →
-    Adds c.old c.new [] → NoneAsked n c (fault_of_frame fault)
-frame_faults frame.Malformed n c h a = inl (h refl, a)
-frame_faults frame.Read n c h a = a
-frame_faults frame.Memory n c h a = inl a
-
-pub request_faults : (fault : RequestFault) (n : ℕ) (c : Seen) (body : List ℕ) →
-    (fault ≡ asking.NoRequest → IsNoRequest body) → IsRead (Some body) c.before c.after →
-    Adds c.old c.new (read body ∷ []) → NoneAsked n c (fault_of_request fault)
-request_faults asking.NoRequest n c body h i a =
-    inr (record { body = body; said = h refl; input = i; told = a })
-request_faults asking.Memory n c body h i a = inr (record { body = body; said = tt; input = i; told = a })
-
-pub none_asked : (m : Meaning) (s last : m.State) (n : ℕ) (c : Seen) (fault : SessionFault) → NoneAsked n c fault →
-    EndsBy m s last 0 n c (Err fault)
-none_asked m s last n c NoRequest h = h
-none_asked m s last n c CannotRead h = h
-none_asked m s last n c CannotWrite h = absurd h
-none_asked m s last n c Memory h = h
-none_asked m s last n c Count h = (inl h.0, h.1)
-
-pub asked_none : (m : Meaning) (s : m.State) (n : ℕ) (c : Seen) → IsAsked None c → EndsBy m s s 0 n c (Ok tt)
-asked_none m s n c h = inl (record { state = refl; input = h.0; told = h.1 })
 
 -- behind the reading of a request
 abbrev turn_of : {S : Type 0} → List ℕ → Request → List Sent → S → Turn S

@@ -2,7 +2,7 @@
 use Rattle.std.proofs.lemmas.Bool.Decides.{nat_tests}
 use Rattle.std.proofs.lemmas.Cmp.{int_cmp_total, lists_total, on_total}
 use Rattle.std.proofs.lemmas.Int.{ints}
-use Rattle.std.proofs.Common.{◌≡◌, ◌⊎◌, inl, inr, ℕ, ℤ, neg_ℤ, ◌≤◌, ◌<◌, ◌==◌, ◌||◌, List, [], ◌∷◌, ◌++◌, length, map}
+use Rattle.std.proofs.Common.{◌≡◌, ◌⊎◌, inl, inr, ℕ, ℤ, neg_ℤ, ◌≤◌, ◌<◌, ◌==◌, ◌||◌, List, [], ◌∷◌, ◌++◌, length}
 use Rattle.std.proofs.Common.{refl, ap}
 use Rattle.std.proofs.Common.{sym, subst, ◌∙◌, arith, Option, Some, None, Bool, true, false, cond}
 use Rattle.std.specs.Prelude.{unwrap_or}
@@ -22,7 +22,6 @@ use Rattle.ss_program.specs.Keys.{order_by_rank, by_keys, key_values}
 use Rattle.ss_store.specs.Lists.{placed_before}
 use Rattle.ss_store.specs.Finding.{rank_before, Among, is_at}
 use Rattle.ss_store.specs.Order.{Climbs}
-use Rattle.ss_store.proofs.Core.{some_eq}
 use Rattle.ss_store.proofs.OneListChanges.{is_or_not}
 use Rattle.ss_store.proofs.SearchPlaces.{among_begins, among_goes_on, among_passed, among_has, left_none, once_in}
 use Rattle.ss_store.proofs.SearchPlaces.{seat_in, next_is}

@@ -1,6 +1,6 @@
 -- Whose list and whose seat it is.
 use Rattle.std.proofs.Common.{◌≡◌, ◌⊎◌, inl, inr, ℕ, ℤ, zero, suc, ◌+◌, ◌<◌, ◌==◌, List, [], ◌∷◌, map, refl, ap, sym}
-use Rattle.std.proofs.Common.{subst, ◌∙◌, slice_get, slice_index_or, Option, Some, None, true, false, cond, eqb→eq, T}
+use Rattle.std.proofs.Common.{subst, ◌∙◌, slice_get, Option, Some, None, true, false, cond, eqb→eq, T}
 use Rattle.std.specs.Option.{option_map, option_or}
 use Rattle.ss_links.specs.Board.{list_at}
 use Rattle.ss_links.specs.Seats.{has}
@@ -125,11 +125,6 @@ seat_entry g s x t k is e =
     (subst (λ d. s.slot < (class_of g.tables d).joined) (sym l.class) (k.tables.slots s is)) in
     ap (slice_get g.members) (sym p.2) ∙ q ∙ λ i. Some
     (record { member = l.class i; slot = s.slot; number = sym l.number i })
-
-pub index_some : {A : Type 0} (xs : List A) (i : ℕ) (d x : A) → slice_get xs i ≡ Some x → slice_index_or xs i d ≡ x
-index_some [] i d x e = cc
-index_some (y ∷ ys) zero d x e = some_eq e
-index_some (y ∷ ys) (suc i) d x e = index_some ys i d x e
 
 number_map : (ms : List SeatEntry) (t : ℕ) (m : SeatEntry) → slice_get ms t ≡ Some m
     → number_at (map (λ (z : SeatEntry). z.number) ms) t ≡ m.number

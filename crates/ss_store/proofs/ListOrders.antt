@@ -1,19 +1,18 @@
 -- Lists that are known to be in order stay so.
 use Rattle.std.proofs.lemmas.Bool.Decides.{nat_tests}
 use Rattle.std.proofs.Common.{◌≡◌, ◌≢◌, ◌⊎◌, inl, inr, ℕ, ℤ, pos, zero, suc, ◌+◌, ◌-◌, ◌<◌, ◌≤◌}
-use Rattle.std.proofs.Common.{◌==◌, ◌&&◌, ◌||◌, List, [], ◌∷◌, ◌++◌, length, map, refl, ap, sym, subst, ◌∙◌, arith}
+use Rattle.std.proofs.Common.{◌==◌, ◌&&◌, ◌||◌, List, [], ◌∷◌, length, refl, ap, sym, subst, ◌∙◌, arith}
 use Rattle.std.proofs.Common.{slice_get, slice_index_or, replicate}
-use Rattle.std.proofs.Common.{Option, Some, None, Bool, true, false, cond, set}
+use Rattle.std.proofs.Common.{Option, Some, None, Bool, true, false, set}
 use Rattle.std.specs.Prelude.{Ok, is_some, unwrap_or, slice_set}
 use Rattle.std.specs.List.{list_any}
-use Rattle.std.specs.Option.{option_map, option_or}
+use Rattle.std.specs.Option.{option_or}
 use Rattle.std.specs.Ordering.{is_gt}
 use Rattle.ss_links.specs.Board.{Board, IsSound, list_at, head_of, after_unlink, after_relink}
 use Rattle.ss_links.specs.Seats.{has, put_at, list_without}
 use Rattle.ss_links.proofs.BoardLaws.{list_at-map, head_of-list_at}
 use Rattle.ss_program.specs.declared.keys.Key.{Key}
-use Rattle.ss_program.specs.declared.kinds.Discipline.{Discipline}
-use Rattle.ss_program.specs.declared.kinds.Discipline.TheVariants.{Fifo, Lifo, Ranked}
+use Rattle.ss_program.specs.declared.kinds.Discipline.TheVariants.{Ranked}
 use Rattle.ss_program.specs.Keys.{by_keys, key_values}
 use Rattle.ss_store.specs.declared.places.Spot.{Spot}
 use Rattle.ss_store.specs.declared.places.Spot.TheVariants as spot
@@ -21,9 +20,9 @@ use Rattle.ss_store.specs.declared.rows.Row.{Row}
 use Rattle.ss_store.specs.declared.shape.ClassShape.{ClassShape}
 use Rattle.ss_store.specs.declared.shape.SetShape.{SetShape}
 use Rattle.ss_store.specs.declared.shape.How.{How}
-use Rattle.ss_store.specs.Finding.{keys_in, seat_behind_in, rank_before, rule_place, place_by, spot_by}
+use Rattle.ss_store.specs.Finding.{keys_in, rank_before, rule_place, place_by, spot_by}
 use Rattle.ss_store.specs.Invariant.{IsStore}
-use Rattle.ss_store.specs.Making.{with_table, with_row, with_next_entity, next_row, numbering_by, HasRoom}
+use Rattle.ss_store.specs.Making.{with_table, with_next_entity, numbering_by, HasRoom}
 use Rattle.ss_store.specs.Order.{Climbs, seat_after, InOrder, known_at, AreInOrder, is_key, is_key_by}
 use Rattle.ss_store.specs.Parts.{StoreParts, HeadEntry, head_at, seat_at, number_at}
 use Rattle.ss_store.specs.Rows.{RowTable, EntityTable, rows_in, row_of, values_in, values_of}
@@ -37,7 +36,7 @@ use Rattle.ss_store.proofs.Calls.{Case, puts}
 use Rattle.ss_store.proofs.Climbing.{climbs_same, climbs_without, climbs_placed, keys_rank}
 use Rattle.ss_store.proofs.Core.{some_eq, Found, found, Member, map_some, made_none, head_entry, seat_number}
 use Rattle.ss_store.proofs.EndingAnswers.{Lives, stands}
-use Rattle.ss_store.proofs.FilingChanges.{Puts, ok_eq}
+use Rattle.ss_store.proofs.FilingChanges.{ok_eq}
 use Rattle.ss_store.proofs.OneMoreEntity.{Grows, given_none, list_more, list_past, row_kept, value_kept}
 use Rattle.ss_store.proofs.OneMoreInState.{index_left}
 use Rattle.ss_store.proofs.MakingAnswers.{At, Adds, added, added_is, grows}

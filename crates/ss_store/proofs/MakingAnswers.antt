@@ -51,13 +51,6 @@ at_of g v c shape w s lt e =
 
 -- ---- counts
 
-rows_few : (g : StoreParts) (w : Option ℕ) → IsStore g → length (rows_in g.rows w).rows ≤ 1000000
-rows_few g None s = s.few_references
-rows_few g (Some c) s = let e = s.few_made c in omega (arith, e)
-
-pub rows_fit : (g : StoreParts) (w : Option ℕ) → IsStore g → length (rows_in g.rows w).rows + 1 < 2 ^ 32
-rows_fit g w s = let e = rows_few g w s in omega (arith, e)
-
 used_below : (f : ClassShape → ℕ) (cs : List ClassShape) (rs : List Row) → ((c : ℕ) → f (class_in cs c) ≤ 64)
     → used_of f cs rs ≤ length rs * 64
 used_below f cs [] s = omega arith
@@ -395,14 +388,6 @@ pub length_zipped : {A : Type 0} (f : Row → Option (List ℤ) → A) (rs : Lis
 length_zipped f [] vs e = refl
 length_zipped f (r ∷ rs) [] e = absurd (omega (arith, e))
 length_zipped f (r ∷ rs) (v ∷ vs) e = ap suc (length_zipped f rs vs (omega (arith, e)))
-
-pub count_kept : (g : StoreParts) (v : StoreValue) (c n : ℕ) (shape : ClassShape) → At g v c shape
-    → n ≡ length (rows_in g.rows (numbering_by shape.permanent c)).rows
-    → n ≡ length (rows_of_numbering v.kept (numbering (class_of v.tables c) c))
-count_kept g v c n shape k e =
-    subst (λ (z : StoreValue). n ≡ length (rows_of_numbering z.kept (numbering (class_of z.tables c) c))) k.is
-    (e ∙ ap (length {A = Row}) (sym (kept_rows_are g (numbering_by shape.permanent c)))
-    ∙ ap (λ (z : ClassShape). length (rows_of_numbering (layout_of g) (numbering z c))) (sym k.shaped))
 
 pub count_given : (g : StoreParts) (v : StoreValue) (c n : ℕ) (shape : ClassShape) → At g v c shape
     → n ≡ length (rows_in g.rows (numbering_by shape.permanent c)).rows → (class_of v.tables c).permanent ≡ false

@@ -1,25 +1,23 @@
 -- The entities of a class made one after another.
 use Rattle.std.proofs.lemmas.Bool.Decides.{nat_tests}
-use Rattle.std.proofs.Common.{◌≡◌, ℕ, ℤ, zero, suc, ◌+◌, ◌<◌, ◌≤◌, ◌==◌, ◌&&◌, List, [], ◌∷◌, ◌++◌, length}
+use Rattle.std.proofs.Common.{◌≡◌, ℕ, ℤ, zero, suc, ◌+◌, ◌<◌, ◌≤◌, ◌==◌, List, [], ◌∷◌, ◌++◌, length}
 use Rattle.std.proofs.Common.{replicate, refl, ap, sym, subst, ◌∙◌, arith, slice_set, slice_index_or}
 use Rattle.std.proofs.Common.{Some, None, Bool, true, false, cond, nat_lt, nat_le}
-use Rattle.std.specs.Prelude.{Ok, Err}
-use Rattle.ss_words.specs.declared.fault.RunFault.TheVariants.{AlreadyCreated, CountOutOfRange, TooManyReferences}
-use Rattle.ss_words.specs.declared.fault.StepFault.TheVariants.{Fault, Memory}
+use Rattle.std.specs.Prelude.{Ok}
 use Rattle.ss_store.specs.declared.rows.Row.{Row}
 use Rattle.ss_store.specs.declared.shape.ClassShape.{ClassShape}
 use Rattle.ss_store.specs.declared.change.StoreChange.TheVariants.{Created, ClassCreated}
 use Rattle.ss_store.specs.Lists.{change_at}
 use Rattle.ss_store.specs.Tables.{Tables, class_of}
-use Rattle.ss_store.specs.Store.{Store, made_of, number_of, fresh, with_reference, with_made, with_new}
+use Rattle.ss_store.specs.Store.{Store, made_of, number_of, fresh, with_made}
 use Rattle.ss_store.specs.Store.{with_class}
 use Rattle.ss_store.specs.declared.limits.TheConstants.{MOST_ENTITIES}
 use Rattle.ss_words.specs.declared.limits.TheConstants.{MOST_REFERENCES}
-use Rattle.ss_store.specs.Change.{FitsCreated, Leaves, IsCreation, IsMaking, unapply_store}
+use Rattle.ss_store.specs.Change.{FitsCreated, Leaves, IsMaking, unapply_store}
 use Rattle.ss_store.specs.Value.{StoreValue}
 use Rattle.ss_store.specs.Making.{numbering_by, numbering, with_entity, rows_of_numbering, layout_with, but_last}
 use Rattle.ss_store.specs.Making.{without_last}
-use Rattle.ss_store.specs.Making.{one_less, FitsLast, HasRoom, Makes, MakesAll, TakesOff}
+use Rattle.ss_store.specs.Making.{one_less, HasRoom, Makes, MakesAll, TakesOff}
 use Rattle.ss_store.proofs.More.{length_more, change_change, change_none, index_get}
 
 assoc : {A : Type 0} (xs ys zs : List A) → (xs ++ ys) ++ zs ≡ xs ++ (ys ++ zs)
@@ -208,71 +206,7 @@ all_made c m n heads seats old new k perm none rows eh et is low high =
     (with_made old.state c (replicate m (fresh c (class_of old.tables c)))) old new) (sym et)
     (class_leaves c m old new perm none (kept_none c old perm rows) k))))
 
-pub all_refused : (c : ℕ) (n : ℤ) (old new : StoreValue) → length (made_of old.state c) ≡ 0 → 0 < number_of n
-    → number_of n ≤ 10000 → new ≡ old → IsMaking (Err Memory) (with_class old.state c (class_of old.tables c) n) old new
-all_refused c n old new none low high e = rw (class_ok old.state c (class_of old.tables c) n none low high) e
-
-pub all_already : (c : ℕ) (n : ℤ) (v : StoreValue) → 0 < length (made_of v.state c)
-    → IsMaking (Err (Fault AlreadyCreated)) (with_class v.state c (class_of v.tables c) n) v v
-all_already c n v some = let a : (length (made_of v.state c) == 0) ≡ false = grind (arith, nat_tests, some) in
-    rw a (refl, refl)
-
-pub all_out : (c : ℕ) (n : ℤ) (v : StoreValue) → length (made_of v.state c) ≡ 0
-    → (nat_lt 0 (number_of n) && nat_le (number_of n) 10000) ≡ false
-    → IsMaking (Err (Fault CountOutOfRange)) (with_class v.state c (class_of v.tables c) n) v v
-all_out c n v none out = let a : (length (made_of v.state c) == 0) ≡ true = grind (arith, nat_tests, none) in
-    rw (a, out) (refl, refl)
-
 -- ---- one
-
-new_ok : (st : Store) (c : ℕ) (shape : ClassShape) → length st.references < 1000000
-    → with_new st c shape ≡ Ok (with_reference st (fresh c shape))
-new_ok st c shape lt = let a : nat_lt (length st.references) 1000000 ≡ true = grind (arith, nat_tests, lt) in rw a refl
-
-pub one_refused : (c : ℕ) (old new : StoreValue) → length old.state.references < 1000000 → new ≡ old
-    → IsCreation (Err Memory) (with_new old.state c (class_of old.tables c)) old new
-one_refused c old new lt e = rw (new_ok old.state c (class_of old.tables c) lt) e
-
-pub one_too_many : (c : ℕ) (v : StoreValue) → 1000000 ≤ length v.state.references
-    → IsCreation (Err (Fault TooManyReferences)) (with_new v.state c (class_of v.tables c)) v v
-one_too_many c v le = let a : nat_lt (length v.state.references) 1000000 ≡ false = grind (arith, nat_tests, le) in
-    rw a (refl, refl)
-
-one_leaves : (c k : ℕ) (old new : StoreValue) → (class_of old.tables c).permanent ≡ false
-    → k ≡ suc (length (rows_of_numbering old.kept (numbering (class_of old.tables c) c))) → Makes c old new
-    → Leaves (Created c k old.kept.heads old.kept.seats) (with_reference old.state (fresh c (class_of old.tables c)))
-    old new
-one_leaves c k old new given number m =
-    let tables : new.tables ≡ old.tables = ap (λ (z : StoreValue). z.tables) m.is in
-    let none : numbering (class_of old.tables c) c ≡ None = numbering_given (class_of old.tables c).permanent c given in
-    let now : numbering (class_of new.tables c) c ≡ None = ap (λ z. numbering (class_of z c) c) tables ∙ none in
-    record {
-      state = ap (λ (z : StoreValue). z.state) m.is
-          ∙ λ i. with_entity (none i) old.state (fresh c (class_of old.tables c));
-      fits = record {
-        not_permanent = ap (λ z. (class_of z c).permanent) tables ∙ given;
-        newest = subst (λ z. FitsLast c z old.kept.heads old.kept.seats new) (sym number) m.fits;
-      };
-      back = (λ i. record new {
-        state = without_last (sym now i) new.state;
-        kept = layout_with but_last new.kept (sym now i) old.kept.heads old.kept.seats;
-      }) ∙ m.back;
-    }
-
-pub one_made : (c k number heads seats : ℕ) (old new : StoreValue) → (class_of old.tables c).permanent ≡ false
-    → k ≡ suc (length (rows_of_numbering old.kept (numbering (class_of old.tables c) c)))
-    → number ≡ suc (length old.state.references) → length old.state.references < 1000000 → heads ≡ old.kept.heads
-    → seats ≡ old.kept.seats → Makes c old new
-    → IsCreation (Ok (number, Created c k heads seats)) (with_new old.state c (class_of old.tables c)) old new
-one_made c k number heads seats old new given ek en lt eh et m =
-    rw (new_ok old.state c (class_of old.tables c) lt) (
-      en ∙ sym (length_more old.state.references (Some (fresh c (class_of old.tables c)))),
-      subst (λ z. Leaves (Created c k z seats) (with_reference old.state (fresh c (class_of old.tables c))) old new)
-          (sym eh)
-          (subst (λ z. Leaves (Created c k old.kept.heads z)
-          (with_reference old.state (fresh c (class_of old.tables c))) old new) (sym et)
-          (one_leaves c k old new given ek m)),
-    )
 
 -- ---- the loop
 
@@ -284,13 +218,6 @@ makes_next c i old now new perm m k = let e : suc i ≡ i + 1 = omega arith in
 pub same_class : (c i : ℕ) (old now : StoreValue) → MakesAll c i old now → c < length old.tables.classes
     → c < length now.tables.classes
 same_class c i old now m lt = subst (λ (z : Tables). c < length z.classes) (sym m.tables) lt
-
-pub room_one : (c n : ℕ) (v : StoreValue) → (class_of v.tables c).permanent ≡ false
-    → n ≡ length (rows_of_numbering v.kept (numbering (class_of v.tables c) c)) → n < 1000000 → HasRoom c v
-room_one c n v given e lt =
-    let limit : cond (class_of v.tables c).permanent MOST_ENTITIES MOST_REFERENCES ≡ 1000000 =
-    ap (λ b. cond b MOST_ENTITIES MOST_REFERENCES) given in
-    omega (arith, e, lt, limit)
 
 pub none_made : (n m : ℕ) → n ≡ m → n ≤ 0 → m ≡ 0
 none_made n m e le = omega (arith, e, le)

@@ -69,11 +69,6 @@ pub length_rep : {A : Type 0} (n : ℕ) (x : A) → length (replicate n x) ≡ n
 length_rep zero x = refl
 length_rep (suc n) x = ap suc (length_rep n x)
 
-pub get_rep : {A : Type 0} (n k : ℕ) (x y : A) → slice_get (replicate n x) k ≡ Some y → (k < n) × (x ≡ y)
-get_rep zero k x y e = cc
-get_rep (suc n) zero x y e = (omega arith, some_eq e)
-get_rep (suc n) (suc k) x y e = let d = get_rep n k x y e in let lt = d.0 in (omega (arith, lt), d.1)
-
 -- ---- one item changed
 
 pub length_change : {A : Type 0} (f : A → A) (xs : List A) (c : ℕ) → length (change_at f xs c) ≡ length xs

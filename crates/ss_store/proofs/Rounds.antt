@@ -1,6 +1,6 @@
 -- Which lists are known in a round.
 use Rattle.std.proofs.lemmas.Bool.Decides.{nat_tests}
-use Rattle.std.proofs.Common.{◌≡◌, ℕ, zero, suc, ◌+◌, ◌<◌, ◌≤◌, ◌==◌, ◌++◌, List, [], ◌∷◌, length, map, Bool, true}
+use Rattle.std.proofs.Common.{◌≡◌, ℕ, zero, suc, ◌+◌, ◌<◌, ◌≤◌, ◌==◌, ◌++◌, List, [], ◌∷◌, Bool, true}
 use Rattle.std.proofs.Common.{false}
 use Rattle.std.proofs.Common.{refl, ap, sym, ◌∙◌, arith, replicate, slice_index_or}
 use Rattle.std.specs.Prelude.{slice_set}
@@ -17,9 +17,6 @@ pub next_round : (rs : List ℕ) (r h : ℕ) → AreRounds rs r → known_at (kn
 next_round rs r h a =
     let below = a.1 h in
     known_is rs (r + 1) h (omega arith) ∙ (let e : (slice_index_or rs h 0 == (r + 1)) ≡ false = grind (arith, nat_tests, below) in e)
-
-pub later_rounds : (rs : List ℕ) (r : ℕ) → AreRounds rs r → AreRounds rs (r + 1)
-later_rounds rs r a = (omega arith, λ h. let below = a.1 h in omega (arith, below))
 
 -- a list noted
 pub noted : (rs : List ℕ) (r h x : ℕ) → known_in (slice_set rs h x) r ≡ slice_set (known_in rs r) h (x == r)
@@ -42,9 +39,6 @@ noted_at (y ∷ rs) r zero x (suc k) e f = f (suc k)
 noted_at (y ∷ rs) r (suc h) x zero e f = f 0
 noted_at (y ∷ rs) r (suc h) x (suc k) e f = noted_at rs r h x k e (λ j. f (suc j))
 
-pub noted_rounds : (rs : List ℕ) (r h x : ℕ) → x ≤ r → AreRounds rs r → AreRounds (slice_set rs h x) r
-noted_rounds rs r h x e a = (a.0, λ k. noted_at rs r h x k e a.1)
-
 -- more lists, which were found in no round
 more_at : (rs : List ℕ) (n h : ℕ) → slice_index_or (rs ++ replicate n 0) h 0 ≡ slice_index_or rs h 0
 more_at [] zero h = refl
@@ -52,9 +46,6 @@ more_at [] (suc n) zero = refl
 more_at [] (suc n) (suc h) = more_at [] n h
 more_at (x ∷ rs) n zero = refl
 more_at (x ∷ rs) n (suc h) = more_at rs n h
-
-pub more_rounds : (rs : List ℕ) (n r : ℕ) → AreRounds rs r → AreRounds (rs ++ replicate n 0) r
-more_rounds rs n r a = (a.0, λ h. let e = more_at rs n h in let below = a.1 h in omega (arith, e, below))
 
 pub more_known : (rs : List ℕ) (n r h : ℕ) → 0 < r → known_at (known_in (rs ++ replicate n 0) r) h ≡ known_at (known_in rs r) h
 more_known rs n r h lt = known_is (rs ++ replicate n 0) r h lt ∙ ap (λ k. k == r) (more_at rs n h) ∙ sym (known_is rs r h lt)

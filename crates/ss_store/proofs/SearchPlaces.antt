@@ -23,21 +23,10 @@ pub left_none : (l : List ℕ) → first_of l ≡ None → l ≡ []
 left_none [] e = refl
 left_none (y ∷ l) e = cc
 
-pub among_ends : (l : List ℕ) (test : ℕ → Bool) (before : Option ℕ) → Among l test before None
-    → before ≡ rank_before test None l
-among_ends l test before a = ap (rank_before test before) (sym (left_none a.left a.begins)) ∙ a.result
-
 -- the seat at which it stands
 left_some : (l : List ℕ) (t : ℕ) → first_of l ≡ Some t → (m : List ℕ) × (l ≡ t ∷ m)
 left_some [] t e = cc
 left_some (y ∷ m) t e = (m, ap (λ z. z ∷ m) (some_eq e))
-
-pub among_stops : (l : List ℕ) (test : ℕ → Bool) (before : Option ℕ) (t : ℕ) → Among l test before (Some t)
-    → test t ≡ true → before ≡ rank_before test None l
-among_stops l test before t a e =
-    let m = left_some a.left t a.begins in
-    (let w : rank_before test before (t ∷ m.0) ≡ before = rw e refl in sym w) ∙ ap (rank_before test before) (sym m.1)
-    ∙ a.result
 
 append_one : (a : List ℕ) (t : ℕ) (m : List ℕ) → (a ++ t ∷ []) ++ m ≡ a ++ t ∷ m
 append_one [] t m = refl

@@ -104,12 +104,6 @@ loop_turns item none one total view xs x ys ws r pushed e shorter going =
 
 -- ---- a loop whose first item was read before
 
-pub begins_behind : {A B : Type 0} (item : Reading (Option A)) (none : B) (one : A → B → B) (a : A) (ws : List Plain)
-    → Going item none one (bind (many item none one) (λ b. pure (one a b)) ws) (a ∷ []) ws
-unfolding many bind
-begins_behind item none one a ws =
-    (suc (length ws), omega arith, with_one one a (many_from item none one (suc (length ws)) ws))
-
 pub prepend_list : {A : Type 0} (xs : List A) → prepend (λ x ys. x ∷ ys) xs [] ≡ xs
 prepend_list [] = refl
 prepend_list (x ∷ xs) = ap (λ (ys : List _). x ∷ ys) (prepend_list xs)

@@ -1,14 +1,14 @@
 -- What the readings of one word keep, for all words at once.
-use Rattle.std.proofs.Common.{◌≡◌, ◌≢◌, ℕ, ◌≤◌, ◌<◌, Bool, true, false, List, [], ◌∷◌, ◌++◌, length, Option, Some, None}
+use Rattle.std.proofs.Common.{◌≡◌, ℕ, ◌<◌, Bool, true, false, List, [], ◌∷◌, ◌++◌, length, Option, Some, None}
 use Rattle.std.proofs.Common.{Ok, refl, sym, ap, arith}
-use denote.Enum.Bare.{same_true, true_same, false_same}
+use denote.Enum.Bare.{same_true, true_same}
 use Rattle.ss_words.specs.contracts.reserved.Reserved.{the_type as reserved_type}
 use Rattle.ss_words.specs.contracts.word.Sign.{the_type as sign_type}
 use Rattle.ss_words.specs.declared.mark.Mark.{Mark}
 use Rattle.ss_words.specs.declared.mark.Mark.TheVariants as m
 use Rattle.ss_words.specs.declared.refusal.Refusal.TheVariants.{Unexpected}
 use Rattle.ss_words.specs.Plain.{Plain, name, number, mark, picture, first}
-use Rattle.ss_words.specs.Reading.{Reading, look, skip, pure, refuse, bind}
+use Rattle.ss_words.specs.Reading.{Reading, look, skip, pure, refuse}
 use Rattle.ss_words.specs.Marks.{same_mark, is, expect, eat, name_by, a_name, number_by, a_number, picture_by}
 use Rattle.ss_words.specs.Marks.{a_picture}
 use Rattle.ss_words.proofs.Laws.{Good, GoodAt, Any, pure_good, refuse_good, look_good, skip_good, good_at}
@@ -18,12 +18,6 @@ use Rattle.ss_words.proofs.Local.{test_local}
 pub is_same : (k : Mark) → is k (Some (mark k)) ≡ true
 is_same (m.Sign a) = true_same sign_type a a refl
 is_same (m.Reserved a) = true_same reserved_type a a refl
-
-pub is_other : (k j : Mark) → j ≢ k → is k (Some (mark j)) ≡ false
-is_other (m.Sign a) (m.Sign b) h = false_same sign_type tt a b (λ e. h (ap m.Sign (sym e)))
-is_other (m.Sign a) (m.Reserved b) h = refl
-is_other (m.Reserved a) (m.Sign b) h = refl
-is_other (m.Reserved a) (m.Reserved b) h = false_same reserved_type tt a b (λ e. h (ap m.Reserved (sym e)))
 
 one_mark : (k j : Mark) → same_mark k j ≡ true → k ≡ j
 one_mark (m.Sign a) (m.Sign b) e = ap m.Sign (same_true sign_type tt a b e)
@@ -167,12 +161,6 @@ unfolding a_picture look skip pure
 picture_read_back ls y = refl
 
 -- ---- passing a mark takes a word
-
-pub expect_shorter : {A : Type 0} (k : Mark) (f : Unit {0} → Reading A)
-    → ((ws : List Plain) → length (f tt ws).1 ≤ length ws) → (ws : List Plain)
-    → length (bind (expect k) f (mark k ∷ ws)).1 ≤ length ws
-unfolding bind
-expect_shorter k f h ws = rw (expect_read_back k ws) (h ws)
 
 -- a text that begins with this mark has a word
 pub taken : (k : Mark) (ws : List Plain) → is k (first ws) ≡ true → 0 < length ws

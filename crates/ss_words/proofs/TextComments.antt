@@ -190,10 +190,6 @@ behind_blanks-yes b bs h = ap (λ (r : List ℕ). drop (length r) (b ∷ bs)) (t
 behind_blanks-no : (b : ℕ) (bs : List ℕ) → is_blank b ≡ false → behind_blanks (b ∷ bs) ≡ b ∷ bs
 behind_blanks-no b bs h = ap (λ (r : List ℕ). drop (length r) (b ∷ bs)) (take_while-no is_blank b bs h)
 
-is_blank-quote : is_blank 39 ≡ false
-unfolding is_blank
-is_blank-quote = refl
-
 is_blank-blank : is_blank 32 ≡ true
 unfolding is_blank
 is_blank-blank = refl

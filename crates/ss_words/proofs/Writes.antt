@@ -161,16 +161,3 @@ module _ {S : Type 0} (item : List S → Reading (Bool × List S)) where
   unfolding repeat_from bind
   noting_fails total acc ws r f e (zero, lt, so_far) = absurd (omega arith)
   noting_fails total acc ws r f e (suc k, lt, so_far) = so_far ∙ rw e refl
-
--- a part behind which nothing is read
-pub maps_writes : {A B C : Type 0} (words : ℕ) (out : B → C) (k : ℕ) (g : A → B) (h : A → C)
-    → ((a : A) → h a ≡ out (g a)) → (p : Reading A)
-    → Writes words out k (bind p (λ a. pure (g a))) (bind p (λ a. pure (h a)))
-unfolding bind pure
-maps_writes {A} words out k g h same p = record { at = λ ws e. put (p ws).0 (p ws).1 }
-  where
-    put : (o : Result A Refusal) (r : List Plain)
-        → goes_on (λ a. pure (h a)) o r
-        ≡ (on_ok out (goes_on (λ a. pure (g a)) o r).0, (goes_on (λ a. pure (g a)) o r).1)
-    put (Ok a) r = λ i. (Ok (same a i), r)
-    put (Err e) r = refl

@@ -1,5 +1,5 @@
 -- The reserved words: every spelling that no name may have, and the reserved word or sign that it means.
-use Rattle.std.specs.Prelude.{ℕ, List, [], ◌∷◌, map, Option, Some, None, if◌then◌else◌, bytes_eq}
+use Rattle.std.specs.Prelude.{ℕ, Bool, List, [], ◌∷◌, map, Option, Some, None, is_some, if◌then◌else◌, bytes_eq}
 use Rattle.ss_words.specs.declared.mark.Mark.{Mark}
 use Rattle.ss_words.specs.declared.spelling.TheConstants.{SPELLINGS}
 
@@ -15,3 +15,7 @@ mark_beside name (row ∷ rows) = if bytes_eq row.0 name then Some row.1 else ma
 -- what a name is reserved for, if it is
 unfoldable pub mark_of : List ℕ → Option Mark
 mark_of name = mark_beside name spellings
+
+-- a name is reserved
+abbrev pub is_reserved_name : List ℕ → Bool
+is_reserved_name name = is_some (mark_of name)

@@ -32,6 +32,7 @@ pub use refusal::Refusal;
 pub use reserved::Reserved;
 pub use scan::{without_stops, words};
 pub use several::Several;
+pub use spelling::is_reserved_name;
 pub use terms::{
     Comparison, Copula, Direction, MemberKept, OwnerKept, QualifierWord, Rank, SetEnd, Statistic,
     TermSign,

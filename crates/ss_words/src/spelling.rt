@@ -152,6 +152,13 @@ pub fn reserved(name: &[u8]) -> Option<Mark>
     mark_beside(name, &SPELLINGS)
 }
 
+/// Whether a name in upper case is reserved (docs/LANGUAGE.md, "Plain words").
+pub fn is_reserved_name(name: &[u8]) -> bool
+    ensures { result ≡ spec.is_reserved_name name.now }
+{
+    reserved(name).is_some()
+}
+
 fn mark_beside(name: &[u8], mut rows: &[(&[u8], Mark)]) -> Option<Mark>
     ensures { result ≡ spec.mark_beside name.now (map (λ row. (row.0.now, row.1)) rows.entry.now) }
 {

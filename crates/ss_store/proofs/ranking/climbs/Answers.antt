@@ -1,6 +1,6 @@
 use Rattle.std.proofs.Common.{arith}
 use Rattle.ss_store.proofs.SearchPlaces.{among_in, fewer_in}
-use Rattle.ss_store.proofs.Climbing.{walks_begin, walks_next, walks_before, walks_end, keys_rank}
+use Rattle.ss_store.proofs.Climbing.{walks_begin, walks_next, walks_before, keys_rank}
 use Rattle.ss_store.proofs.ranking.climbs.Goals as goal
 
 pub loop-at-init : goal.loop-at-init

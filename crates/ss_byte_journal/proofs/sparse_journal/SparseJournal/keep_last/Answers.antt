@@ -1,6 +1,6 @@
-use Rattle.std.proofs.Common.{◌≡◌, ◌++◌, ◌<◌, ◌≤◌, ◌-◌, All, take, drop, reverse, ap, sym, subst, ◌∙◌, arith}
+use Rattle.std.proofs.Common.{◌≡◌, ◌++◌, ◌<◌, ◌-◌, All, take, drop, reverse, ap, sym, subst, ◌∙◌, arith}
 use Rattle.ss_journal.specs.Log.{Log}
-use Rattle.ss_byte_journal.specs.Numbered.{changes_of_step, changes_before, steps_from, AreOrdered}
+use Rattle.ss_byte_journal.specs.Numbered.{changes_before, steps_from, AreOrdered}
 use Rattle.ss_byte_journal.proofs.Numbers.{all_reversed, all_later, ordered_without, of_step_without, before_without}
 use Rattle.ss_byte_journal.proofs.Numbers.{steps_without, kept_steps, parted}
 use Rattle.ss_byte_journal.proofs.sparse_journal.SparseJournal.keep_last.Given as given

@@ -1,5 +1,4 @@
-use Rattle.std.proofs.Common.{◌≡◌, ℕ, ◌-◌, suc, [], reverse, ap, ◌∙◌, arith}
-use Rattle.ss_journal.specs.Log.{Log}
+use Rattle.std.proofs.Common.{◌≡◌, [], reverse, ap, ◌∙◌, arith}
 use Rattle.ss_byte_journal.specs.Numbered.{changes_of_step}
 use Rattle.ss_byte_journal.proofs.Numbers.{opened_order, opened_steps}
 use Rattle.ss_byte_journal.proofs.sparse_journal.SparseJournal.reopen_last.Goals as goal

@@ -1,4 +1,4 @@
-use Rattle.std.proofs.Common.{◌≡◌, ◌≤◌, length, rules}
+use Rattle.std.proofs.Common.{◌≤◌, length, rules}
 use Rattle.ss_machine.proofs.Wells.{stands_in_bounds}
 use Rattle.ss_machine.proofs.machine.Machine.frames.Goals as goal
 

@@ -1,5 +1,5 @@
-use Rattle.std.proofs.Common.{◌≡◌, ◌<◌, ◌+◌, [], ◌∷◌, ◌++◌, ℕ, pos, Ok, Err, rules, sym, ap, w64, FitsSigned, to_z}
-use Rattle.std.proofs.Common.{of_z, arith, ◌∙◌}
+use Rattle.std.proofs.Common.{◌≡◌, ◌<◌, ◌+◌, [], ◌∷◌, ◌++◌, pos, Ok, Err, rules, sym, w64, FitsSigned, to_z}
+use Rattle.std.proofs.Common.{of_z, ◌∙◌}
 use Rattle.std.specs.List.{range_with_len}
 use Rattle.std.proofs.lemmas.Int.{to_z-of_z}
 use Rattle.std.proofs.lemmas.List.FromFn.{length-range_with_len}

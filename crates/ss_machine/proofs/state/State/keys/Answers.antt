@@ -1,6 +1,6 @@
-use Rattle.std.proofs.Common.{◌≡◌, ◌<◌, [], ◌∷◌, ◌++◌, ℕ, List, pos, length, Some, Ok, Err, rules, sym, ap, get_or, w64}
+use Rattle.std.proofs.Common.{◌≡◌, ◌<◌, [], ◌∷◌, ◌++◌, List, pos, length, Ok, Err, rules, sym, get_or, w64}
 use Rattle.std.proofs.Common.{FitsSigned, to_z, of_z, ◌∙◌}
-use Rattle.std.specs.Prelude.{map, slice_get}
+use Rattle.std.specs.Prelude.{map}
 use Rattle.std.proofs.lemmas.Int.{to_z-of_z}
 use Rattle.std.proofs.lemmas.Option.{slice_get-get_or}
 use Rattle.ss_words.specs.declared.fault.RunFault.{RunFault}

@@ -1,4 +1,4 @@
-use Rattle.std.proofs.Common.{◌≡◌, Some, None, rules, sym}
+use Rattle.std.proofs.Common.{◌≡◌, Some, None, rules}
 use Rattle.std.specs.Option.{option_map}
 use Rattle.ss_events.specs.Agenda.{pending_at, least}
 use Rattle.ss_events.specs.Slots.{slot_of}

@@ -1,4 +1,4 @@
-use Rattle.std.proofs.Common.{◌∙◌, sym}
+use Rattle.std.proofs.Common.{sym}
 use Rattle.std.proofs.lemmas.List.{take-map}
 use Rattle.ss_machine.specs.History.Numbers.{numbers_of}
 use Rattle.ss_machine.proofs.history.numbers.Numbers.keep_last.Goals as goal

@@ -1,5 +1,4 @@
-use Rattle.std.proofs.Common.{◌≡◌, ◌<◌, length, rules, ap}
-use Rattle.ss_program.specs.EventTable.{EventTable}
+use Rattle.std.proofs.Common.{◌≡◌, rules}
 use Rattle.ss_program.specs.Program.{event_of}
 use Rattle.ss_machine.proofs.Sounds.{event_there, given_few}
 use Rattle.ss_machine.proofs.statements.timing.simulating.event_section.Goals as goal
