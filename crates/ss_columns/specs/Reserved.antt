@@ -1,4 +1,4 @@
--- Names that are words of the language: the rows of the tables of src/reserved.rt.
+-- Names in tables, and which reserved words are dropped: the rows of the tables of src/reserved.rt.
 use Rattle.std.specs.Prelude.{ℕ, Bool, true, false, List, [], ◌∷◌, map, bytes_eq}
 use Rattle.ss_words.specs.Words.{Kind, name, number, sign, picture}
 use Rattle.ss_columns.specs.declared.reserved.TheConstants.{DROPPED, SCHEDULING}

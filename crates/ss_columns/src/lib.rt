@@ -1,5 +1,5 @@
 //! Where the words of a text stand: their numbers, and the columns at which they begin; and which
-//! names are reserved.
+//! reserved words are dropped.
 #![tactic(auto)]
 
 mod bytes;

@@ -1,4 +1,4 @@
-//! Which names are words of the language.
+//! Which words are dropped, and whether a name is in a table.
 ghost use Rattle.std.specs.Prelude.{◌≡◌, map};
 ghost use Rattle.ss_words.specs.Words.{kind_of};
 ghost use Rattle.ss_columns.specs.Reserved as spec;
