@@ -1,4 +1,4 @@
--- What a call of the agenda that takes effect says of the steps that are kept.
+-- What a scheduling that is refused leaves of the agenda.
 use Rattle.std.proofs.Common.{◌≡◌, Result, Ok, Err}
 use Rattle.ss_words.specs.declared.fault.RunFault.{RunFault}
 use Rattle.ss_words.specs.declared.fault.StepFault.{StepFault}

@@ -112,5 +112,3 @@ pub kind_is : (cs : List ClassShape) (c : ℕ) (b : Bool) →
 kind_is [] c b e = cc
 kind_is (s ∷ ss) zero b e = cc
 kind_is (s ∷ ss) (suc c) b e = kind_is ss c b e
-
--- ---- an assignment leaves the scope

@@ -206,8 +206,6 @@ all_made c m n heads seats old new k perm none rows eh et is low high =
     (with_made old.state c (replicate m (fresh c (class_of old.tables c)))) old new) (sym et)
     (class_leaves c m old new perm none (kept_none c old perm rows) k))))
 
--- ---- one
-
 -- ---- the loop
 
 pub makes_next : (c i : ℕ) (old now new : StoreValue) → (class_of old.tables c).permanent ≡ true → MakesAll c i old now
