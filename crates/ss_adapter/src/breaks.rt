@@ -1,5 +1,5 @@
 //! The break lines of a request.
-ghost use Rattle.std.specs.Prelude.{◌≡◌, ◌++◌, [], fold, map, position, bytes_eq, slice_get, Some, OnOk};
+ghost use Rattle.std.specs.Prelude.{◌≡◌, ◌++◌, [], fold, map, slice_get, Some, OnOk};
 ghost use Rattle.ss_debug.specs.View.{debugger_state_of};
 ghost use Rattle.ss_debug.specs.BreakLines.{breaks_after_set};
 ghost use Rattle.ss_debug.specs.Turn.{debugger_state_with};
@@ -53,15 +53,6 @@ pub fn next_line(program: &Program, from: u64) -> Option<u32>
     best
 }
 
-/// The number of the section of this name.
-fn find_section(sections: &[Section], name: &[u8]) -> Option<usize>
-    ensures { result ≡ position (λ s. bytes_eq name.now s.name) sections.now }
-{
-    sections
-        .iter()
-        .position(|section| name == section.name.bytes.as_slice())
-}
-
 /// The line of the first place of a section.
 fn first_place_line(section: &Section) -> Option<u32>
     ensures { result ≡ first_place_line (Some section.now) }
@@ -86,7 +77,7 @@ fn section_line(sections: &[Section], number: usize) -> Option<u32>
 fn named_line(program: &Program, name: &[u8]) -> Option<u32>
     ensures { result ≡ named_line program.now name.now }
 {
-    match find_section(&program.sections, name) {
+    match program.find_section(name) {
         None => None,
         Some(number) => section_line(&program.sections, number),
     }

@@ -6,7 +6,6 @@ ghost use Rattle.ss_adapter.specs.Completions.{targets_by, is_first, completions
 use crate::words::{before_word, last_word};
 use ss_messages::target_item;
 use ss_program::{Class, Name, Program, Set};
-use ss_scopes::locals_in;
 use std::alloc::{AllocError, Global};
 
 /// The words with which a line may begin.
@@ -125,7 +124,7 @@ fn push_program(
     push_names(alloc, out, typed, column, &program.globals)?;
     push_attributes(alloc, out, typed, column, &program.classes)?;
     push_sets(alloc, out, typed, column, &program.sets)?;
-    push_names(alloc, out, typed, column, locals_in(program, section))
+    push_names(alloc, out, typed, column, program.locals(section))
 }
 
 /// Whether no word stands before the last one of a text.

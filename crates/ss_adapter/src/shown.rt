@@ -6,7 +6,7 @@ ghost use Rattle.ss_adapter.specs.Watch.{set_asked_by, set_asked, owned_asked_by
 ghost use Rattle.ss_adapter.specs.Watch.{variable_asked, local_asked, run_asked, asked_text};
 
 use crate::words::last_word;
-use ss_debug::{class_name, find_set, push_number, set_name, set_owner};
+use ss_debug::{find_set, push_number};
 use ss_program::{Owner, Program};
 use ss_scopes::Group;
 use std::alloc::{AllocError, Global};
@@ -56,13 +56,12 @@ fn entity_asked_by(
     name: &[u8],
     set: Option<usize>,
 ) -> Result<Vec<u8>, AllocError>
-    requires { class < length program.now.classes }
     ensures { IfOk result (λ line. line.items
         ≡ entity_asked_by program.now class number name.now set) }
 {
     match set {
         Some(_) => list_asked(alloc, name, number),
-        None => attribute_asked(alloc, class_name(program, class), number, name),
+        None => attribute_asked(alloc, program.class_name(class), number, name),
     }
 }
 
@@ -100,7 +99,7 @@ fn set_asked(alloc: Global, program: &Program, name: &[u8]) -> Result<Vec<u8>, A
         ≡ set_asked program.now name.now (set_named program.now name.now)) }
 {
     match find_set(program, name) {
-        Some(set) => set_asked_by(alloc, name, set_owner(program, set)),
+        Some(set) => set_asked_by(alloc, name, program.set_owner(set)),
         None => Ok(Vec::new(alloc)),
     }
 }
@@ -138,7 +137,7 @@ fn owned_asked(
     if set >= program.sets.len() {
         return Ok(Vec::new(alloc));
     }
-    owned_asked_by(alloc, set_name(program, set), name, set_owner(program, set))
+    owned_asked_by(alloc, program.set_name(set), name, program.set_owner(set))
 }
 
 /// The question on the variable of this name.

@@ -1,17 +1,13 @@
 -- The pending notices, as a listing lists them.
-use Rattle.std.proofs.Common.{◌≡◌, ℕ, zero, suc, ◌+◌, List, [], ◌∷◌, ◌++◌, drop, refl, sym, ap, ◌∙◌, arith}
+use Rattle.std.proofs.Common.{◌≡◌, ℕ, suc, ◌+◌, List, [], ◌∷◌, ◌++◌, drop, sym, ap, ◌∙◌, arith}
 use Rattle.std.proofs.Common.{append_assoc, Option, Some, None, slice_get}
 use Rattle.std.specs.Option.{option_map}
 use Rattle.std.proofs.lemmas.List.{append-nil}
 use Rattle.ss_events.specs.Agenda.{Pending}
+use Rattle.ss_debug.proofs.Pendings.{dropped, dropped_none, none_of}
 use Rattle.ss_changes.specs.declared.part.Part.{Part}
 use Rattle.ss_changes.specs.declared.part.Part.TheVariants.{Notice}
 use Rattle.ss_changes.specs.Parts.{notices_of}
-
-dropped : (es : List Pending) (i : ℕ) (e : Pending) → slice_get es i ≡ Some e → drop i es ≡ e ∷ drop (suc i) es
-dropped [] i e h = absurd (cc)
-dropped (f ∷ es) zero e h = let same : f ≡ e = cc in rw same refl
-dropped (f ∷ es) (suc i) e h = dropped es i e h
 
 -- one notice more
 pub notice_more : (es : List Pending) (i j : ℕ) (e : Pending) (parts new all : List Part) → slice_get es i ≡ Some e →
@@ -21,16 +17,6 @@ notice_more es i j e parts new all h n k l =
     let next : j ≡ suc i = omega (arith, n) in
     rw (l, next)
     (append_assoc parts _ _ ∙ ap (λ (l : List Pending). parts ++ notices_of l) (sym (dropped es i e h)) ∙ k)
-
-dropped_none : (es : List Pending) (i : ℕ) → slice_get es i ≡ None → drop i es ≡ []
-dropped_none [] zero h = refl
-dropped_none [] (suc i) h = refl
-dropped_none (f ∷ es) zero h = absurd (cc)
-dropped_none (f ∷ es) (suc i) h = dropped_none es i h
-
-none_of : (o : Option Pending) → None ≡ option_map (λ (e : Pending). e.notice) o → o ≡ None
-none_of None h = refl
-none_of (Some e) h = absurd (cc)
 
 -- all notices, where the listing has ended
 pub all_notices : (es : List Pending) (i : ℕ) (parts all : List Part) →

@@ -9,7 +9,6 @@ ghost use Rattle.ss_changes.specs.Parts.{notices_of, notices_in};
 
 use crate::part::Part;
 use crate::reading::value_of;
-use crate::rows::{attribute_count, set_owner};
 use crate::value::is_there;
 use ss_inspect::living_numbers;
 use ss_links::SetBoard;
@@ -68,7 +67,7 @@ pub fn attributes_now<S: SetBoard>(
     ensures { IfOk result (λ parts. parts.items
         ≡ attribute_parts machine.now.input.program machine.now.state class) }
 {
-    let count = attribute_count(machine.program(), class);
+    let count = machine.program().attributes(class).len();
     let numbers = living_numbers(alloc, machine, class)?;
     let mut parts = Vec::new(alloc);
     for entity in &numbers {
@@ -137,7 +136,7 @@ pub fn lists_now<S: SetBoard>(
     ensures { IfOk result (λ parts. parts.items
         ≡ list_parts machine.now.input.program machine.now.state set) }
 {
-    let owners = owners(alloc, machine, set_owner(machine.program(), set))?;
+    let owners = owners(alloc, machine, machine.program().set_owner(set))?;
     let mut parts = Vec::new(alloc);
     for owner in &owners {
         parts.push(Part::List { set, owner: *owner })?;

@@ -11,12 +11,12 @@ ghost use Rattle.ss_changes.specs.Texts.{first_changes, all_changes};
 use crate::change::Change;
 use crate::limits::{MOST_COLUMNS, MOST_LISTED, MOST_TOLD};
 use crate::part::Part;
-use crate::rows::{attribute_names, class_name, local_names, name_at, set_name, set_owner};
+use crate::rows::local_names;
 use crate::value::{Members, PartValue};
 use ss_debug::{push_integer, push_number};
 use ss_links::SetBoard;
 use ss_machine::{Entry, Machine};
-use ss_program::{Owner, Program};
+use ss_program::{Owner, Program, name_at};
 use std::alloc::{AllocError, Global};
 
 /// Appends a class and a number.
@@ -29,7 +29,7 @@ fn push_entity_name(
     ensures { OnOk result (text.new.items ≡ text.old.items
         ++ entity_name program.now class number) }
 {
-    text.extend_from_slice(class_name(program, class))?;
+    text.extend_from_slice(program.class_name(class))?;
     text.extend_from_slice(b" ")?;
     push_number(text, u64::from(number))
 }
@@ -48,7 +48,7 @@ fn push_attribute_name(
 {
     push_entity_name(text, program, class, entity)?;
     text.extend_from_slice(b" ")?;
-    text.extend_from_slice(name_at(attribute_names(program, class), attribute))
+    text.extend_from_slice(name_at(program.attributes(class), attribute))
 }
 
 /// Appends a set's name, and the number of an owner that is not the system.
@@ -61,8 +61,8 @@ fn push_list_name(
     ensures { OnOk result (text.new.items ≡ text.old.items
         ++ list_name program.now set owner (set_of program.now set).owner) }
 {
-    text.extend_from_slice(set_name(program, set))?;
-    if let Owner::System = set_owner(program, set) {
+    text.extend_from_slice(program.set_name(set))?;
+    if let Owner::System = program.set_owner(set) {
         return Ok(());
     }
     text.extend_from_slice(b" ")?;

@@ -1,7 +1,6 @@
 pub mod Arguments
 mod Attributes
 pub mod Conflicts
-pub mod CountMaps
 pub mod FactTables
 pub mod Runs
 pub mod DeclaredPrefixes

@@ -13,7 +13,6 @@ pub mod PlaceRules
 pub mod Breach
 pub mod Examples
 pub mod UseView
-pub mod CountMap
 pub mod Increments
 pub mod Sorts
 pub mod ResolvedNames

@@ -5,7 +5,6 @@ pub mod fact_table;
 pub mod function;
 pub mod item_names;
 pub mod kind_table;
-pub mod name_counts;
 pub mod name_kind;
 pub mod name_list;
 pub mod name_tables;

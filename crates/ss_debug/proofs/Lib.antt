@@ -8,6 +8,5 @@ pub mod Pendings
 pub mod Tables
 pub mod Walks
 pub mod Starts
-pub mod Entries
 pub mod Forgets
 pub mod Classes

@@ -6,17 +6,14 @@ use Rattle.std.specs.Option.{option_map}
 use Rattle.std.specs.Ordering.{is_lt}
 use Rattle.std.proofs.lemmas.Bool.Decides.{nat_tests}
 use Rattle.std.proofs.lemmas.List.{append-nil, append_assoc}
-use Rattle.std.proofs.lemmas.List.FromFn.{length-map-range_with_len}
 use Rattle.ss_program.specs.Program.{ProgramTable}
-use Rattle.ss_events.specs.Rules.{Rule, program_rule, rules_of}
+use Rattle.ss_events.specs.Rules.{Rule, rules_of}
 use Rattle.ss_events.specs.Agenda.{Pending, Agenda, pending_at, by_time, least_of, first_notices, in_order}
 use Rattle.ss_events.specs.declared.agenda.Slot.{Slot}
 use Rattle.ss_events.specs.Slots.{slot_of}
 use Rattle.ss_events.specs.State.{Each}
 use Rattle.ss_events.specs.WellAgenda.{IsRising, IsWellAgenda}
-use Rattle.ss_events.specs.State.{IsWellNotice}
 use Rattle.ss_events.proofs.OrderLaws.{Each-without, Each-map}
-use Rattle.ss_events.proofs.EventLaws.{event-below}
 use Rattle.ss_store.proofs.Core.{some_eq}
 use Rattle.ss_machine.specs.State.{State}
 use Rattle.ss_machine.specs.Run.{Input, run}
@@ -75,19 +72,18 @@ found n (e ∷ es) h =
     both (f ∷ fs) gs a b = (past_one e f gs b.0 a.0, both fs gs a.1 b.1)
 
 -- a notice that a listing has listed
-pub record IsListed (p : ProgramTable) (a : Agenda) (es : List Pending) (i k : ℕ) : Type 0 where
+pub record IsListed (a : Agenda) (es : List Pending) (i k : ℕ) : Type 0 where
   pub entry : Pending
   pub at : slice_get es i ≡ Some entry
   pub notice : k ≡ entry.notice
   pub number : 0 < k
   pub pending : pending_at a.pending k ≡ Some entry
-  pub class : entry.class < length p.classes
 
-known_of : (p : ProgramTable) (rules : List Rule) (a : Agenda) (i notice : ℕ) (o : Option Pending) →
-    rules ≡ rules_of p → IsWellAgenda rules a → slice_get (in_order rules a) i ≡ o →
-    Some notice ≡ option_map (λ e. e.notice) o → IsListed p a (in_order rules a) i notice
-known_of p rules a i notice None r w k e = absurd (cc)
-known_of p rules a i notice (Some x) r w k e =
+known_of : (rules : List Rule) (a : Agenda) (i notice : ℕ) (o : Option Pending) → IsWellAgenda rules a →
+    slice_get (in_order rules a) i ≡ o → Some notice ≡ option_map (λ e. e.notice) o →
+    IsListed a (in_order rules a) i notice
+known_of rules a i notice None w k e = absurd (cc)
+known_of rules a i notice (Some x) w k e =
     let same : notice ≡ x.notice = cc in
     let number =
     each_at (λ f. 0 < f.notice) _ i x
@@ -96,27 +92,19 @@ known_of p rules a i notice (Some x) r w k e =
     let here =
     each_at (λ f. pending_at a.pending f.notice ≡ Some f) _ i x
     (each_first _ rules (length a.pending) a.pending (found 0 a.pending w.references)) k in
-    let well =
-    each_at (IsWellNotice rules a.next_filing) _ i x
-    (each_first _ rules (length a.pending) a.pending w.notices) k in
-    let below = event-below rules x.class well.class in
-    let count : length rules ≡ length p.classes =
-    rw r (length-map-range_with_len (program_rule p) 0 (length p.classes)) in
     record {
       entry = x;
       at = k;
       notice = same;
       number = rw same number;
       pending = rw same here;
-      class = omega (arith, below, count);
     }
 
 -- what is known of the notice that a listing lists
-pub listed : (p : ProgramTable) (rules : List Rule) (a : Agenda) (i notice : ℕ) → rules ≡ rules_of p →
-    IsWellAgenda rules a →
+pub listed : (rules : List Rule) (a : Agenda) (i notice : ℕ) → IsWellAgenda rules a →
     Some notice ≡ option_map (λ e. e.notice) (slice_get (in_order rules a) i) →
-    IsListed p a (in_order rules a) i notice
-listed p rules a i notice r w e = known_of p rules a i notice _ r w refl e
+    IsListed a (in_order rules a) i notice
+listed rules a i notice w e = known_of rules a i notice _ w refl e
 
 -- when it is due, and of which class it is
 pub slot_is : (o : Option Slot) (q : Option Pending) (e : Pending) (slot : Slot) → o ≡ option_map slot_of q →
@@ -125,7 +113,8 @@ slot_is o q e slot a b d = sym (some_eq (ap (option_map slot_of) (sym b) ∙ sym
 
 -- ---- the lines
 
-dropped : (es : List Pending) (i : ℕ) (e : Pending) → slice_get es i ≡ Some e → drop i es ≡ e ∷ drop (suc i) es
+-- the notices from one on are that one and those behind it
+pub dropped : (es : List Pending) (i : ℕ) (e : Pending) → slice_get es i ≡ Some e → drop i es ≡ e ∷ drop (suc i) es
 dropped [] i e h = absurd (cc)
 dropped (f ∷ es) zero e h = let same : f ≡ e = cc in rw same refl
 dropped (f ∷ es) (suc i) e h = dropped es i e h
@@ -140,13 +129,15 @@ line_more p es i j e text new all h n k l =
     rw (l, next)
     (append_assoc text _ _ ∙ ap (λ (l : List Pending). text ++ notice_lines p l) (sym (dropped es i e h)) ∙ k)
 
-dropped_none : (es : List Pending) (i : ℕ) → slice_get es i ≡ None → drop i es ≡ []
+-- behind the last there are none
+pub dropped_none : (es : List Pending) (i : ℕ) → slice_get es i ≡ None → drop i es ≡ []
 dropped_none [] zero h = refl
 dropped_none [] (suc i) h = refl
 dropped_none (f ∷ es) zero h = absurd (cc)
 dropped_none (f ∷ es) (suc i) h = dropped_none es i h
 
-none_of : (o : Option Pending) → None ≡ option_map (λ (e : Pending). e.notice) o → o ≡ None
+-- no notice is that of no entry
+pub none_of : (o : Option Pending) → None ≡ option_map (λ (e : Pending). e.notice) o → o ≡ None
 none_of None h = refl
 none_of (Some e) h = absurd (cc)
 

@@ -10,13 +10,11 @@ ghost use Rattle.ss_debug.specs.Entities.{member_lines, owned_set_lines, joined_
 ghost use Rattle.ss_debug.specs.Entities.{no_entity_text, entity_text};
 
 use crate::name::Name;
-use crate::program_rows::{
-    attribute_count, attribute_name, find_class, member_class, set_name, set_owner,
-};
+use crate::program_rows::find_class;
 use crate::text::{push_integer, push_number};
 use ss_links::SetBoard;
 use ss_machine::Machine;
-use ss_program::Owner;
+use ss_program::{Owner, name_at};
 use ss_store::Store;
 use ss_words::RunFault;
 use std::alloc::{AllocError, Global};
@@ -47,14 +45,12 @@ fn push_attribute<S: SetBoard>(
     attribute: usize,
     x: i64,
 ) -> Result<(), AllocError>
-    requires class { class < length machine.now.input.program.classes }
-    requires attribute { attribute < length (class_of machine.now.input.program class).attributes }
     ensures ok { OnOk result (text.new.items ≡ text.old.items
         ++ attribute_line machine.now.input.program machine.now.state.store class
         (number_of x) attribute) }
 {
     let value = machine.store().get(class, attribute, x).unwrap_or(0);
-    text.extend_from_slice(attribute_name(machine.program(), class, attribute))?;
+    text.extend_from_slice(name_at(machine.program().attributes(class), attribute))?;
     text.extend_from_slice(b" = ")?;
     push_integer(text, value)?;
     text.extend_from_slice(b"\n")
@@ -67,13 +63,12 @@ fn push_attributes<S: SetBoard>(
     class: usize,
     x: i64,
 ) -> Result<(), AllocError>
-    requires { class < length machine.now.input.program.classes }
     ensures ok { OnOk result (text.new.items ≡ text.old.items
         ++ lines_below (attribute_line machine.now.input.program machine.now.state.store class
         (number_of x))
         (length (class_of machine.now.input.program class).attributes)) }
 {
-    for attribute in 0..attribute_count(machine.program(), class) {
+    for attribute in 0..machine.program().attributes(class).len() {
         push_attribute(text, machine, class, attribute, x)?;
     }
     Ok(())
@@ -139,8 +134,8 @@ fn push_owned_set<S: SetBoard>(
         (number_of x) set) }
 {
     let program = machine.program();
-    if is_owned_by(set_owner(program, set), class) {
-        push_owner_lines(text, set_name(program, set), machine.store(), set, x)?;
+    if is_owned_by(program.set_owner(set), class) {
+        push_owner_lines(text, program.set_name(set), machine.store(), set, x)?;
     }
     Ok(())
 }
@@ -160,8 +155,8 @@ fn push_joined_set<S: SetBoard>(
         (number_of x) set) }
 {
     let program = machine.program();
-    if member_class(program, set) == class {
-        push_member_lines(text, set_name(program, set), machine.store(), set, x)?;
+    if program.member_class(set) == class {
+        push_member_lines(text, program.set_name(set), machine.store(), set, x)?;
     }
     Ok(())
 }
@@ -209,7 +204,6 @@ pub fn push_entity<S: SetBoard>(
     class: usize,
     x: i64,
 ) -> Result<(), AllocError>
-    requires { class < length machine.now.input.program.classes }
     ensures ok { OnOk result (text.new.items ≡ text.old.items
         ++ entity_lines machine.now.input.program machine.now.state.store class (number_of x)) }
 {

@@ -1,10 +1,9 @@
 //! The answer to SHOW ENTRY.
-ghost use Rattle.std.specs.Prelude.{◌≡◌, ◌++◌, ◌<◌, codes, decimal, length, IfOk};
+ghost use Rattle.std.specs.Prelude.{◌≡◌, ◌++◌, codes, decimal, IfOk};
 ghost use Rattle.ss_program.specs.Program.{class_of};
 ghost use Rattle.ss_machine.specs.Moment.{position};
 ghost use Rattle.ss_debug.specs.Answer.{entry_text};
 
-use crate::program_rows::class_name;
 use crate::text::push_number;
 use ss_links::SetBoard;
 use ss_machine::{Entry, Machine};
@@ -19,12 +18,11 @@ fn entry_line(
     notice: u32,
     what: &[u8],
 ) -> Result<Vec<u8>, AllocError>
-    requires { class < length program.now.classes }
     ensures { IfOk result (λ text. text.items ≡ codes "ENTRY " ++ (class_of program.now class).name
         ++ codes " " ++ decimal notice ++ what.now) }
 {
     let mut text = Vec::from_slice(alloc, b"ENTRY ")?;
-    text.extend_from_slice(class_name(program, class))?;
+    text.extend_from_slice(program.class_name(class))?;
     text.extend_from_slice(b" ")?;
     push_number(&mut text, u64::from(notice))?;
     text.extend_from_slice(what)?;
@@ -32,7 +30,7 @@ fn entry_line(
 }
 
 /// The entry of an external event, and whether it waits or runs, or `ENTRY NONE`.
-#[tactic(auto, unfolding(crate::specs::Answer::entry_text), using(crate::proofs::Entries::class_of_entry))]
+#[tactic(auto, unfolding(crate::specs::Answer::entry_text))]
 pub fn entry_text<S: SetBoard>(alloc: Global, machine: &Machine<S>) -> Result<Vec<u8>, AllocError>
     ensures { IfOk result (λ text. text.items
         ≡ entry_text machine.now.input (position machine.now)) }

@@ -1,9 +1,8 @@
 //! The answer to SHOW EVENTS.
-ghost use Rattle.std.specs.Prelude.{◌≡◌, ◌++◌, ◌<◌, length, OnOk, IfOk};
+ghost use Rattle.std.specs.Prelude.{◌≡◌, ◌++◌, OnOk, IfOk};
 ghost use Rattle.ss_machine.specs.Moment.{position};
 ghost use Rattle.ss_debug.specs.Answer.{notice_line, events_text};
 
-use crate::program_rows::class_name;
 use crate::text::{push_integer, push_number};
 use ss_events::Slot;
 use ss_links::SetBoard;
@@ -18,11 +17,10 @@ pub fn push_notice(
     notice: u32,
     slot: Slot,
 ) -> Result<(), AllocError>
-    requires { slot.class < length program.now.classes }
-    ensures ok { OnOk result (text.new.items ≡ text.old.items
+    ensures { OnOk result (text.new.items ≡ text.old.items
         ++ notice_line program.now notice slot) }
 {
-    text.extend_from_slice(class_name(program, slot.class))?;
+    text.extend_from_slice(program.class_name(slot.class))?;
     text.extend_from_slice(b" ")?;
     push_number(text, u64::from(notice))?;
     text.extend_from_slice(b" AT ")?;

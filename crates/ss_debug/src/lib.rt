@@ -31,7 +31,7 @@ pub use laws::{
 pub use limits::{GREATEST_BOUND, GREATEST_LINE};
 pub use name::Name;
 pub use pieces::split_line;
-pub use program_rows::{class_name, find_class, find_set, member_class, set_name, set_owner};
+pub use program_rows::{find_class, find_set, place_line};
 pub use read::command;
 pub use set_text::{class_value, member_behind, push_listed};
 pub use text::{find_variable, push_integer, push_number};

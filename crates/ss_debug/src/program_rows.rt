@@ -1,9 +1,10 @@
-//! Rows of a program's tables by their names, and the names of rows.
-ghost use Rattle.std.specs.Prelude.{◌≡◌, ◌<◌, [], length, IfSome, slice_index_or};
-ghost use Rattle.ss_program.specs.Program.{class_of, set_of};
+//! Rows of a program's tables by their names, and the line of a place.
+ghost use Rattle.std.specs.Prelude.{◌≡◌, ◌<◌, length, IfSome};
+ghost use Rattle.ss_program.specs.Program.{spot_at};
 ghost use Rattle.ss_debug.specs.Entities.{class_named, set_named};
+ghost use Rattle.ss_debug.specs.Move.{spot_line};
 
-use ss_program::{Owner, Program};
+use ss_program::Program;
 
 /// The class of this name.
 #[tactic(auto, using(crate::proofs::Tables::class_within))]
@@ -25,66 +26,12 @@ pub fn find_set(program: &Program, name: &[u8]) -> Option<usize>
     Some(set as usize)
 }
 
-/// The name of the class with this number.
-#[tactic(auto, using(crate::proofs::Tables::row_at))]
-pub fn class_name(program: &Program, class: usize) -> &[u8]
-    requires { class < length program.now.classes }
-    ensures { result.now ≡ (class_of program.now class).name }
+/// The line of a place, 0 where there is none.
+pub fn place_line(program: &Program, section: usize, place: usize) -> usize
+    ensures { result ≡ spot_line (spot_at program.now section place) }
 {
-    &program.classes[class].name.bytes
-}
-
-/// The number of the variable of the class with this number.
-#[tactic(auto, using(crate::proofs::Tables::row_at))]
-pub fn class_variable(program: &Program, class: usize) -> usize
-    requires { class < length program.now.classes }
-    ensures { result ≡ (class_of program.now class).variable }
-{
-    program.classes[class].variable
-}
-
-/// The name of the set with this number.
-#[tactic(auto, using(crate::proofs::Tables::row_at))]
-pub fn set_name(program: &Program, set: usize) -> &[u8]
-    requires { set < length program.now.sets }
-    ensures { result.now ≡ (set_of program.now set).name }
-{
-    &program.sets[set].name.bytes
-}
-
-/// How many attributes the class with this number has.
-#[tactic(auto, using(crate::proofs::Tables::row_at))]
-pub fn attribute_count(program: &Program, class: usize) -> usize
-    requires { class < length program.now.classes }
-    ensures { result ≡ length (class_of program.now class).attributes }
-{
-    program.classes[class].attributes.len()
-}
-
-/// The name of an attribute of a class, by its number in the class.
-#[tactic(auto, using(crate::proofs::Tables::row_at))]
-pub fn attribute_name(program: &Program, class: usize, attribute: usize) -> &[u8]
-    requires class { class < length program.now.classes }
-    requires attribute { attribute < length (class_of program.now class).attributes }
-    ensures { result.now ≡ slice_index_or (class_of program.now class).attributes attribute [] }
-{
-    &program.classes[class].attributes[attribute].bytes
-}
-
-/// Whose the lists of the set with this number are.
-#[tactic(auto, using(crate::proofs::Tables::row_at))]
-pub fn set_owner(program: &Program, set: usize) -> Owner
-    requires { set < length program.now.sets }
-    ensures { result ≡ (set_of program.now set).owner }
-{
-    program.sets[set].owner
-}
-
-/// The class of the members of the set with this number.
-#[tactic(auto, using(crate::proofs::Tables::row_at))]
-pub fn member_class(program: &Program, set: usize) -> usize
-    requires { set < length program.now.sets }
-    ensures { result ≡ (set_of program.now set).member }
-{
-    program.sets[set].member
+    match program.spot_at(section, place) {
+        None => 0,
+        Some(spot) => spot.line,
+    }
 }

@@ -11,7 +11,7 @@ ghost use Rattle.ss_debug.specs.Entities.{owned_list_text, list_text, owner_or_v
 
 use crate::entity_text::no_entity_text;
 use crate::name::Name;
-use crate::program_rows::{class_name, class_variable, find_set, set_owner};
+use crate::program_rows::find_set;
 use crate::text::{push_integer, push_number};
 use ss_links::SetBoard;
 use ss_machine::Machine;
@@ -109,14 +109,13 @@ fn owned_list_text<S: SetBoard>(
     class: usize,
     owner: i64,
 ) -> Result<Vec<u8>, AllocError>
-    requires set { set < length machine.now.input.program.sets }
-    requires class { class < length machine.now.input.program.classes }
+    requires { set < length machine.now.input.program.sets }
     ensures { IfOk result (λ text. text.items
         ≡ owned_list_text name.now machine.now.input.program machine.now.state.store set class
         owner) }
 {
     if !machine.store().exists(class, owner) {
-        return no_entity_text(alloc, class_name(machine.program(), class), owner);
+        return no_entity_text(alloc, machine.program().class_name(class), owner);
     }
     let mut text = Vec::from_slice(alloc, name)?;
     text.extend_from_slice(b" ")?;
@@ -134,7 +133,7 @@ pub fn class_value<S: SetBoard>(machine: &Machine<S>, class: usize) -> i64
     machine.known();
     let program = machine.program();
     program.known();
-    machine.variable(Variable::Global(class_variable(program, class)))
+    machine.variable(Variable::Global(program.class_variable(class)))
 }
 
 /// The list of a set of the system, which has no owner's number.
@@ -178,7 +177,7 @@ pub fn set_text<S: SetBoard>(
         text.extend_from_slice(b"\n")?;
         return Ok(text);
     };
-    match set_owner(program, set) {
+    match program.set_owner(set) {
         Owner::System => system_list_text(alloc, name, machine, set, owner),
         Owner::OwnedBy(class) => {
             let x = owner.unwrap_or(class_value(machine, class));

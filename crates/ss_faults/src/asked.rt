@@ -5,7 +5,7 @@ ghost use Rattle.ss_faults.specs.Asked as spec;
 
 use crate::missing::place_told;
 use crate::reading::index_told;
-use crate::texts::{class_name, push_integer, set_name, set_owner};
+use crate::texts::push_integer;
 use crate::told::Told;
 use ss_links::SetBoard;
 use ss_machine::{Machine, Status};
@@ -26,7 +26,7 @@ fn push_entity_asked(
     if number < 1 {
         return Ok(());
     }
-    text.extend_from_slice(class_name(program, class))?;
+    text.extend_from_slice(program.class_name(class))?;
     text.extend_from_slice(b" ")?;
     push_integer(text, number)
 }
@@ -55,8 +55,8 @@ fn push_list_asked(
         ≡ text.old.items ++ spec.list_asked program.now set owner) }
 {
     text.extend_from_slice(b"SET ")?;
-    text.extend_from_slice(set_name(program, set))?;
-    push_owner_asked(text, set_owner(program, set), owner)
+    text.extend_from_slice(program.set_name(set))?;
+    push_owner_asked(text, program.set_owner(set), owner)
 }
 
 /// Appends what is asked of an entity that is missing.
@@ -135,14 +135,9 @@ fn push_asked_here<S: SetBoard>(
         machine.now.state.frame.place)) }
 {
     let (section, place) = machine.place();
-    match machine.program().sections.get(section) {
+    match machine.program().spot_at(section, place) {
         None => Ok(()),
-        Some(section) => {
-            match section.places.get(place) {
-                None => Ok(()),
-                Some(spot) => push_fault_asked(text, machine, fault, &spot.place),
-            }
-        }
+        Some(spot) => push_fault_asked(text, machine, fault, &spot.place),
     }
 }
 

@@ -5,7 +5,6 @@ ghost use Rattle.ss_faults.specs.Missing as spec;
 ghost use Rattle.ss_faults.specs.Readings.{both};
 
 use crate::reading::{attribute_told, entity_told, expression_told, index_told, owner_told};
-use crate::texts::member_class;
 use crate::told::Told;
 use ss_links::SetBoard;
 use ss_machine::Machine;
@@ -133,7 +132,7 @@ fn filed_told<S: SetBoard>(
         between list.now }
 {
     let values = expression_told(machine, member).and(between);
-    let class = member_class(machine.program(), list.set);
+    let class = machine.program().member_class(list.set);
     values
         .and(list_told(machine, list))
         .and(named_told(machine, class, member))
@@ -150,7 +149,7 @@ fn filing_told<S: SetBoard>(machine: &Machine<S>, filing: &Filing) -> Told
             set,
         } => {
             let between = position_told(machine, position);
-            let class = member_class(machine.program(), set.set);
+            let class = machine.program().member_class(set.set);
             filed_told(machine, member, between, set).and(placed_told(machine, class, position))
         }
         Filing::FileAt { member, set, .. } => filed_told(machine, member, Told::Untold, set),

@@ -4,7 +4,7 @@ ghost use Rattle.ss_faults.specs.About as spec;
 ghost use Rattle.ss_faults.specs.Texts.{if_told, label_and_value};
 
 use crate::reading::{expression_told, index_told};
-use crate::texts::{member_class, push_entity, push_list, push_valued};
+use crate::texts::{push_entity, push_list, push_valued};
 use crate::told::Told;
 use ss_links::SetBoard;
 use ss_machine::Machine;
@@ -63,7 +63,7 @@ pub fn push_member_of<S: SetBoard>(
     ensures { OnOk result (text.new.items ≡ text.old.items
         ++ spec.member_of machine.now.input.program machine.now.state member.now list.now) }
 {
-    let class = member_class(machine.program(), list.set);
+    let class = machine.program().member_class(list.set);
     push_entity_of(text, machine, class, member)
 }
 

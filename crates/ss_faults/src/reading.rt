@@ -5,7 +5,6 @@ ghost use Rattle.ss_values.specs.Values.{result_in_range};
 ghost use Rattle.ss_machine.specs.Readings.{variable_in};
 ghost use Rattle.ss_faults.specs.Readings as spec;
 
-use crate::texts::{member_class, set_owner};
 use crate::told::Told;
 use ss_links::SetBoard;
 use ss_machine::Machine;
@@ -91,7 +90,7 @@ pub fn owner_told<S: SetBoard>(
     if set >= machine.program().sets.len() {
         return Told::Unclear;
     }
-    let missing = owner_missing(set_owner(machine.program(), set), owner);
+    let missing = owner_missing(machine.program().set_owner(set), owner);
     match kept {
         OwnerKept::First => member_read(missing, machine.store().walk_first(set, owner)),
         OwnerKept::Last => member_read(missing, machine.store().walk_last(set, owner)),
@@ -113,7 +112,7 @@ fn member_told<S: SetBoard>(machine: &Machine<S>, kept: MemberKept, set: usize, 
     if set >= machine.program().sets.len() {
         return Told::Unclear;
     }
-    let class = member_class(machine.program(), set);
+    let class = machine.program().member_class(set);
     let missing = Told::Missing {
         class,
         number: member,

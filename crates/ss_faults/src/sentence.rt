@@ -29,14 +29,9 @@ fn push_about_here<S: SetBoard>(
         machine.now.state.frame.place)) }
 {
     let (section, place) = machine.place();
-    match machine.program().sections.get(section) {
+    match machine.program().spot_at(section, place) {
         None => Ok(()),
-        Some(section) => {
-            match section.places.get(place) {
-                None => Ok(()),
-                Some(spot) => push_about(text, machine, fault, &spot.place),
-            }
-        }
+        Some(spot) => push_about(text, machine, fault, &spot.place),
     }
 }
 

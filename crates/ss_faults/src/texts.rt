@@ -1,7 +1,6 @@
 //! How the parts that a fault is about are told.
 ghost use Rattle.std.specs.Prelude.{◌≡◌, ◌++◌, decimal, OnOk};
 ghost use Rattle.std.specs.Fmt.{signed_decimal};
-ghost use Rattle.ss_program.specs.Program.{class_of, section_of, set_of};
 ghost use Rattle.ss_faults.specs.Texts as spec;
 
 use crate::told::Told;
@@ -69,46 +68,6 @@ pub fn push_counted(text: &mut Vec<u8>, label: &[u8], count: u64) -> Result<(), 
     text.extend_from_slice(b".")
 }
 
-/// The name of the class with this number, an empty one where there is none.
-pub fn class_name(program: &Program, class: usize) -> &[u8]
-    ensures { result.now ≡ (class_of program.now class).name }
-{
-    match program.classes.get(class) {
-        None => b"",
-        Some(class) => &class.name.bytes,
-    }
-}
-
-/// The name of the set with this number, an empty one where there is none.
-pub fn set_name(program: &Program, set: usize) -> &[u8]
-    ensures { result.now ≡ (set_of program.now set).name }
-{
-    match program.sets.get(set) {
-        None => b"",
-        Some(set) => &set.name.bytes,
-    }
-}
-
-/// Whose the lists of the set with this number are, the system's where there is none.
-pub fn set_owner(program: &Program, set: usize) -> Owner
-    ensures { result ≡ (set_of program.now set).owner }
-{
-    match program.sets.get(set) {
-        None => Owner::System,
-        Some(set) => set.owner,
-    }
-}
-
-/// The class of the members of the set with this number, 0 where there is none.
-pub fn member_class(program: &Program, set: usize) -> usize
-    ensures { result ≡ (set_of program.now set).member }
-{
-    match program.sets.get(set) {
-        None => 0,
-        Some(set) => set.member,
-    }
-}
-
 /// Appends an entity.
 pub fn push_entity(
     text: &mut Vec<u8>,
@@ -119,7 +78,7 @@ pub fn push_entity(
     ensures { OnOk result (text.new.items
         ≡ text.old.items ++ spec.entity_text program.now class number) }
 {
-    push_numbered(text, b" Entity: ", class_name(program, class), number)
+    push_numbered(text, b" Entity: ", program.class_name(class), number)
 }
 
 /// Appends the list of a set for this owner.
@@ -132,8 +91,8 @@ pub fn push_list(
     ensures { OnOk result (text.new.items
         ≡ text.old.items ++ spec.list_text program.now set owner) }
 {
-    let name = set_name(program, set);
-    match set_owner(program, set) {
+    let name = program.set_name(set);
+    match program.set_owner(set) {
         Owner::System => push_named(text, b" List: ", name),
         Owner::OwnedBy(_) => push_numbered(text, b" List: ", name, owner),
     }
@@ -143,14 +102,14 @@ pub fn push_list(
 pub fn push_class(text: &mut Vec<u8>, program: &Program, class: usize) -> Result<(), AllocError>
     ensures { OnOk result (text.new.items ≡ text.old.items ++ spec.class_text program.now class) }
 {
-    push_named(text, b" Class: ", class_name(program, class))
+    push_named(text, b" Class: ", program.class_name(class))
 }
 
 /// Appends a set.
 pub fn push_set(text: &mut Vec<u8>, program: &Program, set: usize) -> Result<(), AllocError>
     ensures { OnOk result (text.new.items ≡ text.old.items ++ spec.set_text program.now set) }
 {
-    push_named(text, b" Set: ", set_name(program, set))
+    push_named(text, b" Set: ", program.set_name(set))
 }
 
 /// Appends a section.
@@ -158,10 +117,7 @@ pub fn push_section(text: &mut Vec<u8>, program: &Program, section: usize) -> Re
     ensures { OnOk result (text.new.items
         ≡ text.old.items ++ spec.section_text program.now section) }
 {
-    match program.sections.get(section) {
-        None => push_named(text, b" Section: ", b""),
-        Some(section) => push_named(text, b" Section: ", &section.name.bytes),
-    }
+    push_named(text, b" Section: ", program.section_name(section))
 }
 
 /// Appends that no entity has this number, where that is plain.

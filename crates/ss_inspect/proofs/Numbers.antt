@@ -1,8 +1,7 @@
 -- The numbers of entities.
-use Rattle.std.proofs.Common.{◌≡◌, ℕ, suc, ◌≤◌, false, true, List, [], ◌∷◌, ◌++◌, max, length, refl, arith, slice_get}
+use Rattle.std.proofs.Common.{◌≡◌, ℕ, suc, ◌≤◌, false, [], refl, arith, slice_get}
 use Rattle.std.proofs.Common.{None}
 use Rattle.std.proofs.lemmas.Option.{slice_get_past}
-use Rattle.ss_links.specs.Seats.{has}
 use Rattle.ss_debug.specs.Entities.{lines_below}
 use Rattle.ss_store.specs.Store.{Store, made_of, exists, greatest_number}
 use Rattle.ss_inspect.specs.Living.{living_at, living_numbers}

@@ -1,14 +1,13 @@
 -- What the store keeps of a set is what the program says of it.
-use Rattle.std.proofs.Common.{◌≡◌, ℕ, zero, suc, ◌+◌, ◌<◌, ◌≤◌, false, true, List, [], ◌∷◌, map, length, refl, ap, ◌∙◌}
+use Rattle.std.proofs.Common.{◌≡◌, ℕ, zero, suc, ◌+◌, ◌<◌, ◌≤◌, false, [], map, length, refl, ap, ◌∙◌}
 use Rattle.std.proofs.Common.{arith}
-use Rattle.std.proofs.Common.{slice_get, unwrap_or, Option, Some, None, eqb, cond}
-use Rattle.std.specs.Prelude.{is_some, option_map}
+use Rattle.std.proofs.Common.{slice_get, unwrap_or, Option, Some, None}
+use Rattle.std.specs.Prelude.{is_some}
 use Rattle.std.specs.List.{range_with_len}
-use Rattle.ss_links.specs.Seats.{has}
 use Rattle.ss_program.specs.declared.kinds.Owner.TheVariants.{OwnedBy}
 use Rattle.ss_program.specs.Program.{ProgramTable, set_of}
-use Rattle.ss_store.specs.Tables.{set_shape, tables_of, no_set}
-use Rattle.ss_store.specs.Store.{Store, Entity, entity, exists, members_of, members_by, list_number}
+use Rattle.ss_store.specs.Tables.{set_shape, no_set}
+use Rattle.ss_store.specs.Store.{Store, Entity, entity, members_of}
 use Rattle.ss_store.specs.Store.{greatest_number}
 use Rattle.ss_debug.specs.Entities.{shape_of, lines_below}
 use Rattle.ss_inspect.specs.Lists.{owned_list_with}

@@ -1,7 +1,7 @@
 -- The line that tells an attribute.
-use Rattle.std.proofs.Common.{◌≡◌, ℕ, zero, suc, ◌<◌, ◌≤◌, Bool, true, false, cond, ◌&&◌, List, [], ◌∷◌, length, drop}
+use Rattle.std.proofs.Common.{◌≡◌, ℕ, zero, suc, ◌<◌, ◌≤◌, Bool, true, false, cond, ◌&&◌, List, [], length, drop}
 use Rattle.std.proofs.Common.{refl}
-use Rattle.std.proofs.Common.{arith, nat_lt, Option, Some, None}
+use Rattle.std.proofs.Common.{arith, nat_lt, Some, None}
 use Rattle.std.specs.Prelude.{find, codes, nat_eq}
 use Rattle.std.specs.List.{All, position_or_len, slice_split, before_first, after_first, starts_with}
 use Rattle.std.proofs.lemmas.List.Splits.{slice_split_first, slice_split_none}

@@ -1,5 +1,5 @@
 -- What is told of the frames of a state and of its variables.
-use Rattle.std.specs.Prelude.{ℕ, ◌+◌, ℤ, pos, List, [], ◌∷◌, ◌++◌, length, codes, decimal, Option, Some, None}
+use Rattle.std.specs.Prelude.{ℕ, ◌+◌, pos, List, [], ◌∷◌, ◌++◌, length, codes, decimal, Option, Some, None}
 use Rattle.std.specs.Prelude.{unwrap_or, if◌then◌else◌, nat_eq, slice_index_or}
 use Rattle.ss_program.specs.Program.{ProgramTable, section_of, spot_at}
 use Rattle.ss_machine.specs.State.{State}

@@ -59,7 +59,6 @@ fn push_attribute_line<S: SetBoard>(
     x: i64,
     name: &[u8],
 ) -> Result<(), AllocError>
-    requires { class < length machine.now.input.program.classes }
     ensures { OnOk result (text.new.items ≡ text.old.items
         ++ line_or_none name.now (line_telling name.now
         (entity_lines machine.now.input.program machine.now.state.store class (number_of x)))) }

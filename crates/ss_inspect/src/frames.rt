@@ -7,12 +7,11 @@ ghost use Rattle.ss_inspect.specs.Frames.{local_line, local_lines, locals_text};
 ghost use Rattle.ss_inspect.specs.Frames.{global_line, global_lines, globals_text};
 ghost use Rattle.ss_inspect.specs.Texts.{texts_below};
 
-use crate::rows::{locals_in, name_at, place_line, section_name};
 use crate::texts::push_named_value;
-use ss_debug::push_number;
+use ss_debug::{place_line, push_number};
 use ss_links::SetBoard;
 use ss_machine::Machine;
-use ss_program::Variable;
+use ss_program::{Variable, name_at};
 use std::alloc::AllocError;
 
 /// The value of a local of the frame on which so many others stand, 0 where there is none.
@@ -30,11 +29,10 @@ fn push_local<S: SetBoard>(
     section: usize,
     number: usize,
 ) -> Result<(), AllocError>
-    requires { number < length (locals_in machine.now.input.program section) }
     ensures { OnOk result (text.new.items ≡ text.old.items
         ++ local_text machine.now.input.program machine.now.state depth section number) }
 {
-    let name = name_at(locals_in(machine.program(), section), number);
+    let name = name_at(machine.program().locals(section), number);
     push_named_value(text, name, local_value(machine, depth, number))
 }
 
@@ -46,7 +44,6 @@ fn push_listed_local<S: SetBoard>(
     section: usize,
     number: usize,
 ) -> Result<(), AllocError>
-    requires { number < length (locals_in machine.now.input.program section) }
     ensures { OnOk result (text.new.items ≡ text.old.items
         ++ listed_local machine.now.input.program machine.now.state depth section number) }
 {
@@ -69,7 +66,7 @@ fn push_listed_locals<S: SetBoard>(
         ++ texts_below (listed_local machine.now.input.program machine.now.state depth section)
         (length (locals_in machine.now.input.program section))) }
 {
-    for number in 0..locals_in(machine.program(), section).len() {
+    for number in 0..machine.program().locals(section).len() {
         push_listed_local(text, machine, depth, section, number)?;
     }
     Ok(())
@@ -88,7 +85,7 @@ fn push_frame<S: SetBoard>(
         return Ok(());
     };
     let program = machine.program();
-    text.extend_from_slice(section_name(program, section))?;
+    text.extend_from_slice(program.section_name(section))?;
     text.extend_from_slice(b" LINE ")?;
     push_number(text, place_line(program, section, place) as u64)?;
     push_listed_locals(text, machine, depth, section)?;
@@ -124,7 +121,6 @@ fn push_local_line<S: SetBoard>(
     section: usize,
     number: usize,
 ) -> Result<(), AllocError>
-    requires { number < length (locals_in machine.now.input.program section) }
     ensures { OnOk result (text.new.items ≡ text.old.items
         ++ local_line machine.now.input.program machine.now.state section number) }
 {
@@ -142,7 +138,7 @@ fn push_section_locals<S: SetBoard>(
         ++ texts_below (local_line machine.now.input.program machine.now.state section)
         (length (locals_in machine.now.input.program section))) }
 {
-    for number in 0..locals_in(machine.program(), section).len() {
+    for number in 0..machine.program().locals(section).len() {
         push_local_line(text, machine, section, number)?;
     }
     Ok(())
@@ -154,7 +150,7 @@ fn push_local_lines<S: SetBoard>(text: &mut Vec<u8>, machine: &Machine<S>) -> Re
         ++ local_lines machine.now.input.program machine.now.state) }
 {
     let (section, _) = machine.place();
-    if locals_in(machine.program(), section).len() == 0 {
+    if machine.program().locals(section).len() == 0 {
         return text.extend_from_slice(b"NO LOCALS\n");
     }
     push_section_locals(text, machine, section)

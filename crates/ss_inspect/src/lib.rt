@@ -14,7 +14,6 @@ mod frames;
 mod laws;
 mod pages;
 mod places;
-mod rows;
 mod tables;
 mod texts;
 

@@ -14,9 +14,7 @@ ghost use Rattle.ss_inspect.specs.Texts.{texts_below};
 
 use crate::entities::number_limit;
 use crate::texts::{push_no_entity, push_no_such};
-use ss_debug::{
-    find_class, member_class, push_listed, push_notice, push_number, set_name, set_owner,
-};
+use ss_debug::{find_class, push_listed, push_notice, push_number};
 use ss_links::SetBoard;
 use ss_machine::Machine;
 use ss_program::Owner;
@@ -64,7 +62,7 @@ fn push_owned_list_with<S: SetBoard>(
     if !is_listed(machine, set, i64::from(owner), x) {
         return Ok(());
     }
-    text.extend_from_slice(set_name(machine.program(), set))?;
+    text.extend_from_slice(machine.program().set_name(set))?;
     text.extend_from_slice(b" ")?;
     push_number(text, u64::from(owner))?;
     push_listed(text, machine, set, i64::from(owner))
@@ -86,7 +84,7 @@ fn push_system_list_with<S: SetBoard>(
     if !is_listed(machine, set, 0, x) {
         return Ok(());
     }
-    text.extend_from_slice(set_name(machine.program(), set))?;
+    text.extend_from_slice(machine.program().set_name(set))?;
     push_listed(text, machine, set, 0)
 }
 
@@ -131,10 +129,10 @@ fn push_class_lists_with<S: SetBoard>(
         (number_of x) set) }
 {
     let program = machine.program();
-    if member_class(program, set) != class {
+    if program.member_class(set) != class {
         return Ok(());
     }
-    match set_owner(program, set) {
+    match program.set_owner(set) {
         Owner::System => push_system_list_with(text, machine, set, x),
         Owner::OwnedBy(owner) => {
             let limit = number_limit(machine.store(), owner);
@@ -168,8 +166,7 @@ fn push_due<S: SetBoard>(
     class: usize,
     x: i64,
 ) -> Result<(), AllocError>
-    requires class { class < length machine.now.input.program.classes }
-    requires there { exists machine.now.state.store class (number_of x) ≡ true }
+    requires { exists machine.now.state.store class (number_of x) ≡ true }
     ensures { OnOk result (text.new.items ≡ text.old.items
         ++ due_text machine.now.input.program class (number_of x)
         (pending_at machine.now.state.agenda.pending (number_of x))) }
@@ -193,8 +190,7 @@ fn push_entity_places<S: SetBoard>(
     class: usize,
     x: i64,
 ) -> Result<(), AllocError>
-    requires class { class < length machine.now.input.program.classes }
-    requires there { exists machine.now.state.store class (number_of x) ≡ true }
+    requires { exists machine.now.state.store class (number_of x) ≡ true }
     ensures { OnOk result (text.new.items ≡ text.old.items
         ++ entity_places_text machine.now.input.program machine.now.state class (number_of x)) }
 {

@@ -7,7 +7,7 @@ ghost use Rattle.ss_inspect.specs.Tables.{set_line, sets_text, section_word, sec
 ghost use Rattle.ss_inspect.specs.Texts.{texts_below};
 
 use crate::entities::count_living;
-use ss_debug::{class_name, member_class, push_number, set_name, set_owner};
+use ss_debug::push_number;
 use ss_links::SetBoard;
 use ss_machine::Machine;
 use ss_program::{ClassKind, Discipline, Owner, Program, SectionKind};
@@ -37,7 +37,7 @@ fn push_class<S: SetBoard>(
         ++ class_line machine.now.input.program machine.now.state.store class) }
 {
     let program = machine.program();
-    text.extend_from_slice(class_name(program, class))?;
+    text.extend_from_slice(program.class_name(class))?;
     text.extend_from_slice(b" ")?;
     text.extend_from_slice(kind_word(program, class))?;
     text.extend_from_slice(b": ")?;
@@ -86,13 +86,11 @@ fn discipline_word(program: &Program, set: usize) -> &'static [u8]
 
 /// The name of the owner of the set with this number.
 fn owner_name(program: &Program, set: usize) -> &[u8]
-    requires { set < length program.now.sets }
     ensures { result.now ≡ owner_name program.now (set_of program.now set).owner }
 {
-    program.known();
-    match set_owner(program, set) {
+    match program.set_owner(set) {
         Owner::System => b"SYSTEM",
-        Owner::OwnedBy(class) => class_name(program, class),
+        Owner::OwnedBy(class) => program.class_name(class),
     }
 }
 
@@ -101,14 +99,13 @@ fn push_set(text: &mut Vec<u8>, program: &Program, set: usize) -> Result<(), All
     requires { set < length program.now.sets }
     ensures { OnOk result (text.new.items ≡ text.old.items ++ set_line program.now set) }
 {
-    program.known();
-    text.extend_from_slice(set_name(program, set))?;
+    text.extend_from_slice(program.set_name(set))?;
     text.extend_from_slice(b" ")?;
     text.extend_from_slice(discipline_word(program, set))?;
     text.extend_from_slice(b" OWNER ")?;
     text.extend_from_slice(owner_name(program, set))?;
     text.extend_from_slice(b" MEMBER ")?;
-    text.extend_from_slice(class_name(program, member_class(program, set)))?;
+    text.extend_from_slice(program.class_name(program.member_class(set)))?;
     text.extend_from_slice(b"\n")
 }
 

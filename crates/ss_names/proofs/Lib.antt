@@ -1,2 +1,1 @@
-pub mod CountMaps
 pub mod RowPlaces

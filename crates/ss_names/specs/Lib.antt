@@ -1,4 +1,3 @@
-pub mod CountMap
 pub mod Names
 pub mod Saying
 pub mod Roles

@@ -4,8 +4,7 @@ ghost use Rattle.ss_names.specs.Meanings as spec;
 ghost use Rattle.ss_names.specs.Meanings.{declaration_at};
 
 use crate::meaning::{Meaning, Row};
-use crate::name_counts::NameCounts;
-use ss_program::NameTable;
+use ss_program::{NameCounts, NameTable};
 use std::alloc::{AllocError, Global};
 use std::marker::Model;
 

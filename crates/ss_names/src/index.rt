@@ -6,11 +6,11 @@ ghost use Rattle.ss_names.specs.Names.{names_in as names_of};
 
 use crate::collected::{Wanted, collect};
 use crate::known::{known_as, push_known};
-use crate::name_counts::NameCounts;
 use crate::names::names_in;
 use crate::roles::{Role, names_with, push_lines_with};
 use crate::unread::is_only;
 use itoa::Buffer;
+use ss_program::NameCounts;
 use ss_words::{Plain, PlainWord, TextFault, Words, plain_words, words};
 use std::alloc::{AllocError, Global};
 

@@ -5,9 +5,9 @@ ghost use Rattle.ss_names.specs.Keys as spec;
 ghost use Rattle.ss_names.specs.Roles.{at_start};
 
 use crate::declarations::Declarations;
-use crate::name_counts::NameCounts;
 use crate::roles::{Role, Standing, same_role};
 use itoa::Buffer;
+use ss_program::NameCounts;
 use ss_words::{Mark, Plain, PlainWord, Reserved};
 use std::alloc::{AllocError, Global};
 

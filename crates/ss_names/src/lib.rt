@@ -15,7 +15,6 @@ mod known;
 mod landmarks;
 mod language;
 mod meaning;
-mod name_counts;
 mod names;
 mod once;
 mod parameters;

@@ -3,7 +3,7 @@ ghost use Rattle.std.specs.Prelude.{◌≡◌, IfOk, map};
 ghost use Rattle.ss_words.specs.Plain.{plain_at};
 ghost use Rattle.ss_names.specs.Names as spec;
 
-use crate::name_counts::NameCounts;
+use ss_program::NameCounts;
 use ss_words::{Plain, PlainWord};
 use std::alloc::{AllocError, Global};
 

@@ -6,9 +6,9 @@ ghost use Rattle.ss_names.specs.Roles.{at_start};
 ghost use Rattle.ss_names.specs.Warnings as spec;
 
 use crate::language::is_of_language;
-use crate::name_counts::NameCounts;
 use crate::roles::Standing;
 use itoa::Buffer;
+use ss_program::NameCounts;
 use ss_words::{Plain, PlainWord};
 use std::alloc::AllocError;
 

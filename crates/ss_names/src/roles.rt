@@ -3,8 +3,8 @@ ghost use Rattle.std.specs.Prelude.{◌≡◌, ◌++◌, IfOk, OnOk, map};
 ghost use Rattle.ss_words.specs.Plain.{plain_at};
 ghost use Rattle.ss_names.specs.Roles as spec;
 
-use crate::name_counts::NameCounts;
 use itoa::Buffer;
+use ss_program::NameCounts;
 use ss_words::{Mark, Plain, PlainWord, Reserved, Sign};
 use std::alloc::{AllocError, Global};
 

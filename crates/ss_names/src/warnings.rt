@@ -6,12 +6,12 @@ ghost use Rattle.ss_names.specs.Warnings as spec;
 use crate::collected::{Wanted, collect};
 use crate::declarations::Declarations;
 use crate::dropped::push_dropped;
-use crate::name_counts::NameCounts;
 use crate::names::names_in;
 use crate::once::push_once;
 use crate::ranked::push_ranked;
 use crate::roles::Role;
 use crate::unread::{UNREAD, UNSET, push_uses};
+use ss_program::NameCounts;
 use ss_words::{PlainWord, TextFault, Words, plain_words, words};
 use std::alloc::{AllocError, Global};
 

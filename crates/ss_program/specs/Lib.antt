@@ -13,3 +13,4 @@ pub mod ProgramConditionCode
 pub mod Match
 pub mod Nesting
 pub mod Pairings
+pub mod CountMap

@@ -6,6 +6,7 @@ ghost use Rattle.ss_program.specs.NameMeaning.{is_any, meaning_of, numbers_of};
 use crate::name::Name;
 use crate::names::is_clock;
 use crate::program::Program;
+use crate::section::Section;
 use crate::tables::{Class, Set};
 
 /// What a name is: its number in the table of the global variables, of the classes and of the sets.
@@ -52,6 +53,14 @@ impl Program {
         }
     }
 
+    /// The number of the section of this name, in upper case. `None` where no section has it.
+    pub fn find_section(&self, name: &[u8]) -> Option<usize>
+        ensures section { result ≡ position (λ s. bytes_eq name.now s.name) self.now.sections }
+        ensures within { IfSome result (λ n. n < length self.now.sections) }
+    {
+        section_number(&self.sections, name)
+    }
+
     /// The place of this name, in upper case, in the table of the local variables of the section
     /// with this number. `None` where it is none of them.
     pub fn local(&self, section: usize, name: &[u8]) -> Option<usize>
@@ -90,6 +99,16 @@ fn set_number(sets: &[Set], name: &[u8]) -> Option<usize>
 {
     sets.iter()
         .position(|set| name == set.name.bytes.as_slice())
+}
+
+/// The place of a section in their table.
+fn section_number(sections: &[Section], name: &[u8]) -> Option<usize>
+    ensures value { result ≡ position (λ s. bytes_eq name.now s.name) sections.now }
+    ensures within { IfSome result (λ i. i < length sections.now) }
+{
+    sections
+        .iter()
+        .position(|section| name == section.name.bytes.as_slice())
 }
 
 /// A place in a table of fewer than 2^32 names.

@@ -15,10 +15,12 @@ pub mod laws;
 mod looping;
 mod making;
 mod name;
+mod name_counts;
 mod name_table;
 mod names;
 mod place;
 mod program;
+mod rows;
 mod section;
 mod sum;
 mod tables;
@@ -39,9 +41,11 @@ pub use kinds::{ClassKind, Discipline, EventClass, Owner, SectionKind};
 pub use looping::{Begin, ForPhrase, Looping, Phrase, Qualifier, Qualifiers, Telling, Tellings};
 pub use making::Making;
 pub use name::Name;
+pub use name_counts::NameCounts;
 pub use name_table::NameTable;
 pub use place::{Assign, Control, Output, Place, Spot};
 pub use program::Program;
+pub use rows::name_at;
 pub use section::{Head, LocalDefine, Section};
 pub use ss_words::{
     Comparison, Copula, Direction, MemberKept, OwnerKept, QualifierWord, Rank, SetEnd, Statistic,

@@ -1,32 +1,14 @@
 //! Sections by their names, and their lines.
-ghost use Rattle.std.specs.Prelude.{◌≡◌, ◌++◌, ◌<◌, length, position, slice_get, bytes_eq, IfSome, OnOk};
+ghost use Rattle.std.specs.Prelude.{◌≡◌, ◌++◌, ◌<◌, length, slice_get, OnOk};
 ghost use Rattle.ss_debug.specs.Move.{line_at, spot_line};
 ghost use Rattle.ss_machine.specs.Moment.{position as moment_position};
 ghost use Rattle.ss_program.specs.Program.{section_of};
-ghost use Rattle.ss_prompt.specs.Sections.{section_named, no_section, first_line, last_line, line_of_section};
+ghost use Rattle.ss_prompt.specs.Sections.{no_section, first_line, last_line, line_of_section};
 
 use ss_links::SetBoard;
 use ss_machine::Machine;
-use ss_program::{Program, Section, Spot};
+use ss_program::{Program, Spot};
 use std::alloc::AllocError;
-
-/// The number of the section of this name.
-pub(crate) fn find_section(program: &Program, name: &[u8]) -> Option<usize>
-    ensures section { result ≡ section_named program.now name.now }
-    ensures within { IfSome result (λ n. n < length program.now.sections) }
-{
-    sections_position(&program.sections, name)
-}
-
-/// The place of a section in their table.
-fn sections_position(sections: &[Section], name: &[u8]) -> Option<usize>
-    ensures value { result ≡ position (λ s. bytes_eq name.now s.name) sections.now }
-    ensures within { IfSome result (λ i. i < length sections.now) }
-{
-    sections
-        .iter()
-        .position(|section| name == section.name.bytes.as_slice())
-}
 
 /// The line of a place, 0 where there is none.
 fn line_of(places: &[Spot], place: usize) -> usize
@@ -58,7 +40,7 @@ fn first_line(program: &Program, section: usize) -> usize
 pub(crate) fn line_of_section(program: &Program, name: &[u8]) -> Option<usize>
     ensures { result ≡ line_of_section program.now name.now }
 {
-    let section = find_section(program, name)?;
+    let section = program.find_section(name)?;
     Some(first_line(program, section))
 }
 

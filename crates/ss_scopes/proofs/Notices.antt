@@ -1,17 +1,13 @@
 -- The items of the pending notices in order, one by one.
-use Rattle.std.proofs.Common.{◌≡◌, ℕ, zero, suc, ◌+◌, List, [], ◌∷◌, ◌++◌, drop, refl, sym, ap, ◌∙◌, arith}
+use Rattle.std.proofs.Common.{◌≡◌, ℕ, suc, ◌+◌, List, ◌++◌, drop, sym, ap, ◌∙◌, arith}
 use Rattle.std.proofs.Common.{Option, Some, None, slice_get}
 use Rattle.std.specs.Option.{option_map}
 use Rattle.std.proofs.lemmas.List.{append-nil, append_assoc}
 use Rattle.ss_program.specs.Program.{ProgramTable}
 use Rattle.ss_events.specs.Agenda.{Pending}
 use Rattle.ss_events.specs.Slots.{slot_of}
+use Rattle.ss_debug.proofs.Pendings.{dropped, dropped_none, none_of}
 use Rattle.ss_scopes.specs.Events.{notice_item, notice_items}
-
-dropped : (es : List Pending) (i : ℕ) (e : Pending) → slice_get es i ≡ Some e → drop i es ≡ e ∷ drop (suc i) es
-dropped [] i e h = absurd (cc)
-dropped (f ∷ es) zero e h = let same : f ≡ e = cc in rw same refl
-dropped (f ∷ es) (suc i) e h = dropped es i e h
 
 -- one item more
 pub item_more : (p : ProgramTable) (es : List Pending) (i j : ℕ) (e : Pending) (text new all : List ℕ) →
@@ -22,16 +18,6 @@ item_more p es i j e text new all h n k l =
     let next : j ≡ suc i = omega (arith, n) in
     rw (l, next)
     (append_assoc text _ _ ∙ ap (λ (l : List Pending). text ++ notice_items p l) (sym (dropped es i e h)) ∙ k)
-
-dropped_none : (es : List Pending) (i : ℕ) → slice_get es i ≡ None → drop i es ≡ []
-dropped_none [] zero h = refl
-dropped_none [] (suc i) h = refl
-dropped_none (f ∷ es) zero h = absurd (cc)
-dropped_none (f ∷ es) (suc i) h = dropped_none es i h
-
-none_of : (o : Option Pending) → None ≡ option_map (λ (e : Pending). e.notice) o → o ≡ None
-none_of None h = refl
-none_of (Some e) h = absurd (cc)
 
 -- all items, where the listing has ended
 pub all_items : (p : ProgramTable) (es : List Pending) (i : ℕ) (text all : List ℕ) →

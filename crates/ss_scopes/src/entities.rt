@@ -13,14 +13,13 @@ ghost use Rattle.ss_scopes.specs.Kept.{owner_items, member_items};
 use crate::group::{class_reference, set_reference};
 use crate::kept::{push_member_items, push_owner_items};
 use crate::pages::numbers_on;
-use crate::rows::{attributes_of, name_at};
 use itoa::Buffer;
-use ss_debug::{class_name, member_class, push_number, set_name, set_owner};
+use ss_debug::push_number;
 use ss_inspect::living_numbers;
 use ss_links::SetBoard;
 use ss_machine::Machine;
 use ss_messages::{paged_item, variable_item};
-use ss_program::{Owner, Program};
+use ss_program::{Owner, Program, name_at};
 use ss_store::Store;
 use std::alloc::{AllocError, Global};
 
@@ -31,11 +30,10 @@ pub fn entity_name(
     class: usize,
     number: u32,
 ) -> Result<Vec<u8>, AllocError>
-    requires { class < length program.now.classes }
     ensures { IfOk result (λ name. name.items ≡ entity_name program.now class number) }
 {
     let mut name = Vec::new(alloc);
-    name.extend_from_slice(class_name(program, class))?;
+    name.extend_from_slice(program.class_name(class))?;
     name.extend_from_slice(b" ")?;
     push_number(&mut name, u64::from(number))?;
     Ok(name)
@@ -50,8 +48,7 @@ fn push_entity(
     place: u64,
     number: u32,
 ) -> Result<(), AllocError>
-    requires class { class < length program.now.classes }
-    requires place { place < 2 ^ 64 - 1 }
+    requires { place < 2 ^ 64 - 1 }
     ensures { OnOk result (out.new.items
         ≡ out.old.items ++ entity_item program.now class place number) }
 {
@@ -72,8 +69,7 @@ pub fn push_entities(
     first: u64,
     numbers: &[u32],
 ) -> Result<(), AllocError>
-    requires class { class < length program.now.classes }
-    requires room { first + length numbers.now < 2 ^ 64 }
+    requires { first + length numbers.now < 2 ^ 64 }
     ensures { OnOk result (out.new.items
         ≡ out.old.items ++ entity_items program.now class first numbers.now) }
 {
@@ -94,7 +90,6 @@ fn push_living<S: SetBoard>(
     start: usize,
     count: usize,
 ) -> Result<(), AllocError>
-    requires { class < length machine.now.input.program.classes }
     ensures { OnOk result (out.new.items ≡ out.old.items
         ++ living_page machine.now.input.program machine.now.state.store class start count) }
 {
@@ -130,8 +125,6 @@ fn push_attribute<S: SetBoard>(
     number: u32,
     attribute: usize,
 ) -> Result<(), AllocError>
-    requires class { class < length machine.now.input.program.classes }
-    requires attribute { attribute < length (class_of machine.now.input.program class).attributes }
     ensures { OnOk result (out.new.items ≡ out.old.items
         ++ attribute_item machine.now.input.program machine.now.state.store class number
         attribute) }
@@ -141,7 +134,7 @@ fn push_attribute<S: SetBoard>(
         .store()
         .get(class, attribute, i64::from(number))
         .unwrap_or(0);
-    let name = name_at(attributes_of(machine.program(), class), attribute);
+    let name = name_at(machine.program().attributes(class), attribute);
     let item = variable_item(alloc, name, buffer.format(value).as_bytes(), 0)?;
     out.extend_from_slice(&item)
 }
@@ -154,12 +147,11 @@ fn push_attributes<S: SetBoard>(
     class: usize,
     number: u32,
 ) -> Result<(), AllocError>
-    requires { class < length machine.now.input.program.classes }
     ensures { OnOk result (out.new.items ≡ out.old.items
         ++ texts_below (attribute_item machine.now.input.program machine.now.state.store class
         number) (length (class_of machine.now.input.program class).attributes)) }
 {
-    for attribute in 0..attributes_of(machine.program(), class).len() {
+    for attribute in 0..machine.program().attributes(class).len() {
         push_attribute(alloc, out, machine, class, number, attribute)?;
     }
     Ok(())
@@ -234,7 +226,7 @@ fn push_owner_kept<S: SetBoard>(
         ++ owner_items (set_of machine.now.input.program set).name
         (shape_of machine.now.input.program set) machine.now.state.store owner) }
 {
-    let name = set_name(machine.program(), set);
+    let name = machine.program().set_name(set);
     push_owner_items(alloc, out, machine.store(), name, set, i64::from(owner))
 }
 
@@ -252,7 +244,7 @@ fn push_member_kept<S: SetBoard>(
         ++ member_items (set_of machine.now.input.program set).name
         (shape_of machine.now.input.program set) machine.now.state.store number) }
 {
-    let name = set_name(machine.program(), set);
+    let name = machine.program().set_name(set);
     push_member_items(alloc, out, machine.store(), name, set, i64::from(number))
 }
 
@@ -270,10 +262,10 @@ fn push_owned<S: SetBoard>(
         ++ owned_item machine.now.input.program machine.now.state.store class number set) }
 {
     let program = machine.program();
-    if !is_owned_by(set_owner(program, set), class) {
+    if !is_owned_by(program.set_owner(set), class) {
         return Ok(());
     }
-    push_list(alloc, out, machine, set_name(program, set), set, number)?;
+    push_list(alloc, out, machine, program.set_name(set), set, number)?;
     push_owner_kept(alloc, out, machine, set, number)
 }
 
@@ -290,7 +282,7 @@ fn push_joined<S: SetBoard>(
     ensures { OnOk result (out.new.items ≡ out.old.items
         ++ joined_item machine.now.input.program machine.now.state.store class number set) }
 {
-    if member_class(machine.program(), set) != class {
+    if machine.program().member_class(set) != class {
         return Ok(());
     }
     push_member_kept(alloc, out, machine, set, number)

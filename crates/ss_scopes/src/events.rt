@@ -1,5 +1,5 @@
 //! The event list.
-ghost use Rattle.std.specs.Prelude.{◌≡◌, ◌++◌, ◌<◌, length, OnOk};
+ghost use Rattle.std.specs.Prelude.{◌≡◌, ◌++◌, OnOk};
 ghost use Rattle.ss_scopes.specs.Events.{notice_item, event_items};
 
 use crate::entities::entity_name;
@@ -20,7 +20,6 @@ fn push_event(
     notice: u32,
     slot: Slot,
 ) -> Result<(), AllocError>
-    requires { slot.class < length program.now.classes }
     ensures { OnOk result (out.new.items
         ≡ out.old.items ++ notice_item program.now notice slot) }
 {

@@ -8,12 +8,12 @@ ghost use Rattle.ss_scopes.specs.Pages.{page};
 ghost use Rattle.ss_scopes.specs.Frames.{frame_text, frames_page, local_item, locals_page, global_item, globals_page};
 
 use crate::pages::page_size;
-use crate::rows::{locals_in, name_at, place_line, section_name};
 use itoa::Buffer;
+use ss_debug::place_line;
 use ss_links::SetBoard;
 use ss_machine::Machine;
 use ss_messages::{frame_item, variable_item};
-use ss_program::Variable;
+use ss_program::{Variable, name_at};
 use std::alloc::{AllocError, Global};
 
 /// Appends the frame on which so many others stand.
@@ -36,7 +36,7 @@ fn push_frame<S: SetBoard>(
     let item = frame_item(
         alloc,
         depth as u64 + 1,
-        section_name(program, section),
+        program.section_name(section),
         line,
         path,
     )?;
@@ -87,11 +87,10 @@ fn push_local<S: SetBoard>(
     section: usize,
     number: usize,
 ) -> Result<(), AllocError>
-    requires { number < length (locals_in machine.now.input.program section) }
     ensures { OnOk result (out.new.items ≡ out.old.items
         ++ local_item machine.now.input.program machine.now.state depth section number) }
 {
-    let name = name_at(locals_in(machine.program(), section), number);
+    let name = name_at(machine.program().locals(section), number);
     push_value(alloc, out, name, local_value(machine, depth, number))
 }
 
@@ -109,7 +108,7 @@ fn push_section_locals<S: SetBoard>(
         ++ page (local_item machine.now.input.program machine.now.state depth section) start count
         (length (locals_in machine.now.input.program section))) }
 {
-    for k in 0..page_size(start, count, locals_in(machine.program(), section).len()) {
+    for k in 0..page_size(start, count, machine.program().locals(section).len()) {
         push_local(alloc, out, machine, depth, section, start + k)?;
     }
     Ok(())

@@ -12,13 +12,11 @@ mod frames;
 mod group;
 mod kept;
 mod pages;
-mod rows;
 mod scopes;
 mod sets;
 mod variables;
 
 pub use frames::push_frames;
 pub use group::{Group, class_reference, group_of, set_reference};
-pub use rows::locals_in;
 pub use scopes::push_scopes;
 pub use variables::push_variables;

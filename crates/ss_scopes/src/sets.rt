@@ -9,7 +9,6 @@ use crate::entities::{entity_name, member_count, push_entities, push_list};
 use crate::group::{class_reference, set_reference};
 use crate::pages::{numbers_on, page_size};
 use itoa::Buffer;
-use ss_debug::{class_name, member_class, set_name, set_owner};
 use ss_inspect::{count_living, living_numbers, members_page};
 use ss_links::SetBoard;
 use ss_machine::Machine;
@@ -46,12 +45,11 @@ fn push_class_item<S: SetBoard>(
     machine: &Machine<S>,
     class: usize,
 ) -> Result<(), AllocError>
-    requires { class < length machine.now.input.program.classes }
     ensures { OnOk result (out.new.items ≡ out.old.items
         ++ class_item machine.now.input.program machine.now.state.store class) }
 {
     let count = u64::from(count_living(machine, class));
-    let name = class_name(machine.program(), class);
+    let name = machine.program().class_name(class);
     push_counted(alloc, out, name, class_reference(class, 0), count)
 }
 
@@ -82,8 +80,8 @@ fn push_set_item<S: SetBoard>(
         ++ set_item machine.now.input.program machine.now.state.store set) }
 {
     let program = machine.program();
-    let name = set_name(program, set);
-    match set_owner(program, set) {
+    let name = program.set_name(set);
+    match program.set_owner(set) {
         Owner::System => push_list(alloc, out, machine, name, set, 0),
         Owner::OwnedBy(class) => {
             let count = u64::from(count_living(machine, class));
@@ -124,12 +122,11 @@ fn push_members<S: SetBoard>(
     let size = page_size(start, count, member_count(machine, set, owner) as usize);
     let members = members_page(alloc, machine, set, i64::from(owner), start, size)?;
     let program = machine.program();
-    program.known();
     push_entities(
         alloc,
         out,
         program,
-        member_class(program, set),
+        program.member_class(set),
         start as u64,
         &members,
     )
@@ -144,8 +141,7 @@ fn push_lists_of<S: SetBoard>(
     class: usize,
     numbers: &[u32],
 ) -> Result<(), AllocError>
-    requires set { set < length machine.now.input.program.sets }
-    requires class { class < length machine.now.input.program.classes }
+    requires { set < length machine.now.input.program.sets }
     ensures { OnOk result (out.new.items ≡ out.old.items
         ++ lists_of machine.now.input.program machine.now.state.store set class numbers.now) }
 {
@@ -166,8 +162,7 @@ fn push_lists<S: SetBoard>(
     start: usize,
     count: usize,
 ) -> Result<(), AllocError>
-    requires set { set < length machine.now.input.program.sets }
-    requires class { class < length machine.now.input.program.classes }
+    requires { set < length machine.now.input.program.sets }
     ensures { OnOk result (out.new.items ≡ out.old.items
         ++ lists_page machine.now.input.program machine.now.state.store set class start count) }
 {
@@ -189,11 +184,10 @@ pub fn push_set<S: SetBoard>(
         ++ set_page machine.now.input.program machine.now.state.store set start count) }
 {
     let program = machine.program();
-    program.known();
     if set >= program.sets.len() {
         return Ok(());
     }
-    match set_owner(program, set) {
+    match program.set_owner(set) {
         Owner::System => push_members(alloc, out, machine, set, 0, start, count),
         Owner::OwnedBy(class) => push_lists(alloc, out, machine, set, class, start, count),
     }

@@ -11,7 +11,7 @@ ghost use Rattle.ss_trace.specs.Question.{kept_of, has_kept, kept_value, kept_in
 ghost use Rattle.ss_trace.specs.Question.{attribute_named, attribute_line, attribute_text};
 
 use crate::rows::find_attribute;
-use ss_debug::{find_class, find_set, member_class, push_integer, set_owner};
+use ss_debug::{find_class, find_set, push_integer};
 use ss_links::SetBoard;
 use ss_machine::Machine;
 use ss_program::{Owner, Program};
@@ -67,13 +67,12 @@ fn is_owned_by(owner: Owner, class: usize) -> bool
 
 /// Whether the entities of a class have a kept attribute in a set.
 pub fn has_kept(program: &Program, class: usize, set: usize, kept: Kept) -> bool
-    requires { set < length program.now.sets }
     ensures { result ≡ has_kept (set_of program.now set) class kept }
 {
     match kept {
-        Kept::First | Kept::Last | Kept::Number => is_owned_by(set_owner(program, set), class),
+        Kept::First | Kept::Last | Kept::Number => is_owned_by(program.set_owner(set), class),
         Kept::Predecessor | Kept::Successor | Kept::Membership => {
-            member_class(program, set) == class
+            program.member_class(set) == class
         }
     }
 }
@@ -128,7 +127,6 @@ fn attribute_named<S: SetBoard>(
     x: i64,
     name: &[u8],
 ) -> Option<i64>
-    requires { class < length machine.now.input.program.classes }
     ensures { result ≡ attribute_named machine.now.input.program machine.now.state.store class
         (number_of x) name.now }
 {

@@ -7,7 +7,7 @@ ghost use Rattle.ss_debug.specs.Entities.{shape_of};
 ghost use Rattle.ss_trace.specs.Question.{counted_text, owned_count_text, list_count_text, count_text};
 
 use crate::attribute::push_no_entity;
-use ss_debug::{class_name, class_value, find_set, push_integer, push_number, set_owner};
+use ss_debug::{class_value, find_set, push_integer, push_number};
 use ss_links::SetBoard;
 use ss_machine::Machine;
 use ss_program::Owner;
@@ -48,14 +48,13 @@ fn push_owned_count<S: SetBoard>(
     class: usize,
     owner: i64,
 ) -> Result<(), AllocError>
-    requires set { set < length machine.now.input.program.sets }
-    requires class { class < length machine.now.input.program.classes }
+    requires { set < length machine.now.input.program.sets }
     ensures { OnOk result (bytes.new.items ≡ bytes.old.items
         ++ owned_count_text name.now machine.now.input.program machine.now.state.store set class
         owner) }
 {
     if !machine.store().exists(class, owner) {
-        return push_no_entity(bytes, class_name(machine.program(), class), owner);
+        return push_no_entity(bytes, machine.program().class_name(class), owner);
     }
     bytes.extend_from_slice(b"COUNT ")?;
     bytes.extend_from_slice(name)?;
@@ -103,7 +102,7 @@ pub fn push_count<S: SetBoard>(
         bytes.extend_from_slice(name)?;
         return bytes.extend_from_slice(b"\n");
     };
-    match set_owner(program, set) {
+    match program.set_owner(set) {
         Owner::System => push_system_count(bytes, name, machine, set, owner),
         Owner::OwnedBy(class) => {
             let x = owner.unwrap_or(class_value(machine, class));

@@ -7,10 +7,8 @@ ghost use Rattle.ss_trace.specs.EntityNumbers.{entity_numbers, is_counted, livin
 ghost use Rattle.ss_trace.specs.Sight.{IsInTables};
 
 use crate::attribute::{Kept, has_kept, kept_value};
-use crate::rows::attribute_count;
 use crate::sight::Sight;
 use crate::touches::Part;
-use ss_debug::member_class;
 use ss_links::SetBoard;
 use ss_machine::Machine;
 use ss_store::Neighbours;
@@ -38,12 +36,11 @@ fn push_attributes<S: SetBoard>(
     class: usize,
     x: i64,
 ) -> Result<(), AllocError>
-    requires { class < length machine.now.input.program.classes }
     ensures { OnOk result (numbers.new.items ≡ numbers.old.items
         ++ numbers_below (attribute_numbers machine.now.state.store class (number_of x))
         (length (class_of machine.now.input.program class).attributes)) }
 {
-    for attribute in 0..attribute_count(machine.program(), class) {
+    for attribute in 0..machine.program().attributes(class).len() {
         push_attribute(numbers, machine, class, attribute, x)?;
     }
     Ok(())
@@ -86,7 +83,7 @@ pub fn neighbours_of<S: SetBoard>(
         behind: None,
         is_filed: false,
     };
-    if member_class(machine.program(), set) != class {
+    if machine.program().member_class(set) != class {
         return none;
     }
     match machine.store().neighbours(set, x) {
@@ -158,7 +155,6 @@ fn push_entity<S: SetBoard>(
     class: usize,
     x: i64,
 ) -> Result<(), AllocError>
-    requires { class < length machine.now.input.program.classes }
     ensures { OnOk result (numbers.new.items ≡ numbers.old.items
         ++ entity_numbers machine.now.input.program machine.now.state.store class
         (number_of x)) }
@@ -181,7 +177,6 @@ fn push_living<S: SetBoard>(
     class: usize,
     x: i64,
 ) -> Result<(), AllocError>
-    requires { class < length machine.now.input.program.classes }
     ensures { OnOk result (numbers.new.items ≡ numbers.old.items
         ++ living_numbers machine.now.input.program machine.now.state.store class
         (number_of x)) }

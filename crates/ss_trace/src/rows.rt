@@ -1,5 +1,5 @@
-//! Attributes of a class, and its variable.
-ghost use Rattle.std.specs.Prelude.{◌≡◌, ◌<◌, length, position, bytes_eq};
+//! Attributes of a class by their names.
+ghost use Rattle.std.specs.Prelude.{◌≡◌, position, bytes_eq};
 ghost use Rattle.ss_program.specs.Program.{class_of};
 
 use ss_program::{Name, Program};
@@ -11,28 +11,8 @@ fn number_of_name(names: &[Name], name: &[u8]) -> Option<usize>
 }
 
 /// The number of the attribute of this name in the class with this number.
-#[tactic(auto, using(ss_debug::proofs::Tables::row_at))]
 pub fn find_attribute(program: &Program, class: usize, name: &[u8]) -> Option<usize>
-    requires { class < length program.now.classes }
     ensures { result ≡ position (bytes_eq name.now) (class_of program.now class).attributes }
 {
-    number_of_name(&program.classes[class].attributes, name)
-}
-
-/// How many attributes the class with this number has.
-#[tactic(auto, using(ss_debug::proofs::Tables::row_at))]
-pub fn attribute_count(program: &Program, class: usize) -> usize
-    requires { class < length program.now.classes }
-    ensures { result ≡ length (class_of program.now class).attributes }
-{
-    program.classes[class].attributes.len()
-}
-
-/// The number of the variable of the class with this number.
-#[tactic(auto, using(ss_debug::proofs::Tables::row_at))]
-pub fn class_variable(program: &Program, class: usize) -> usize
-    requires { class < length program.now.classes }
-    ensures { result ≡ (class_of program.now class).variable }
-{
-    program.classes[class].variable
+    number_of_name(program.attributes(class), name)
 }

@@ -14,8 +14,8 @@ ghost use Rattle.ss_trace.specs.Sight.{members_seen, glance_of};
 use crate::attribute::{Kept, has_kept, kept_of, kept_value};
 use crate::glance::Glance;
 use crate::question::Question;
-use crate::rows::{class_variable, find_attribute};
-use ss_debug::{Debugger, Question as Shown, find_class, find_set, set_owner};
+use crate::rows::find_attribute;
+use ss_debug::{Debugger, Question as Shown, find_class, find_set};
 use ss_links::SetBoard;
 use ss_machine::Machine;
 use ss_program::{Owner, Program, Variable};
@@ -134,12 +134,12 @@ fn sight_of_list(program: &Program, set: usize, owner: Option<i64>) -> Sight
     ensures sight { result ≡ sight_of_list program.now set owner (set_of program.now set).owner }
     ensures within { IsInTables program.now result }
 {
-    match (set_owner(program, set), owner) {
+    match (program.set_owner(set), owner) {
         (Owner::System, None) => Sight::Members(set, 0),
         (Owner::System, Some(_)) => Sight::Nothing,
         (Owner::OwnedBy(class), None) => {
             program.known();
-            Sight::MembersNamed(set, class_variable(program, class))
+            Sight::MembersNamed(set, program.class_variable(class))
         }
         (Owner::OwnedBy(_), Some(x)) => Sight::Members(set, x),
     }

@@ -11,7 +11,6 @@ ghost use Rattle.ss_trace.specs.Told.{tells_set, tells_sets, tells_all, tells_to
 
 use crate::attribute::Kept;
 use crate::entity_numbers::{kept_number, neighbours_of};
-use crate::rows::attribute_count;
 use crate::sight::Sight;
 use crate::touches::{Part, Touch};
 use ss_links::SetBoard;
@@ -40,9 +39,6 @@ fn tells_attribute<S: SetBoard>(
     x: i64,
     attribute: usize,
 ) -> bool
-    requires class { class < length machine.now.input.program.classes }
-    requires attribute { attribute
-        < length (class_of machine.now.input.program class).attributes }
     ensures { result ≡ tells_attribute machine.now.state.store class (number_of x) numbers.now
         attribute }
 {
@@ -76,12 +72,11 @@ fn tells_attributes<S: SetBoard>(
     class: usize,
     x: i64,
 ) -> bool
-    requires { class < length machine.now.input.program.classes }
     ensures { result ≡ tells_attributes machine.now.state.store class (number_of x) numbers.now
         (length (class_of machine.now.input.program class).attributes) }
 {
     let values = attributes_of(machine, class, x);
-    for attribute in 0..attribute_count(machine.program(), class) {
+    for attribute in 0..machine.program().attributes(class).len() {
         if !tells_value(numbers, values, attribute) {
             return false;
         }
@@ -97,7 +92,7 @@ fn set_place(program: &Program, class: usize, set: usize) -> usize
     ensures within { result + NUMBERS_OF_A_SET < 2 ^ 64 }
 {
     program.known();
-    attribute_count(program, class) + NUMBERS_OF_A_SET * set
+    program.attributes(class).len() + NUMBERS_OF_A_SET * set
 }
 
 /// Where a kept attribute stands among the numbers that a set tells.
@@ -246,7 +241,7 @@ fn tells_touched<S: SetBoard>(
         Touch::Nothing => true,
         Touch::Attribute(of, attribute) => {
             of != class
-                || (attribute < attribute_count(program, class)
+                || (attribute < program.attributes(class).len()
                     && tells_attribute(numbers, machine, class, x, attribute))
         }
         Touch::Attributes => tells_attributes(numbers, machine, class, x),

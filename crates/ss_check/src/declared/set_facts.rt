@@ -6,10 +6,9 @@ ghost use Rattle.ss_check.specs.Declarations as declared;
 ghost use Rattle.ss_check.specs.Facts.{fact};
 
 use crate::declared::fact_table::FactTable;
-use crate::declared::name_counts::NameCounts;
 use crate::resolved::declarations::copied;
 use ss_preamble::{Clause, Item};
-use ss_program::Name;
+use ss_program::{Name, NameCounts};
 use ss_words::Several;
 use std::alloc::{AllocError, Global};
 

@@ -12,13 +12,12 @@ use crate::declared::item_names::{
     add_classes, add_disciplines, add_external, add_priority, add_ties,
 };
 use crate::declared::kind_table::KindTable;
-use crate::declared::name_counts::NameCounts;
 use crate::declared::name_kind::NameKind;
 use crate::declared::name_list::NameList;
 use crate::declared::set_facts::{add_attributes, add_members, add_owners};
 use crate::resolved::declarations::add_declarations;
 use ss_preamble::{Heading, ItemAt};
-use ss_program::Name;
+use ss_program::{Name, NameCounts};
 use ss_routines::{Listing, Section, SectionKind};
 use std::alloc::{AllocError, Global};
 use std::marker::Model;

@@ -13,9 +13,7 @@ use crate::break_list::push_break_lines;
 use crate::desk::PromptDesk;
 use crate::listing::{push_lines_about, push_lines_to};
 use crate::names::{push_names_said, push_warnings_said};
-use crate::sections::{
-    find_section, head_line, last_line, line_of_section, present_line, push_no_section,
-};
+use crate::sections::{head_line, last_line, line_of_section, present_line, push_no_section};
 use ss_debug::{Command, Debugger, GREATEST_LINE, Name, obey};
 use ss_links::SetBoard;
 use std::alloc::AllocError;
@@ -100,7 +98,7 @@ impl<'a> PromptDesk<'a> {
     {
         let machine = debugger.machine();
         let program = machine.program();
-        let Some(section) = find_section(program, name.as_slice()) else {
+        let Some(section) = program.find_section(name.as_slice()) else {
             return push_no_section(answer, name.as_slice());
         };
         let from = head_line(program, section);

@@ -11,34 +11,24 @@ pub slot-requires : goal.slot-requires
 slot-requires g c =
     let a = c.agenda-agenda.result.now in
     let k =
-    listed c.args.machine.now.input.program a.rules a.agenda c.loop-notice.listing.listed c.in-Some.notice
-    c.agenda-agenda.ensures.rules c.known-2.ensures c.in-Some.ensures.notice in
+    listed a.rules a.agenda c.loop-notice.listing.listed c.in-Some.notice c.known-2.ensures
+    c.in-Some.ensures.notice in
     k.number
 
 pub unwrap-slot-requires : goal.unwrap-slot-requires
 unwrap-slot-requires g c =
     let a = c.agenda-agenda.result.now in
     let k =
-    listed c.args.machine.now.input.program a.rules a.agenda c.loop-notice.listing.listed c.in-Some.notice
-    c.agenda-agenda.ensures.rules c.known-2.ensures c.in-Some.ensures.notice in
+    listed a.rules a.agenda c.loop-notice.listing.listed c.in-Some.notice c.known-2.ensures
+    c.in-Some.ensures.notice in
     rw (c.slot.ensures, k.pending) refl
-
-pub push_notice-requires : goal.push_notice-requires
-push_notice-requires g c =
-    let a = c.agenda-agenda.result.now in
-    let k =
-    listed c.args.machine.now.input.program a.rules a.agenda c.loop-notice.listing.listed c.in-Some.notice
-    c.agenda-agenda.ensures.rules c.known-2.ensures c.in-Some.ensures.notice in
-    let slot : c.unwrap-slot.result ≡ slot_of k.entry =
-    slot_is c.slot.result _ k.entry c.unwrap-slot.result c.slot.ensures k.pending c.unwrap-slot.ensures in
-    rw (slot, c.program.ensures) k.class
 
 pub loop-notice-smaller : goal.loop-notice-smaller
 loop-notice-smaller g c =
     let a = c.agenda-agenda.result.now in
     let k =
-    listed c.args.machine.now.input.program a.rules a.agenda c.loop-notice.listing.listed c.in-Some.notice
-    c.agenda-agenda.ensures.rules c.known-2.ensures c.in-Some.ensures.notice in
+    listed a.rules a.agenda c.loop-notice.listing.listed c.in-Some.notice c.known-2.ensures
+    c.in-Some.ensures.notice in
     let below = slice_get_within (order a) c.loop-notice.listing.listed k.entry k.at in
     let more : c.list_next.new.listing.listed ≡ c.loop-notice.listing.listed + 1 = c.in-Some.ensures.count in
     omega (arith, below, more)
@@ -48,15 +38,15 @@ loop-notice-preserved g c =
     let a = c.agenda-agenda.result.now in
     let p = c.args.machine.now.input.program in
     let k =
-    listed p a.rules a.agenda c.loop-notice.listing.listed c.in-Some.notice
-    c.agenda-agenda.ensures.rules c.known-2.ensures c.in-Some.ensures.notice in
+    listed a.rules a.agenda c.loop-notice.listing.listed c.in-Some.notice c.known-2.ensures
+    c.in-Some.ensures.notice in
     let below = slice_get_within (order a) c.loop-notice.listing.listed k.entry k.at in
     let more : c.list_next.new.listing.listed ≡ c.loop-notice.listing.listed + 1 = c.in-Some.ensures.count in
     let slot : c.unwrap-slot.result ≡ slot_of k.entry =
     slot_is c.slot.result _ k.entry c.unwrap-slot.result c.slot.ensures k.pending c.unwrap-slot.ensures in
     let line : c.push_notice.new.text.items
     ≡ c.loop-notice.text.items ++ notice_line p k.entry.notice (slot_of k.entry) =
-    rw (← slot, ← k.notice, ← c.program.ensures) c.in_ok-push_notice.ensures.ok in
+    rw (← slot, ← k.notice, ← c.program.ensures) c.in_ok-push_notice.ensures in
     record {
       listing = c.in-Some.ensures.listing;
       within = omega (arith, below, more);

@@ -1,5 +1,5 @@
-use Rattle.std.proofs.Common.{◌≡◌, ℕ, ℤ, ◌+◌, suc, ◌∷◌, ◌++◌, take, drop, arith, ◌∙◌, sym, subst, refl}
-use Rattle.std.proofs.Common.{List, Some, None, slice_get, rules, w64, FitsSigned, to_z, of_z}
+use Rattle.std.proofs.Common.{◌≡◌, ℕ, ℤ, ◌+◌, suc, take, drop, arith, ◌∙◌, sym, subst, refl}
+use Rattle.std.proofs.Common.{Some, None, slice_get, rules, w64, FitsSigned, to_z, of_z}
 use Rattle.std.proofs.lemmas.Int.{to_z-of_z}
 use Rattle.ss_store.specs.Tables.{set_of}
 use Rattle.ss_store.specs.Store.{number_of, members_of}

@@ -2,7 +2,7 @@ use Rattle.std.proofs.Common.{◌≡◌, ℕ, ℤ, suc, ◌+◌, ◌++◌, refl,
 use Rattle.std.proofs.Common.{to_z, of_z}
 use Rattle.std.specs.Prelude.{codes, decimal}
 use Rattle.std.proofs.lemmas.Int.{to_z-of_z}
-use Rattle.ss_store.specs.Store.{number_of, greatest_number}
+use Rattle.ss_store.specs.Store.{number_of}
 use Rattle.ss_debug.specs.Entities.{lines_below}
 use Rattle.ss_inspect.specs.Lists.{list_with, owned_list_with}
 use Rattle.ss_inspect.proofs.TextSequences.{text_more}

@@ -11,34 +11,24 @@ pub slot-requires : goal.slot-requires
 slot-requires g c =
     let a = c.agenda-agenda.result.now in
     let k =
-    listed c.args.machine.now.input.program a.rules a.agenda c.loop-notice.listing.listed c.in-Some.notice
-    c.agenda-agenda.ensures.rules c.known.ensures c.in-Some.ensures.notice in
+    listed a.rules a.agenda c.loop-notice.listing.listed c.in-Some.notice c.known.ensures
+    c.in-Some.ensures.notice in
     k.number
 
 pub unwrap-slot-requires : goal.unwrap-slot-requires
 unwrap-slot-requires g c =
     let a = c.agenda-agenda.result.now in
     let k =
-    listed c.args.machine.now.input.program a.rules a.agenda c.loop-notice.listing.listed c.in-Some.notice
-    c.agenda-agenda.ensures.rules c.known.ensures c.in-Some.ensures.notice in
+    listed a.rules a.agenda c.loop-notice.listing.listed c.in-Some.notice c.known.ensures
+    c.in-Some.ensures.notice in
     rw (c.slot.ensures, k.pending) refl
-
-pub push_event-requires : goal.push_event-requires
-push_event-requires g c =
-    let a = c.agenda-agenda.result.now in
-    let k =
-    listed c.args.machine.now.input.program a.rules a.agenda c.loop-notice.listing.listed c.in-Some.notice
-    c.agenda-agenda.ensures.rules c.known.ensures c.in-Some.ensures.notice in
-    let slot : c.unwrap-slot.result ≡ slot_of k.entry =
-    slot_is c.slot.result _ k.entry c.unwrap-slot.result c.slot.ensures k.pending c.unwrap-slot.ensures in
-    rw (slot, c.program.ensures) k.class
 
 pub loop-notice-smaller : goal.loop-notice-smaller
 loop-notice-smaller g c =
     let a = c.agenda-agenda.result.now in
     let k =
-    listed c.args.machine.now.input.program a.rules a.agenda c.loop-notice.listing.listed c.in-Some.notice
-    c.agenda-agenda.ensures.rules c.known.ensures c.in-Some.ensures.notice in
+    listed a.rules a.agenda c.loop-notice.listing.listed c.in-Some.notice c.known.ensures
+    c.in-Some.ensures.notice in
     let below = slice_get_within (order a) c.loop-notice.listing.listed k.entry k.at in
     let more : c.list_next.new.listing.listed ≡ c.loop-notice.listing.listed + 1 = c.in-Some.ensures.count in
     omega (arith, below, more)
@@ -48,8 +38,8 @@ loop-notice-preserved g c =
     let a = c.agenda-agenda.result.now in
     let p = c.args.machine.now.input.program in
     let k =
-    listed p a.rules a.agenda c.loop-notice.listing.listed c.in-Some.notice
-    c.agenda-agenda.ensures.rules c.known.ensures c.in-Some.ensures.notice in
+    listed a.rules a.agenda c.loop-notice.listing.listed c.in-Some.notice c.known.ensures
+    c.in-Some.ensures.notice in
     let below = slice_get_within (order a) c.loop-notice.listing.listed k.entry k.at in
     let more : c.list_next.new.listing.listed ≡ c.loop-notice.listing.listed + 1 = c.in-Some.ensures.count in
     let slot : c.unwrap-slot.result ≡ slot_of k.entry =

@@ -1,6 +1,6 @@
 ghost use Rattle.std.specs.Prelude.{◌≡◌, [], ◌∷◌, ◌++◌, bytes_eq, count_by, OnErr, OnOk};
 
-use ss_program::Name;
+use crate::name::Name;
 use std::alloc::{AllocError, Global};
 use std::collections::BTreeMap;
 use std::marker::Model;
@@ -16,7 +16,7 @@ pub struct NameCounts {
 
 impl Model for NameCounts {
     ghost use Rattle.std.specs.Prelude.{List, ℕ};
-    ghost use Rattle.ss_check.specs.CountMap.{AreCounts};
+    ghost use Rattle.ss_program.specs.CountMap.{AreCounts};
 
     ghost Value = { List (List ℕ) };
 

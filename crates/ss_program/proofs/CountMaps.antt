@@ -13,7 +13,7 @@ use Rattle.std.proofs.lemmas.Slice.Eq.{bytes_eq-Decides}
 use Rattle.std.proofs.lemmas.List.Sums.{sum_by_push}
 use Rattle.ss_words.specs.Lists.{Name}
 use Rattle.ss_program.specs.NameIndex.{entry_of}
-use Rattle.ss_check.specs.CountMap.{AreCounts}
+use Rattle.ss_program.specs.CountMap.{AreCounts}
 
 -- a map without entries
 pub counts_none : (m : BTreeMap (Vec ℕ) ℕ) → IsEmpty m → AreCounts [] m

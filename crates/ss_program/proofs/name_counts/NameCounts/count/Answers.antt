@@ -1,6 +1,6 @@
 use Rattle.std.proofs.Common.{sym}
-use Rattle.ss_check.proofs.CountMaps.{counts_some, counts_zero}
-use Rattle.ss_check.proofs.declared.name_counts.NameCounts.count.Goals as goal
+use Rattle.ss_program.proofs.CountMaps.{counts_some, counts_zero}
+use Rattle.ss_program.proofs.name_counts.NameCounts.count.Goals as goal
 
 pub returns-in-Some : goal.returns-in-Some
 returns-in-Some c =

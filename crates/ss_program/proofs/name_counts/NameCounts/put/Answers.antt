@@ -1,7 +1,7 @@
 use Rattle.std.proofs.Common.{◌≡◌}
 use Rattle.std.specs.Prelude.{bytes_eq, count_by}
-use Rattle.ss_names.proofs.CountMaps.{counts_more, counts_same}
-use Rattle.ss_names.proofs.name_counts.NameCounts.put.Goals as goal
+use Rattle.ss_program.proofs.CountMaps.{counts_more, counts_same}
+use Rattle.ss_program.proofs.name_counts.NameCounts.put.Goals as goal
 
 pub invariant_of-self-in_err-insert : goal.invariant_of-self-in_err-insert
 invariant_of-self-in_err-insert c =
