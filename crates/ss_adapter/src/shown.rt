@@ -1,5 +1,5 @@
 //! The questions on what an editor shows.
-ghost use Rattle.std.specs.Prelude.{◌≡◌, ◌++◌, ◌<◌, length, IfOk};
+ghost use Rattle.std.specs.Prelude.{◌≡◌, ◌++◌, ◌<◌, IfOk};
 ghost use Rattle.ss_debug.specs.Entities.{set_named};
 ghost use Rattle.ss_adapter.specs.Watch.{list_asked, attribute_asked, entity_asked_by, entity_asked};
 ghost use Rattle.ss_adapter.specs.Watch.{set_asked_by, set_asked, owned_asked_by, owned_asked};

@@ -1,11 +1,9 @@
 //! The parts of the state where a machine stands, one after the other.
-ghost use Rattle.std.specs.Prelude.{◌≡◌, ◌++◌, length, IfOk, OnOk};
-ghost use Rattle.ss_program.specs.Program.{class_of, set_of};
-ghost use Rattle.ss_machine.specs.Moment.{position};
-ghost use Rattle.ss_changes.specs.Parts.{below_of, each_of, global_part, local_part};
-ghost use Rattle.ss_changes.specs.Parts.{attribute_part, attributes_of, attribute_parts, entity_part};
-ghost use Rattle.ss_changes.specs.Parts.{entities_in, absent_in, list_part, owners_in, list_parts};
-ghost use Rattle.ss_changes.specs.Parts.{notices_of, notices_in};
+ghost use Rattle.std.specs.Prelude.{◌≡◌, ◌++◌, IfOk, OnOk};
+ghost use Rattle.ss_changes.specs.Parts.{below_of, global_part, local_part};
+ghost use Rattle.ss_changes.specs.Parts.{attribute_part, attribute_parts};
+ghost use Rattle.ss_changes.specs.Parts.{entities_in, absent_in, owners_in, list_parts};
+ghost use Rattle.ss_changes.specs.Parts.{notices_in};
 
 use crate::part::Part;
 use crate::reading::value_of;

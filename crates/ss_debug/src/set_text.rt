@@ -7,7 +7,7 @@ ghost use Rattle.ss_store.specs.Tables.{set_of};
 ghost use Rattle.ss_store.specs.Store.{number_of, members_of};
 ghost use Rattle.ss_machine.specs.Moment.{position};
 ghost use Rattle.ss_debug.specs.Entities.{further_members, members_text, members_behind, listed_text};
-ghost use Rattle.ss_debug.specs.Entities.{owned_list_text, list_text, owner_or_variable, set_text};
+ghost use Rattle.ss_debug.specs.Entities.{owned_list_text, list_text, set_text};
 
 use crate::entity_text::no_entity_text;
 use crate::name::Name;

@@ -2,7 +2,6 @@
 ghost use Rattle.std.specs.Prelude.{◌≡◌, map};
 ghost use Rattle.ss_program.specs.ProgramCondition.{any, condition_of, conjunction_of, conjunctions_of, relation_of};
 ghost use Rattle.ss_faults.specs.Missing as spec;
-ghost use Rattle.ss_faults.specs.Readings.{both};
 
 use crate::reading::{attribute_told, entity_told, expression_told, index_told, owner_told};
 use crate::told::Told;

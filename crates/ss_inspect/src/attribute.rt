@@ -1,5 +1,5 @@
 //! The answers to SHOW c v and SHOW c v a.
-ghost use Rattle.std.specs.Prelude.{◌≡◌, ◌++◌, ◌<◌, length, OnOk};
+ghost use Rattle.std.specs.Prelude.{◌≡◌, ◌++◌, ◌<◌, OnOk};
 ghost use Rattle.std.specs.Option.{option_map};
 ghost use Rattle.ss_store.specs.Store.{number_of};
 ghost use Rattle.ss_machine.specs.Moment.{position};

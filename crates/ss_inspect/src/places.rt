@@ -8,7 +8,7 @@ ghost use Rattle.ss_store.specs.Store.{number_of, exists, greatest_number, membe
 ghost use Rattle.ss_store.specs.Tables as tables;
 ghost use Rattle.ss_machine.specs.Moment.{position};
 ghost use Rattle.ss_debug.specs.Entities.{shape_of};
-ghost use Rattle.ss_inspect.specs.Lists.{list_with, owned_list_with, lists_with, class_lists_with, due_text};
+ghost use Rattle.ss_inspect.specs.Lists.{list_with, owned_list_with, class_lists_with, due_text};
 ghost use Rattle.ss_inspect.specs.Lists.{entity_places_text, places_text};
 ghost use Rattle.ss_inspect.specs.Texts.{texts_below};
 

@@ -1,6 +1,6 @@
 //! The answers to SHOW CLASSES, SHOW SETS and SHOW SECTIONS.
 ghost use Rattle.std.specs.Prelude.{◌≡◌, ◌++◌, ◌<◌, length, OnOk};
-ghost use Rattle.ss_program.specs.Program.{class_of, set_of, section_of};
+ghost use Rattle.ss_program.specs.Program.{class_of, set_of};
 ghost use Rattle.ss_machine.specs.Moment.{position};
 ghost use Rattle.ss_inspect.specs.Tables.{kind_word, class_line, classes_text, discipline_word, owner_name};
 ghost use Rattle.ss_inspect.specs.Tables.{set_line, sets_text, section_word, section_line, sections_text};

@@ -1,13 +1,13 @@
 //! One attribute of an entity, kept ones too. The type of these is told by definitions, for proofs
 //! alone.
-ghost use Rattle.std.specs.Prelude.{◌≡◌, ◌++◌, ◌<◌, length, OnOk, pos, Option, take, drop};
+ghost use Rattle.std.specs.Prelude.{◌≡◌, ◌++◌, ◌<◌, length, OnOk, Option};
 ghost use Rattle.ss_program.specs.declared.kinds.Owner.TheVariants.{OwnedBy};
 ghost use Rattle.ss_program.specs.Program.{set_of, is_same_owner};
 ghost use Rattle.ss_store.specs.Tables as tables;
 ghost use Rattle.ss_store.specs.Store.{number_of};
 ghost use Rattle.ss_machine.specs.Moment.{position};
 ghost use Rattle.ss_debug.specs.Entities.{member_read, no_entity_text};
-ghost use Rattle.ss_trace.specs.Question.{kept_of, has_kept, kept_value, kept_in_set, kept_named};
+ghost use Rattle.ss_trace.specs.Question.{kept_of, has_kept, kept_value, kept_named};
 ghost use Rattle.ss_trace.specs.Question.{attribute_named, attribute_line, attribute_text};
 
 use crate::rows::find_attribute;
