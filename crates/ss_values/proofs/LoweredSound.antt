@@ -1,5 +1,5 @@
 -- What a sound expression is lowered to names variables of the tables alone.
-use Rattle.std.proofs.Common.{◌≡◌, ℕ, ℤ, List, [], ◌∷◌, ◌++◌, refl, arith}
+use Rattle.std.proofs.Common.{◌≡◌, ℕ, ℤ, List, [], ◌∷◌, ◌++◌, sym, subst, arith}
 use Rattle.std.specs.Prelude.{Option, Some, None, IfSome, Bool, true, false, unwrap_or, if◌then◌else◌}
 use Rattle.std.specs.List.{All}
 use Rattle.std.proofs.lemmas.List.Elements.{All-cons, All-push}
@@ -226,4 +226,5 @@ kept_sound sc false (Some code) sound = sound
 -- the operations that are kept of a sound expression are sound
 pub lowered_sound : (sc : Scope) (e : Expr) (code : List Op)
     → code ≡ code_of e → IsSoundExpr sc e → All (IsSoundOp sc) code
-lowered_sound sc e code refl sound = kept_sound sc (is_plain e) (lowered e) (sound_expr sc e sound)
+lowered_sound sc e code is sound =
+    subst (All (IsSoundOp sc)) (sym is) (kept_sound sc (is_plain e) (lowered e) (sound_expr sc e sound))

@@ -1,5 +1,5 @@
 -- What an expression is lowered to has its value, or the same fault.
-use Rattle.std.proofs.Common.{◌≡◌, ℕ, ℤ, pos, ◌*ℤ◌, List, [], ◌∷◌, ◌++◌, refl, sym, ap, ◌∙◌}
+use Rattle.std.proofs.Common.{◌≡◌, ℕ, ℤ, pos, ◌*ℤ◌, List, [], ◌∷◌, ◌++◌, refl, sym, ap, subst, ◌∙◌}
 use Rattle.std.specs.Prelude.{◌≢◌, Option, Some, None, IfSome, Result, Ok, Err, Bool, true, false, unwrap_or}
 use Rattle.std.specs.Prelude.{if◌then◌else◌}
 use Rattle.std.proofs.lemmas.Option.{IfSome_then}
@@ -302,5 +302,6 @@ kept_is false (Some code) some = refl
 -- the operations that are kept of an expression have its value
 pub lowered_run : (v : Readings) (e : Expr) (code : List Op) (x : ℤ)
     → code ≡ code_of e → code ≢ [] → run v x code ≡ value_of v e
-lowered_run v e code x refl some =
-    is_held _ (lowered e) (law_expr v e) (kept_is (is_plain e) (lowered e) some) x
+lowered_run v e code x is some =
+    subst (λ c. c ≢ [] → run v x c ≡ value_of v e) (sym is)
+    (λ kept. is_held _ (lowered e) (law_expr v e) (kept_is (is_plain e) (lowered e) kept) x) some
