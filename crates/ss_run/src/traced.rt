@@ -18,7 +18,7 @@ use ss_debug::{Command, Debugger, obey};
 use ss_links::{LinkedSets, SetBoard};
 use ss_machine::{Machine, Stepped};
 use ss_program::Program;
-use ss_session::{Outlet, drop_debugger, load_program, machine, put_all};
+use ss_session::{Outlet, load_program, machine, put_all};
 use ss_trace::Question;
 use std::alloc::{AllocError, Global};
 use std::mem::replace;
@@ -223,7 +223,7 @@ fn trace_run<S: SetBoard, P: Progress, T: Outlet, W: Outlet>(
 {
     let mut debugger = Debugger::new(alloc, machine);
     let written = trace_report(alloc, &mut debugger, questions, progress, trace, out);
-    drop_debugger(debugger);
+    debugger.end();
     written
 }
 

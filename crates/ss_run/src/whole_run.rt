@@ -14,7 +14,7 @@ use ss_links::{LinkedSets, SetBoard};
 use ss_machine::{Machine, Status, Stepped};
 use ss_program::Program;
 use ss_sentences::text_refusal;
-use ss_session::{LoadFault, Outlet, drop_debugger, load_program, machine, put_all, refusal_text};
+use ss_session::{LoadFault, Outlet, load_program, machine, put_all, refusal_text};
 use std::alloc::{AllocError, Global};
 use thiserror::Error;
 
@@ -237,7 +237,7 @@ fn write_run<S: SetBoard, P: Progress, W: Outlet>(
         Ok(()) => write_report(alloc, &mut debugger, out),
         Err(_) => Err(RunCut::Memory),
     };
-    drop_debugger(debugger);
+    debugger.end();
     written
 }
 

@@ -80,6 +80,6 @@ pub(crate) fn write_transcript<S: SetBoard, W: Outlet>(
     let mut bytes = Vec::new(alloc);
     let ended = write_answers(&mut debugger, &mut bytes, commands, out);
     drop(bytes);
-    drop(debugger);
+    debugger.end();
     ended
 }

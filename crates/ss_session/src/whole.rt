@@ -49,8 +49,13 @@ pub fn machine<S: SetBoard>(
     ensures steps { IfOk result (λ machine. machine.steps ≡ []) }
     ensures forgotten { IfOk result (λ machine. machine.forgotten ≡ 0) }
 {
-    let feed = Feed::new(alloc, data_text)?;
-    Machine::new(alloc, program, feed, sets, pending)
+    match Feed::new(alloc, data_text) {
+        Ok(feed) => Machine::new(alloc, program, feed, sets, pending),
+        Err(error) => {
+            program.end();
+            Err(error)
+        }
+    }
 }
 
 /// The debugger at the start of the run of a model over its data, on boards of linked nodes; or why

@@ -15,7 +15,7 @@ use ss_console::{Console, Cut, LONGEST_LINE, converse, put_all};
 use ss_links::SetBoard;
 use ss_machine::Status;
 use ss_prompt::{Prompt, source_lines};
-use ss_session::{drop_debugger, open_debugger};
+use ss_session::open_debugger;
 use std::alloc::Global;
 
 fn end(status: Status) -> PromptEnd
@@ -117,7 +117,7 @@ fn greet_and_hold<S: SetBoard, C: Console>(
         Ok(()) => hold(alloc, &mut prompt, line, console),
         Err(fault) => Err(fault),
     };
-    drop_debugger(prompt.into_debugger());
+    prompt.into_debugger().end();
     ended
 }
 
