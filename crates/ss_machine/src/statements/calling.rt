@@ -8,7 +8,7 @@ ghost use Rattle.ss_machine.specs.Executor.{state, tables};
 ghost use Rattle.ss_machine.specs.Noting.{Notes};
 ghost use Rattle.ss_machine.specs.Outcome.{LeadsTo};
 ghost use Rattle.ss_state.specs.ChangeCounts.{place_targets, yield_count};
-ghost use Rattle.ss_machine.specs.Moment as changes;
+ghost use Rattle.ss_state.specs.ChangeCounts as changes;
 ghost use Rattle.ss_machine.specs.Dropping.{HasDropped};
 ghost use Rattle.ss_machine.specs.Seen.{InHeld};
 ghost use Rattle.ss_state.specs.Statements.Calling.{step_control, step_call, state_behind_call, state_behind_place};

@@ -8,7 +8,7 @@ ghost use Rattle.ss_program.specs.ProgramSound.{IsSoundPhrase, AreSoundQualifier
 ghost use Rattle.ss_machine.specs.Executor.{state, tables};
 ghost use Rattle.ss_machine.specs.Noting.{Notes};
 ghost use Rattle.ss_machine.specs.Outcome.{LeadsTo, Gives};
-ghost use Rattle.ss_machine.specs.Moment as changes;
+ghost use Rattle.ss_state.specs.ChangeCounts as changes;
 ghost use Rattle.ss_machine.specs.Seen.{InHeld};
 ghost use Rattle.ss_state.specs.Loops.{loops_with_candidate, IsSoundWalk, AreSoundWalks};
 ghost use Rattle.ss_state.specs.Statements.{state_after_result, state_at_place};

@@ -10,7 +10,7 @@ ghost use Rattle.ss_events.specs.Rules.{rules_of};
 ghost use Rattle.ss_machine.specs.Executor.{rules, state, tables};
 ghost use Rattle.ss_machine.specs.Noting.{Notes};
 ghost use Rattle.ss_machine.specs.Outcome.{LeadsTo, LeadsToOrRefuses, GivesOrRefuses};
-ghost use Rattle.ss_machine.specs.Moment as changes;
+ghost use Rattle.ss_state.specs.ChangeCounts as changes;
 ghost use Rattle.ss_machine.specs.Seen.{InHeld, scope_held};
 ghost use Rattle.ss_state.specs.Well.{IsInBounds};
 ghost use Rattle.ss_program.specs.declared.place.Place.TheVariants as places;
