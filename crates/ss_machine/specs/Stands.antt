@@ -5,11 +5,11 @@ use Rattle.ss_journal.specs.Undoing.{StepsLeadBack}
 use Rattle.ss_program.specs.ProgramSound.{IsSound}
 use Rattle.ss_store.specs.Tables.{tables_of}
 use Rattle.ss_events.specs.Rules.{rules_of}
-use Rattle.ss_machine.specs.declared.limits.TheConstants.{LAST_POSITION}
-use Rattle.ss_machine.specs.Held.{Held}
-use Rattle.ss_machine.specs.Well.{AreItemsInRange}
-use Rattle.ss_machine.specs.Change.{Change, unapply, Fits}
-use Rattle.ss_machine.specs.Run.{Input, run}
+use Rattle.ss_state.specs.declared.limits.TheConstants.{LAST_POSITION}
+use Rattle.ss_state.specs.Held.{Held}
+use Rattle.ss_state.specs.Well.{AreItemsInRange}
+use Rattle.ss_state.specs.Change.{Change, unapply, Fits}
+use Rattle.ss_state.specs.Run.{Input, run}
 
 -- changes that fit and lead back through the states of a run, the first of them to its state number a
 abbrev pub LeadsBack : Input → ℕ → List (List Change) → Held → Type 0
