@@ -34,10 +34,11 @@ NamesAreFound =
     × (meaning_of shop (codes "") ≡ None)
     × (meaning_of shop (codes "TIME.V") ≡ None)
 
--- one factor alone, and a product of two
+-- one factor alone
 abbrev pub alone : Factor → Expr
 alone f = expr None (term f no_products) no_sums
 
+-- the product of two
 abbrev pub times : Factor → Factor → Term
 times f g = term f (product g no_products)
 
