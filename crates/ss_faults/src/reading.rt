@@ -168,7 +168,7 @@ fn signed_told(sign: Option<TermSign>, first: Told) -> Told
 pub fn expression_told<S: SetBoard>(machine: &Machine<S>, e: &Expr) -> Told
     ensures { result ≡ spec.told_of machine.now.input.program machine.now.state e.now }
 {
-    sum_told(machine, &e.sum)
+    sum_told(machine, e.sum())
 }
 
 #[cycle(told)]
