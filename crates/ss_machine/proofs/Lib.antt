@@ -5,6 +5,7 @@ pub mod Rooms
 pub mod Scopes
 pub mod Returns
 pub mod Moments
+pub mod Timelines
 pub mod Storings
 pub mod Wells
 pub mod Starts

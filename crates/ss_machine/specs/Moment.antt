@@ -13,6 +13,7 @@ use Rattle.ss_state.specs.Change.{Change, unapply}
 use Rattle.ss_state.specs.ChangeCounts.{change_bound}
 use Rattle.ss_state.specs.Step.{step}
 use Rattle.ss_state.specs.Run.{Input}
+use Rattle.ss_timeline.specs.Moment as timelines
 
 -- what a machine stands for: a state of a run, and the way back from it
 pub record Moment : Type 0 where
@@ -38,6 +39,10 @@ steps_kept moment = length moment.steps
 -- the number of the state in the run: the steps that are forgotten count
 abbrev pub position : Moment → ℕ
 position moment = moment.forgotten + steps_kept moment
+
+-- the same as a moment of the run: the state is the run's there, and so no part of it
+abbrev pub moment_of : Moment → timelines.Moment
+moment_of moment = record { input = moment.input; low = moment.forgotten; kept = steps_kept moment }
 
 -- the states before this one to which the kept steps lead back, the earliest first
 abbrev pub past_of : Moment → List State
@@ -79,6 +84,8 @@ pub record HasGoneBack (old new : Moment) : Type 0 where
   pub position : position old ≡ position new + 1
   -- as many steps are forgotten as before
   pub forgotten : new.forgotten ≡ old.forgotten
+  -- from there the run went on
+  pub ready : new.state.status ≡ Ready
   -- the newest step is no longer kept
   pub steps : (dropped : List Change) × (old.steps ≡ dropped ∷ new.steps)
 

@@ -1,6 +1,6 @@
 -- what is known where notices are scheduled and events start
-use Rattle.std.proofs.Common.{◌≡◌, ◌<◌, ◌≤◌, ℕ, ℤ, suc, pos, List, [], ◌∷◌, length, Bool, true, false}
-use Rattle.std.proofs.Common.{Option, Some, None, Result, Ok, Err, arith, refl, sym, ap, subst, ◌∙◌}
+use Rattle.std.proofs.Common.{◌≡◌, ◌<◌, ℕ, ℤ, suc, pos, List, [], ◌∷◌, length, Bool, true, false}
+use Rattle.std.proofs.Common.{Option, Some, None, Result, Ok, arith, refl, sym, ap, subst, ◌∙◌}
 use Rattle.std.specs.Prelude.{map, is_some, ◌==◌, if◌then◌else◌}
 use Rattle.std.specs.Option.{option_map}
 use Rattle.std.specs.List.{range_with_len}
@@ -21,7 +21,7 @@ use Rattle.ss_program.specs.ProgramSound.{IsEventClass}
 use Rattle.ss_store.specs.declared.shape.ClassShape.{ClassShape}
 use Rattle.ss_store.specs.Tables.{tables_of, class_shape}
 use Rattle.ss_store.specs.Tables as shapes
-use Rattle.ss_store.specs.Store.{Store, exists, attribute_of}
+use Rattle.ss_store.specs.Store.{Store, attribute_of}
 use Rattle.ss_events.specs.Rules.{Rule, rules_of, rule_at, is_event_class}
 use Rattle.ss_events.specs.Agenda.{Pending, pending_at, least_of, least}
 use Rattle.ss_events.specs.State.{Each}

@@ -1,5 +1,5 @@
 -- Small programs, and what their runs come to.
-use Rattle.std.specs.Prelude.{ℕ, zero, suc, ◌-◌, pos, List, [], ◌∷◌, ◌++◌, map, replicate, codes, Bool, true, false}
+use Rattle.std.specs.Prelude.{ℕ, pos, List, [], ◌∷◌, ◌++◌, map, replicate, codes, Bool, true, false}
 use Rattle.std.specs.Prelude.{Some, None}
 use Rattle.ss_words.specs.declared.terms.TermSign.TheVariants.{Plus, Minus}
 use Rattle.ss_program.specs.declared.target.Target.TheVariants.{Variable as ToVariable, Attribute}

@@ -1,4 +1,4 @@
-use Rattle.std.proofs.Common.{◌≡◌, ◌<◌, ◌+◌, [], ◌∷◌, ◌++◌, pos, Ok, Err, rules, sym, w64, FitsSigned, to_z}
+use Rattle.std.proofs.Common.{◌≡◌, ◌<◌, [], ◌∷◌, ◌++◌, pos, Ok, Err, rules, sym, w64, FitsSigned, to_z}
 use Rattle.std.proofs.Common.{of_z, ◌∙◌}
 use Rattle.std.specs.List.{range_with_len}
 use Rattle.std.proofs.lemmas.Int.{to_z-of_z}
