@@ -141,19 +141,19 @@ def wrong_launches(debugger):
         yield from (f"{it['name']} has no {name}" for name in launch["required"] if name not in it)
         if it["type"] != debugger["type"]:
             yield f"{it['name']} is of another type"
-        yield from (f"{it['name']}: {why}" for why in refused(it))
+        variables = {"fileDirname": f"{TOP}/examples", "fileBasenameNoExtension": "bank"}
+        yield from (f"{it['name']}: {why}" for why in refused(it, variables))
 
 
-def refused(configuration):
-    """Yields why ssdap does not launch a configuration over the bank."""
-    text, folder = json.dumps(configuration), f"{TOP}/examples"
-    variables = {"file": f"{folder}/bank.sim", "fileDirname": folder, "fileBasenameNoExtension": "bank"}
-    for name, it in variables.items():
+def refused(configuration, variables):
+    """Yields why ssdap does not launch a configuration over the bank, with variables replaced."""
+    text = json.dumps(configuration)
+    for name, it in {"file": f"{TOP}/examples/bank.sim", **variables}.items():
         text = text.replace(f"${{{name}}}", it)
     bodies = ['{"seq": 1, "command": "initialize"}', f'{{"seq": 2, "command": "launch", "arguments": {text}}}']
     stream = "".join(f"Content-Length: {len(it)}\r\n\r\n{it}" for it in bodies)
     status, wrote, _ = run([started("ssdap")], stream.encode())
-    if status or wrote.count(b'"success":true') != len(bodies):
+    if "${" in text or status or wrote.count(b'"success":true') != len(bodies):
         yield f"{status} {wrote}"
 
 
@@ -162,6 +162,16 @@ def wrong_manifest():
     manifest = json.loads(text_of("editors/vscode/package.json"))
     wrong = [*misfits(manifest, json.loads(text_of("tests/answers/vscode.json")))]
     return "; ".join(wrong or unlike(manifest))
+
+
+def wrong_kate():
+    """Returns what is wrong with the configurations for Kate."""
+    server = json.loads(text_of("editors/kate.json"))["dap"]["ssdap"]
+    variables = {"data": f"{TOP}/examples/bank.data"}
+    requests = [it["request"] for it in server["configurations"].values()]
+    wrong = [why for it in requests for why in refused(it, variables)]
+    is_right = server["run"] == {"command": ["ssdap"]} and all(it["command"] == "launch" for it in requests)
+    return "; ".join(wrong) or ("" if is_right and requests else f"{server}")
 
 
 def has(name, words=()):
@@ -173,8 +183,9 @@ def has(name, words=()):
 
 
 def cases():
-    """Yields what is tried in each editor, and of the manifest."""
+    """Yields what is tried of the files, and in each editor."""
     yield "the manifest of VS Code's extension", wrong_manifest
+    yield "the configurations for Kate", wrong_kate
     if has("vim"):
         yield "vim", wrong_type, "vim", ".vim", "-u", "DEFAULTS", "-es"
     if has("nvim"):
