@@ -1,6 +1,6 @@
 use crate::answer::{put_number, put_string, put_text};
 use ss_program::Program;
-use ss_session::{LoadFault, drop_program, load_program};
+use ss_session::{LoadFault, load_program};
 use std::alloc::{AllocError, Global};
 
 /// Puts the rule and the line of a refusal.
@@ -18,7 +18,7 @@ fn put_refused(alloc: Global, out: &mut Vec<u8>, refused: LoadFault) -> Result<(
 pub fn put_outcome(alloc: Global, out: &mut Vec<u8>, text: &[u8]) -> Result<(), AllocError> {
     match load_program(alloc, text) {
         Ok(program) => {
-            drop_program(program);
+            program.end();
             put_text(out, "checked")
         }
         Err(refused) => put_refused(alloc, out, refused),
@@ -33,7 +33,7 @@ pub fn put_local(alloc: Global, out: &mut Vec<u8>, text: &[u8]) -> Result<(), Al
     match load_program(alloc, rest) {
         Ok(program) => {
             let put = put_local_of(alloc, out, &program, name);
-            drop_program(program);
+            program.end();
             put
         }
         Err(refused) => put_refused(alloc, out, refused),
@@ -58,7 +58,7 @@ pub fn put_places(alloc: Global, out: &mut Vec<u8>, text: &[u8]) -> Result<(), A
     match load_program(alloc, text) {
         Ok(program) => {
             let put = put_places_of(alloc, out, &program);
-            drop_program(program);
+            program.end();
             put
         }
         Err(refused) => put_refused(alloc, out, refused),

@@ -3,7 +3,7 @@ use crate::worked::file;
 use ss_debug::{Debugger, command, obey};
 use ss_links::LinkedSets;
 use ss_machine::Machine;
-use ss_session::{LoadFault, drop_debugger, open_debugger};
+use ss_session::{LoadFault, open_debugger};
 use std::alloc::{AllocError, Global};
 use std::io;
 use std::io::Write;
@@ -18,7 +18,7 @@ pub fn show<R: Files + AllocGlobal + Print>(rt: &R, text: &str) -> io::Result<()
     match example_debugger(rt, name)? {
         Ok(mut debugger) => {
             let shown = obey_all(rt, &mut debugger, commands);
-            drop_debugger(debugger);
+            debugger.end();
             shown
         }
         Err(LoadFault::Memory) => Err(io::Error::from(AllocError)),

@@ -20,7 +20,6 @@ use crate::model::checked;
 use ss_events::{Agenda, AgendaChange};
 use ss_journal::Journal;
 use ss_links::{LinkedSets, PlainSets, SetBoard};
-use ss_session::drop_program;
 use std::alloc::Global;
 use std::process::Abort;
 
@@ -308,7 +307,7 @@ fn a_program_without_events_has_none(rt: HostRuntime) {
     let alloc = rt.alloc();
     let program = checked(alloc, b"MAIN\nSTOP\nEND\n").expect(&rt, "a program");
     let agenda = Agenda::new(alloc, &program, PlainSets::new(alloc));
-    drop_program(program);
+    program.end();
     let agenda = agenda.expect(&rt, "an agenda");
     same(&rt, agenda.next(), None);
     drop(agenda);

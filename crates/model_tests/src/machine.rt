@@ -4,9 +4,9 @@ ghost use Rattle.std.specs.Prelude.{◌<◌};
 use crate::compare::same;
 use crate::model::started;
 use ss_links::{LinkedSets, SetBoard};
-use ss_machine::{Machine, Status, Stepped};
+use ss_machine::Machine;
 use ss_program::Variable;
-use ss_session::drop_machine;
+use ss_state::{Status, Stepped};
 use ss_words::RunFault;
 use std::alloc::Global;
 use std::process::Abort;
@@ -102,7 +102,7 @@ fn there_and_back(rt: &(impl Abort + Print), alloc: Global, run: &Run) {
     let mut machine = start(rt, alloc, run.model);
     forth_and_back(rt, &mut machine, run);
     forth_and_back(rt, &mut machine, run);
-    drop_machine(machine);
+    machine.end();
 }
 
 const OVERFLOW: Status = Status::Faulted(RunFault::OutOfRange);

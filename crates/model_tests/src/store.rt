@@ -19,7 +19,6 @@ use crate::store::mixture::mixture_of;
 use crate::store::play::{Call, back, step};
 use ss_journal::Journal;
 use ss_links::{LinkedSets, PlainSets, SetBoard};
-use ss_session::drop_program;
 use ss_store::{How, Store, StoreChange};
 use ss_words::{RunFault, StepFault};
 use std::alloc::{AllocError, Global};
@@ -289,7 +288,7 @@ fn a_program_without_classes_has_no_entities(rt: HostRuntime) {
     let alloc = rt.alloc();
     let program = checked(alloc, b"MAIN\nSTOP\nEND\n").expect(&rt, "a program");
     let store = Store::new(alloc, &program, PlainSets::new(alloc));
-    drop_program(program);
+    program.end();
     let store = store.expect(&rt, "a store");
     same(&rt, store.exists(0, 1), false);
     drop(store);

@@ -59,6 +59,18 @@ impl<S: SetBoard> Debugger<S> {
         }
     }
 
+    /// Gives the debugger's memory back, with that of its machine: the caller's crate does not prove
+    /// its end.
+    pub fn end(self) {
+        let Debugger {
+            machine,
+            breaks,
+            ..
+        } = self;
+        drop(breaks);
+        machine.end();
+    }
+
     /// The machine, at the position to which the commands so far have led.
     pub fn machine(&self) -> &Machine<S>
         ensures { result.now ≡ self.now.machine }

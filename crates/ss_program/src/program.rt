@@ -84,6 +84,11 @@ impl Program {
         }
     }
 
+    /// Gives the program's memory back: the caller's crate does not prove its end.
+    pub fn end(self) {
+        drop(self);
+    }
+
     /// Tells its caller that the program is sound.
     pub fn known(&self)
         ensures { IsSound self.now }

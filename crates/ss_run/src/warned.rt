@@ -6,7 +6,7 @@ ghost use Rattle.ss_run.specs.Warned.{IsWarned};
 
 use ss_names::{push_program_warnings, push_warnings};
 use ss_program::Program;
-use ss_session::{LoadFault, drop_program, load_program};
+use ss_session::{LoadFault, load_program};
 use std::alloc::{AllocError, Global};
 
 /// The warnings of a model's words.
@@ -36,7 +36,7 @@ pub fn model_warnings(alloc: Global, model: &[u8]) -> Result<Vec<u8>, AllocError
     match load_program(alloc, model) {
         Ok(program) => {
             let told = program_told(alloc, model, &program);
-            drop_program(program);
+            program.end();
             told
         }
         Err(LoadFault::Memory) => Err(AllocError),

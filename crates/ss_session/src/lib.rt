@@ -14,7 +14,7 @@ mod whole;
 
 pub use ending::{End, SessionFault, exit_status};
 pub use laws::{model_has_one_outcome, program_is_refused_in_one_part, program_spelling_is_unique};
-pub use letting_go::{drop_debugger, drop_decls, drop_machine, drop_program, drop_words};
+pub use letting_go::{drop_decls, drop_words};
 pub use load::{LoadFault, load_program};
 pub use outlet::{MemoryOutlet, Outlet, PutFault, put_all};
 pub use refusal::refusal_text;

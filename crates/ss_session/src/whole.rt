@@ -1,6 +1,6 @@
 ghost use Rattle.std.specs.Prelude.{◌≡◌, ◌-◌, ◌^◌, ◌<◌, [], IfOk, IfErr};
 ghost use Rattle.ss_links.specs.Board.{empty_board};
-ghost use Rattle.ss_machine.specs.Run.{input_with, run};
+ghost use Rattle.ss_state.specs.Run.{input_with, run};
 ghost use Rattle.ss_debug.specs.Turn.{initial_debugger_state};
 ghost use Rattle.ss_debug.specs.View.{debugger_state_of};
 ghost use Rattle.ss_session.specs.Model.{accepted, IsOutcome};
@@ -49,8 +49,13 @@ pub fn machine<S: SetBoard>(
     ensures steps { IfOk result (λ machine. machine.steps ≡ []) }
     ensures forgotten { IfOk result (λ machine. machine.forgotten ≡ 0) }
 {
-    let feed = Feed::new(alloc, data_text)?;
-    Machine::new(alloc, program, feed, sets, pending)
+    match Feed::new(alloc, data_text) {
+        Ok(feed) => Machine::new(alloc, program, feed, sets, pending),
+        Err(error) => {
+            program.end();
+            Err(error)
+        }
+    }
 }
 
 /// The debugger at the start of the run of a model over its data, on boards of linked nodes; or why

@@ -12,7 +12,6 @@ use ss_debug::Debugger;
 use ss_links::LinkedSets;
 use ss_messages::{Command, Post, Request, Stops, Text};
 use ss_serve::Answerer;
-use ss_session::drop_debugger;
 use std::alloc::{AllocError, Global};
 use std::mem;
 
@@ -44,7 +43,7 @@ impl<'a, F: Shelf> Adapter<'a, F> {
 /// Lets a run go, if there is one.
 fn let_go(run: Option<Run>) {
     if let Some((debugger, _desk)) = run {
-        drop_debugger(debugger);
+        debugger.end();
     }
 }
 

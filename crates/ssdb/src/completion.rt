@@ -7,7 +7,7 @@ use crate::end::{PromptEnd, PromptFault};
 use crate::refused::refuse;
 use ss_console::{Console, Cut, put_all};
 use ss_prompt::{push_completions, source_lines};
-use ss_session::{drop_program, load_program};
+use ss_session::load_program;
 use std::alloc::Global;
 
 /// Writes the words that may stand in a line of a dialogue about a model (docs/PROMPT.md), a line
@@ -30,7 +30,7 @@ pub fn tell_words<C: Console>(
         Ok(program) => {
             let mut text = Vec::new(alloc);
             let pushed = push_completions(&mut text, &program);
-            drop_program(program);
+            program.end();
             pushed?;
             match put_all(console, &text) {
                 Ok(()) => Ok(PromptEnd::Done),
