@@ -7,6 +7,7 @@ dap.configurations.simscript2 = {
     request = "launch",
     name = "this model",
     model = "${file}",
+    -- x.data beside x.sim, if it is there
     data = function()
       local path = vim.fn.expand("%:p:r") .. ".data"
       return vim.fn.filereadable(path) == 1 and path or nil
@@ -14,4 +15,5 @@ dap.configurations.simscript2 = {
     stopOnEntry = true,
   },
 }
-vim.filetype.add({ extension = { sim = "simscript2" } })
+-- Neovim takes *.sim for Simula. This works before 0.8 too, where `vim.filetype.add` counts for nothing.
+vim.cmd("autocmd BufRead,BufNewFile *.sim set filetype=simscript2")

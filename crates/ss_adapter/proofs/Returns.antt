@@ -1,7 +1,7 @@
 -- A debugger that goes to a position, and a question that is the only one.
 use Rattle.std.proofs.Common.{◌≡◌, ℕ, List, [], ◌∷◌, length, refl, sym, ap, ◌∙◌, Some}
 use Rattle.ss_machine.specs.Moment.{position}
-use Rattle.ss_machine.specs.Run.{Input}
+use Rattle.ss_state.specs.Run.{Input}
 use Rattle.ss_debug.specs.Turn.{DebuggerState, debugger_state_at}
 use Rattle.ss_debug.specs.View.{DebuggerView, debugger_state_of}
 use Rattle.ss_adapter.specs.declared.reach.Way.{Way}

@@ -2,7 +2,7 @@
 use Rattle.std.specs.Prelude.{ℕ, ◌≡◌, List, [], ◌∷◌, codes}
 use Rattle.ss_words.specs.Faults.{text_rule_code}
 use Rattle.ss_check.specs.CheckRules.{check_rule_code}
-use Rattle.ss_machine.specs.Run.{input_with}
+use Rattle.ss_state.specs.Run.{input_with}
 use Rattle.ss_debug.specs.Turn.{initial_debugger_state}
 use Rattle.ss_debug.specs.View.{DebuggerView, debugger_state_of}
 use Rattle.ss_session.specs.Model.{accepted, IsOutcome}

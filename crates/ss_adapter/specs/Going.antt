@@ -1,6 +1,6 @@
 -- What the movements of a request are: those of the debugger, and no others.
 use Rattle.std.specs.Prelude.{ℕ, List, [], Option, Some, None, slice_get, unwrap_or, if◌then◌else◌}
-use Rattle.ss_machine.specs.Run.{Input}
+use Rattle.ss_state.specs.Run.{Input}
 use Rattle.ss_debug.specs.declared.limits.TheConstants.{GREATEST_BOUND}
 use Rattle.ss_debug.specs.declared.commands.Command.TheVariants.{Move}
 use Rattle.ss_debug.specs.declared.commands.Movement.TheVariants.{Step, Run, Back, BackBreak}

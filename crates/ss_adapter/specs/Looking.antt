@@ -4,9 +4,9 @@ use Rattle.std.specs.Prelude.{Option, Some, None, if◌then◌else◌, bytes_eq}
 use Rattle.std.specs.Option.{option_or}
 use Rattle.ss_words.specs.Faults.{run_fault_number}
 use Rattle.ss_sentences.specs.Wording.{fault_sentence}
-use Rattle.ss_machine.specs.declared.status.Status.{Status}
-use Rattle.ss_machine.specs.declared.status.Status.TheVariants.{Ready, Stopped, Finished, Faulted}
-use Rattle.ss_machine.specs.Run.{Input, run}
+use Rattle.ss_state.specs.declared.status.Status.{Status}
+use Rattle.ss_state.specs.declared.status.Status.TheVariants.{Ready, Stopped, Finished, Faulted}
+use Rattle.ss_state.specs.Run.{Input, run}
 use Rattle.ss_debug.specs.declared.commands.Command.{Command}
 use Rattle.ss_debug.specs.declared.commands.Command.TheVariants.{Show}
 use Rattle.ss_debug.specs.declared.commands.Question.TheVariants.{Entity, Variable}

@@ -2,8 +2,8 @@
 use Rattle.std.specs.Prelude.{ℕ, ◌+◌, max, Bool, true, List, [], ◌∷◌, ◌++◌, codes, drop, length, take, nat_lt, nat_eq}
 use Rattle.std.specs.Prelude.{false, Option, Some, None, slice_get, if◌then◌else◌}
 use Rattle.ss_program.specs.Program.{ProgramTable}
-use Rattle.ss_machine.specs.State.{State}
-use Rattle.ss_machine.specs.Run.{Input, run}
+use Rattle.ss_state.specs.State.{State}
+use Rattle.ss_state.specs.Run.{Input, run}
 use Rattle.ss_debug.specs.BreakLines.{is_break_line}
 use Rattle.ss_debug.specs.Answer.{state_line}
 use Rattle.ss_debug.specs.Turn.{DebuggerState, debugger_state_with}

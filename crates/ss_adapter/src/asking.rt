@@ -1,7 +1,7 @@
 //! Requests that ask about the run.
 ghost use Rattle.std.specs.Prelude.{◌≡◌, ◌+◌, ◌-◌, ◌^◌, ◌<◌, ◌∷◌, [], codes, OnOk};
 ghost use Rattle.ss_machine.specs.Moment.{position};
-ghost use Rattle.ss_machine.specs.Run.{run};
+ghost use Rattle.ss_state.specs.Run.{run};
 ghost use Rattle.ss_debug.specs.View.{debugger_state_of};
 ghost use Rattle.ss_messages.specs.Bodies.{list_body};
 ghost use Rattle.ss_messages.specs.Messages.{posted_all, reply};

@@ -3,7 +3,7 @@ ghost use Rattle.std.specs.Prelude.{◌≡◌, ◌++◌, ◌+◌, ◌<◌, codes
 ghost use Rattle.ss_debug.specs.Command.{command_of};
 ghost use Rattle.ss_debug.specs.Move.{line_at};
 ghost use Rattle.ss_machine.specs.Moment.{position};
-ghost use Rattle.ss_machine.specs.Run.{run};
+ghost use Rattle.ss_state.specs.Run.{run};
 ghost use Rattle.ss_adapter.specs.Looking.{reason_at, hit_at, is_end, is_over, exception_by};
 ghost use Rattle.ss_adapter.specs.Looking.{question_in, attribute_in, attribute_of, question_of};
 ghost use Rattle.ss_adapter.specs.Places.{line_id};
@@ -13,9 +13,10 @@ use crate::words::{before_word, last_word};
 use itoa::Buffer;
 use ss_debug::{Command, Debugger, Question as Shown, command};
 use ss_links::SetBoard;
-use ss_machine::{Machine, Status};
+use ss_machine::Machine;
 use ss_messages::exception_body;
 use ss_sentences::fault_sentence;
+use ss_state::Status;
 use ss_trace::Question;
 use std::alloc::{AllocError, Global};
 

@@ -6,10 +6,10 @@ use Rattle.std.proofs.lemmas.List.{get_or-map, length-map}
 use Rattle.std.proofs.lemmas.List.Elements.{All-map, filter_passes}
 use Rattle.std.proofs.lemmas.Bool.Decides.{Decides-int_eq, Decides-eqb}
 use Rattle.std.proofs.lemmas.Slice.Eq.{bytes_eq-Decides}
-use Rattle.ss_machine.specs.declared.entry.Entry.{Entry}
-use Rattle.ss_machine.specs.declared.entry.Entry.TheVariants.{Absent, Waiting, Running}
+use Rattle.ss_state.specs.declared.entry.Entry.{Entry}
+use Rattle.ss_state.specs.declared.entry.Entry.TheVariants.{Absent, Waiting, Running}
 use Rattle.ss_program.specs.Program.{ProgramTable}
-use Rattle.ss_machine.specs.State.{State}
+use Rattle.ss_state.specs.State.{State}
 use Rattle.ss_changes.specs.declared.part.Part.{Part}
 use Rattle.ss_changes.specs.declared.value.PartValue.{PartValue}
 use Rattle.ss_changes.specs.declared.value.PartValue.TheVariants.{Absent as Missing, Number, Count, Lives, Listed}

@@ -2,7 +2,7 @@
 use Rattle.std.proofs.Common.{◌≡◌, ℕ, suc, ◌+◌, Bool, true, false, List, [], ◌∷◌, ◌++◌, map, refl, ap, sym, ◌∙◌}
 use Rattle.std.proofs.Common.{arith, append_assoc}
 use Rattle.ss_program.specs.Program.{ProgramTable}
-use Rattle.ss_machine.specs.State.{State}
+use Rattle.ss_state.specs.State.{State}
 use Rattle.ss_changes.specs.declared.part.Part.{Part}
 use Rattle.ss_changes.specs.declared.change.Change.{Change}
 use Rattle.ss_changes.specs.Values.{value_in}

@@ -1,7 +1,7 @@
 -- A debugger that stands where it stood sees the same.
 use Rattle.std.proofs.Common.{◌≡◌, ℕ, suc, ◌+◌, ◌<◌, List, ◌++◌, refl, sym, ap, ◌∙◌, arith, append_assoc}
 use Rattle.ss_program.specs.Program.{ProgramTable}
-use Rattle.ss_machine.specs.State.{State}
+use Rattle.ss_state.specs.State.{State}
 use Rattle.ss_machine.specs.Moment.{position}
 use Rattle.ss_debug.specs.View.{DebuggerView}
 use Rattle.ss_changes.specs.declared.part.Part.{Part}

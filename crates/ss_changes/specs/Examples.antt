@@ -17,8 +17,8 @@ use Rattle.ss_program.specs.declared.timing.Listing.TheVariants.{Given}
 use Rattle.ss_program.specs.declared.variable.Variable.TheVariants.{Global, Local}
 use Rattle.ss_program.specs.ProgramExpr.{expr, no_sums, sum, term, no_products, variable, digits, implied}
 use Rattle.ss_program.specs.Program.{ProgramTable}
-use Rattle.ss_machine.specs.Run.{Input, input_with}
-use Rattle.ss_machine.specs.Examples.{alone, number, job, queue, end_place, next_is_removed}
+use Rattle.ss_state.specs.Run.{Input, input_with}
+use Rattle.ss_state.specs.Examples.{alone, number, job, queue, end_place, next_is_removed}
 use Rattle.ss_inspect.specs.Examples.{section, desks}
 
 -- jobs, a row of the system, and a routine: 7 READ N, M, X; 8 LET M = M; 9 SKIP 0; 10 CREATE A JOB; 11 FILE JOB IN ROW;

@@ -1,7 +1,7 @@
 -- What holds of all that is told, as laws.
 use Rattle.std.specs.Prelude.{◌≡◌, ◌≢◌, ◌⊎◌, true, All, Any}
 use Rattle.ss_program.specs.Program.{ProgramTable}
-use Rattle.ss_machine.specs.State.{State}
+use Rattle.ss_state.specs.State.{State}
 use Rattle.ss_changes.specs.declared.part.Part.{Part}
 use Rattle.ss_changes.specs.declared.value.PartValue.TheVariants.{Absent}
 use Rattle.ss_changes.specs.Values.{value_in, needs_both}

@@ -6,8 +6,8 @@ use Rattle.ss_program.specs.declared.kinds.Owner.TheVariants.{System, OwnedBy}
 use Rattle.ss_program.specs.Program.{ProgramTable, class_of, set_of, section_of}
 use Rattle.ss_events.specs.Rules.{rules_of}
 use Rattle.ss_events.specs.Agenda.{Pending, in_order}
-use Rattle.ss_machine.specs.State.{State}
-use Rattle.ss_machine.specs.Frames.{frame_place}
+use Rattle.ss_state.specs.State.{State}
+use Rattle.ss_state.specs.Frames.{frame_place}
 use Rattle.ss_inspect.specs.Living.{living_numbers}
 use Rattle.ss_changes.specs.declared.part.Part.{Part}
 use Rattle.ss_changes.specs.declared.part.Part.TheVariants.{Global, Local, Attribute, Entity, Notice, Taken, Entry}

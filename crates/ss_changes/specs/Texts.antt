@@ -5,11 +5,11 @@ use Rattle.std.specs.Fmt.{signed_decimal}
 use Rattle.ss_program.specs.declared.kinds.Owner.{Owner}
 use Rattle.ss_program.specs.declared.kinds.Owner.TheVariants.{System, OwnedBy}
 use Rattle.ss_program.specs.Program.{ProgramTable, class_of, set_of}
-use Rattle.ss_machine.specs.declared.entry.Entry.{Entry}
-use Rattle.ss_machine.specs.declared.entry.Entry.TheVariants as entries
-use Rattle.ss_machine.specs.declared.limits.TheConstants.{LAST_POSITION}
-use Rattle.ss_machine.specs.State.{State}
-use Rattle.ss_machine.specs.Run.{Input, run}
+use Rattle.ss_state.specs.declared.entry.Entry.{Entry}
+use Rattle.ss_state.specs.declared.entry.Entry.TheVariants as entries
+use Rattle.ss_state.specs.declared.limits.TheConstants.{LAST_POSITION}
+use Rattle.ss_state.specs.State.{State}
+use Rattle.ss_state.specs.Run.{Input, run}
 use Rattle.ss_debug.specs.Move.{is_ready_at}
 use Rattle.ss_debug.specs.Answer.{earliest_word}
 use Rattle.ss_debug.specs.Entities.{members_text}

@@ -8,10 +8,10 @@ use Rattle.ss_program.specs.Program.{ProgramTable}
 use Rattle.ss_store.specs.declared.shape.SetShape.{SetShape}
 use Rattle.ss_store.specs.Store.{Store, exists, attribute_of, list_by}
 use Rattle.ss_events.specs.Agenda.{Pending, pending_at}
-use Rattle.ss_machine.specs.declared.entry.Entry.{Entry}
-use Rattle.ss_machine.specs.declared.entry.Entry.TheVariants as entries
-use Rattle.ss_machine.specs.State.{State}
-use Rattle.ss_machine.specs.Frames.{frame_local}
+use Rattle.ss_state.specs.declared.entry.Entry.{Entry}
+use Rattle.ss_state.specs.declared.entry.Entry.TheVariants as entries
+use Rattle.ss_state.specs.State.{State}
+use Rattle.ss_state.specs.Frames.{frame_local}
 use Rattle.ss_debug.specs.Entities.{shape_of}
 use Rattle.ss_changes.specs.declared.part.Part.{Part}
 use Rattle.ss_changes.specs.declared.part.Part.TheVariants as parts

@@ -1,9 +1,9 @@
 -- Where a debugger stands that looks at the states beside its own.
 use Rattle.std.specs.Prelude.{ℕ, ◌≡◌, ◌+◌, ◌-◌, ◌≤◌, List, [], ◌∷◌, ◌++◌, if◌then◌else◌}
 use Rattle.ss_program.specs.Program.{ProgramTable}
-use Rattle.ss_machine.specs.State.{State}
+use Rattle.ss_state.specs.State.{State}
 use Rattle.ss_machine.specs.Moment.{position}
-use Rattle.ss_machine.specs.Run.{run}
+use Rattle.ss_state.specs.Run.{run}
 use Rattle.ss_debug.specs.View.{DebuggerView}
 use Rattle.ss_changes.specs.declared.part.Part.{Part}
 use Rattle.ss_changes.specs.declared.change.Change.{Change}

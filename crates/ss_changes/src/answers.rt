@@ -11,7 +11,7 @@ use crate::stepping::go_back;
 use crate::texts::{push_all_changes, push_first_changes};
 use ss_debug::Debugger;
 use ss_links::SetBoard;
-use ss_machine::Stepped;
+use ss_state::Stepped;
 use std::alloc::{AllocError, Global};
 
 /// The word at an earliest kept position: `START` where that is 0, else `NOTHING KEPT`.

@@ -3,7 +3,7 @@ ghost use Rattle.std.specs.Prelude.{◌≡◌, ◌<◌, ◌-◌, length, map, If
 ghost use Rattle.ss_store.specs.Store.{members_of, attribute_of, exists};
 ghost use Rattle.ss_store.specs.Tables.{set_of};
 ghost use Rattle.ss_events.specs.Agenda.{pending_at};
-ghost use Rattle.ss_machine.specs.Frames.{frame_local};
+ghost use Rattle.ss_state.specs.Frames.{frame_local};
 ghost use Rattle.ss_debug.specs.Entities.{shape_of};
 ghost use Rattle.ss_changes.specs.declared.part.Part.TheVariants as parts;
 ghost use Rattle.ss_changes.specs.Values.{number_if, number_read, life_of, time_of, listed_in, value_in};

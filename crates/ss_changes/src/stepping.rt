@@ -5,7 +5,7 @@ ghost use Rattle.ss_changes.specs.View.{IsAt};
 
 use ss_debug::Debugger;
 use ss_links::SetBoard;
-use ss_machine::Stepped;
+use ss_state::Stepped;
 use std::alloc::AllocError;
 
 /// One step back, where a step is kept.

@@ -15,8 +15,9 @@ use crate::rows::local_names;
 use crate::value::{Members, PartValue};
 use ss_debug::{push_integer, push_number};
 use ss_links::SetBoard;
-use ss_machine::{Entry, Machine};
+use ss_machine::Machine;
 use ss_program::{Owner, Program, name_at};
+use ss_state::Entry;
 use std::alloc::{AllocError, Global};
 
 /// Appends a class and a number.

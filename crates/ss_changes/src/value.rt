@@ -3,7 +3,7 @@ ghost use Rattle.std.specs.Prelude.{◌≡◌, IfOk};
 ghost use Rattle.ss_changes.specs.Values.{is_same_entry, is_same, is_there, needs_both, is_told};
 
 use crate::part::Part;
-use ss_machine::Entry;
+use ss_state::Entry;
 use std::alloc::{AllocError, Global};
 use std::marker::Model;
 

@@ -1,7 +1,7 @@
 -- The bounds of movements, and what FORGET leaves.
 use Rattle.std.proofs.Common.{ℕ, ◌≤◌, refl, arith}
-use Rattle.ss_machine.specs.declared.limits.TheConstants.{LAST_POSITION}
-use Rattle.ss_machine.specs.Run.{Input}
+use Rattle.ss_state.specs.declared.limits.TheConstants.{LAST_POSITION}
+use Rattle.ss_state.specs.Run.{Input}
 use Rattle.ss_debug.specs.declared.limits.TheConstants.{GREATEST_BOUND}
 use Rattle.ss_debug.specs.Move.{MovementShape, forward, back, search_back}
 use Rattle.ss_debug.specs.Turn.{DebuggerState, end_of}

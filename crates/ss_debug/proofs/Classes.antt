@@ -3,9 +3,9 @@ use Rattle.std.proofs.Common.{ℕ, ◌<◌, length, arith}
 use Rattle.std.proofs.lemmas.Option.{slice_get_within}
 use Rattle.ss_program.specs.Program.{ProgramTable, class_of}
 use Rattle.ss_program.specs.ProgramSound.{IsSound}
-use Rattle.ss_machine.specs.State.{State}
-use Rattle.ss_machine.specs.Well.{IsWell}
-use Rattle.ss_machine.proofs.Sounds.{class_there}
+use Rattle.ss_state.specs.State.{State}
+use Rattle.ss_state.specs.Well.{IsWell}
+use Rattle.ss_state.proofs.Sounds.{class_there}
 
 -- the variable of a class of the table has a value
 pub class_variable_there : (p : ProgramTable) (s : State) (c : ℕ) → IsSound p → IsWell p s → c < length p.classes →

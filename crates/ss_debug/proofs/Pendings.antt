@@ -15,8 +15,8 @@ use Rattle.ss_events.specs.State.{Each}
 use Rattle.ss_events.specs.WellAgenda.{IsRising, IsWellAgenda}
 use Rattle.ss_events.proofs.OrderLaws.{Each-without, Each-map}
 use Rattle.ss_store.proofs.Core.{some_eq}
-use Rattle.ss_machine.specs.State.{State}
-use Rattle.ss_machine.specs.Run.{Input, run}
+use Rattle.ss_state.specs.State.{State}
+use Rattle.ss_state.specs.Run.{Input, run}
 use Rattle.ss_debug.specs.Answer.{notice_line, notice_lines, pending_text, events_text}
 
 -- ---- what holds of each pending notice holds of each in order

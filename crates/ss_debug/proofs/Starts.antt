@@ -1,7 +1,7 @@
 -- Event starts, seen from the states beside them.
 use Rattle.std.proofs.Common.{◌≡◌, ℕ, ◌+◌, ◌-◌, ◌<◌, Bool, true, ◌&&◌, nat_lt, length, refl, arith, rules}
-use Rattle.ss_machine.specs.State.{State}
-use Rattle.ss_machine.specs.Run.{Input, run}
+use Rattle.ss_state.specs.State.{State}
+use Rattle.ss_state.specs.Run.{Input, run}
 use Rattle.ss_debug.specs.Position.{frames_before}
 use Rattle.ss_debug.specs.Move.{runs_event, starts_event, is_behind_start, stops_back}
 

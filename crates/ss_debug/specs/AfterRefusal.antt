@@ -1,6 +1,6 @@
 -- The state in which a refusal of memory leaves the debugger.
 use Rattle.std.specs.Prelude.{ℕ, ◌≡◌, ◌≤◌}
-use Rattle.ss_machine.specs.Run.{Input}
+use Rattle.ss_state.specs.Run.{Input}
 use Rattle.ss_debug.specs.declared.commands.Command.{Command}
 use Rattle.ss_debug.specs.declared.commands.Command.TheVariants.{Move}
 use Rattle.ss_debug.specs.Move.{MovementShape, forward, back, search_back, shape_of}

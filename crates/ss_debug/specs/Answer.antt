@@ -12,12 +12,12 @@ use Rattle.ss_events.specs.declared.agenda.Slot.{Slot}
 use Rattle.ss_events.specs.Rules.{rules_of}
 use Rattle.ss_events.specs.Agenda.{Pending, in_order}
 use Rattle.ss_events.specs.Slots.{slot_of}
-use Rattle.ss_machine.specs.declared.entry.Entry.{Entry}
-use Rattle.ss_machine.specs.declared.entry.Entry.TheVariants.{Absent, Waiting, Running}
-use Rattle.ss_machine.specs.declared.status.Status.{Status}
-use Rattle.ss_machine.specs.declared.status.Status.TheVariants.{Ready, Stopped, Finished, Faulted}
-use Rattle.ss_machine.specs.Readings.{variable_in}
-use Rattle.ss_machine.specs.Run.{Input, run}
+use Rattle.ss_state.specs.declared.entry.Entry.{Entry}
+use Rattle.ss_state.specs.declared.entry.Entry.TheVariants.{Absent, Waiting, Running}
+use Rattle.ss_state.specs.declared.status.Status.{Status}
+use Rattle.ss_state.specs.declared.status.Status.TheVariants.{Ready, Stopped, Finished, Faulted}
+use Rattle.ss_state.specs.Readings.{variable_in}
+use Rattle.ss_state.specs.Run.{Input, run}
 use Rattle.ss_debug.specs.BreakLines.{is_break_line, is_full}
 use Rattle.ss_debug.specs.Move.{StopCondition, is_ready_at, has_come, line_at}
 

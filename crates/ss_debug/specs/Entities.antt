@@ -14,8 +14,8 @@ use Rattle.ss_store.specs.Tables as tables
 use Rattle.ss_store.specs.Tables.{tables_of}
 use Rattle.ss_store.specs.Store.{Store, number_of, exists, attribute_of, members_of}
 use Rattle.ss_store.specs.Filing.{walk_first, walk_last, count, predecessor, successor, membership}
-use Rattle.ss_machine.specs.State.{State}
-use Rattle.ss_machine.specs.Run.{Input, run}
+use Rattle.ss_state.specs.State.{State}
+use Rattle.ss_state.specs.Run.{Input, run}
 
 -- the class of this name
 abbrev pub class_named : ProgramTable → List ℕ → Option ℕ

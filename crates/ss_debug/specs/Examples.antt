@@ -6,11 +6,11 @@ use Rattle.ss_program.specs.declared.kinds.Owner.TheVariants.{System, OwnedBy}
 use Rattle.ss_program.specs.Program.{ClassTable, ProgramTable}
 use Rattle.ss_store.specs.Store.{Entity, Store}
 use Rattle.ss_events.specs.Agenda.{Pending, Agenda, empty_agenda}
-use Rattle.ss_machine.specs.declared.entry.Entry.TheVariants.{Absent}
-use Rattle.ss_machine.specs.declared.status.Status.TheVariants.{Ready}
-use Rattle.ss_machine.specs.State.{State, no_statistics}
+use Rattle.ss_state.specs.declared.entry.Entry.TheVariants.{Absent}
+use Rattle.ss_state.specs.declared.status.Status.TheVariants.{Ready}
+use Rattle.ss_state.specs.State.{State, no_statistics}
 use Rattle.ss_debug.specs.declared.commands.Command.{Command}
-use Rattle.ss_machine.specs.Run.{Input}
+use Rattle.ss_state.specs.Run.{Input}
 use Rattle.ss_debug.specs.Answer.{movement_text}
 use Rattle.ss_debug.specs.Command.{command_of}
 use Rattle.ss_debug.specs.Turn.{DebuggerState, debugger_state_after, answer}

@@ -1,7 +1,7 @@
 -- Laws on movements: each ends at exactly one position, within its bound; and on what FORGET leaves.
 use Rattle.std.specs.Prelude.{ℕ, ◌+◌, ◌-◌, min, Bool, ◌≡◌, ◌≤◌}
-use Rattle.ss_machine.specs.declared.limits.TheConstants.{LAST_POSITION}
-use Rattle.ss_machine.specs.Run.{Input}
+use Rattle.ss_state.specs.declared.limits.TheConstants.{LAST_POSITION}
+use Rattle.ss_state.specs.Run.{Input}
 use Rattle.ss_debug.specs.declared.limits.TheConstants.{GREATEST_BOUND}
 use Rattle.ss_debug.specs.Move.{StopCondition, MovementShape, forward, back, search_back}
 use Rattle.ss_debug.specs.Move.{forward_end, EndsAt, back_end, search_back_end, EndsBackAt}

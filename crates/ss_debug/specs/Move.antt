@@ -4,9 +4,9 @@ use Rattle.std.specs.Prelude.{Bool, true, false, not, ◌&&◌, ◌||◌, ◌⊎
 use Rattle.std.specs.Prelude.{List, length, codes, Option, Some, None}
 use Rattle.ss_program.specs.Program.{spot_at, section_of, is_event_section}
 use Rattle.ss_program.specs.declared.place.Spot.{Spot}
-use Rattle.ss_machine.specs.declared.limits.TheConstants.{LAST_POSITION}
-use Rattle.ss_machine.specs.State.{State, is_ready}
-use Rattle.ss_machine.specs.Run.{Input, run}
+use Rattle.ss_state.specs.declared.limits.TheConstants.{LAST_POSITION}
+use Rattle.ss_state.specs.State.{State, is_ready}
+use Rattle.ss_state.specs.Run.{Input, run}
 use Rattle.ss_debug.specs.declared.commands.Movement.{Movement}
 use Rattle.ss_debug.specs.declared.commands.Movement.TheVariants.{Step, Run, RunTo, Next, Back, BackEvent, BackBreak}
 use Rattle.ss_debug.specs.declared.limits.TheConstants.{GREATEST_BOUND}

@@ -1,6 +1,6 @@
 -- Where a machine stands, for the private functions that move it.
 use Rattle.std.specs.Prelude.{ℕ, ◌≡◌, ◌+◌, ◌-◌, length}
-use Rattle.ss_machine.specs.Run.{Input, run}
+use Rattle.ss_state.specs.Run.{Input, run}
 use Rattle.ss_machine.specs.Moment.{Moment, position}
 
 -- a machine holds state number p of the run of this program, and k steps are forgotten

@@ -1,7 +1,7 @@
 -- What the types of the code stand for.
 use Rattle.std.specs.Prelude.{ℕ, Bool, false, List, codes}
 use Rattle.ss_machine.specs.Moment.{Moment, position}
-use Rattle.ss_machine.specs.Run.{Input}
+use Rattle.ss_state.specs.Run.{Input}
 use Rattle.ss_debug.specs.declared.stop_condition.StopCondition.{StopCondition as StopChoice}
 use Rattle.ss_debug.specs.declared.stop_condition.Target.{Target}
 use Rattle.ss_debug.specs.declared.stop_condition.Target.TheVariants.{Nothing, BreakLine, EventStart}

@@ -6,8 +6,9 @@ ghost use Rattle.ss_debug.specs.Answer.{entry_text};
 
 use crate::text::push_number;
 use ss_links::SetBoard;
-use ss_machine::{Entry, Machine};
+use ss_machine::Machine;
 use ss_program::Program;
+use ss_state::Entry;
 use std::alloc::{AllocError, Global};
 
 /// The line of an entry of this class with this notice, and what is said of it.

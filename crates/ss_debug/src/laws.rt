@@ -15,9 +15,9 @@ ghost use Rattle.ss_debug.specs.Examples.{EachSays, debugger_at, Keeps, Moves, t
 ghost use Rattle.ss_debug.specs.Examples.{shop_entity_text, shop_list_text};
 ghost use Rattle.ss_events.specs.Rules.{rules_of};
 ghost use Rattle.ss_events.specs.Agenda.{empty_agenda, in_order};
-ghost use Rattle.ss_machine.specs.declared.entry.Entry.TheVariants.{Absent, Waiting, Running};
-ghost use Rattle.ss_machine.specs.declared.limits.TheConstants.{LAST_POSITION};
-ghost use Rattle.ss_machine.specs.Run.{Input};
+ghost use Rattle.ss_state.specs.declared.entry.Entry.TheVariants.{Absent, Waiting, Running};
+ghost use Rattle.ss_state.specs.declared.limits.TheConstants.{LAST_POSITION};
+ghost use Rattle.ss_state.specs.Run.{Input};
 ghost use Rattle.ss_debug.specs.declared.limits.TheConstants.{GREATEST_BOUND, GREATEST_KEPT};
 ghost use Rattle.ss_debug.specs.Move.{step_condition, run_condition, forward_end, search_back_end};
 ghost use Rattle.ss_debug.specs.Answer.{pending_text, entry_line, ready_word, search_back_word};

@@ -1,7 +1,7 @@
 //! Movements: forward, step by step, to where a condition is met, and back.
 ghost use Rattle.std.specs.Prelude.{◌≡◌, ◌+◌, ◌<◌, ◌≤◌, OnOk, OnErr, IfOk, MatchOption, true, ◌&&◌, nat_lt};
 ghost use Rattle.ss_machine.specs.Moment.{position};
-ghost use Rattle.ss_machine.specs.declared.limits.TheConstants.{LAST_POSITION};
+ghost use Rattle.ss_state.specs.declared.limits.TheConstants.{LAST_POSITION};
 ghost use Rattle.ss_debug.specs.Move.{is_ready_at, line_at, is_on_break, has_come, is_stop, forward_end};
 ghost use Rattle.ss_debug.specs.Move.{is_behind_start, runs_event, starts_event, back_end, search_back_end};
 ghost use Rattle.ss_debug.specs.Position.{IsAt, frames_before};
@@ -10,8 +10,9 @@ ghost use Rattle.ss_debug.specs.View.{condition_of, target_test};
 use crate::break_lines::BreakLines;
 use crate::stop_condition::{StopCondition, Target};
 use ss_links::SetBoard;
-use ss_machine::{LAST_POSITION, Machine, Status};
+use ss_machine::Machine;
 use ss_program::SectionKind;
+use ss_state::{LAST_POSITION, Status};
 use std::alloc::AllocError;
 
 /// Whether the next step runs a place.

@@ -17,8 +17,9 @@ use crate::name::Name;
 use crate::stop_condition::{StopCondition, Target};
 use itoa::Buffer;
 use ss_links::SetBoard;
-use ss_machine::{Machine, Status};
+use ss_machine::Machine;
 use ss_program::Variable;
+use ss_state::Status;
 use std::alloc::{AllocError, Global};
 
 /// Appends a number in least digits.

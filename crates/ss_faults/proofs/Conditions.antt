@@ -2,7 +2,7 @@
 use Rattle.std.proofs.Common.{◌≡◌, ◌≤◌, ◌<◌, ℕ, List, [], ◌∷◌, length, map, arith}
 use Rattle.ss_program.specs.Program.{ProgramTable}
 use Rattle.ss_program.specs.ProgramCondition.{Conjunction, any, conjunctions_of}
-use Rattle.ss_machine.specs.State.{State}
+use Rattle.ss_state.specs.State.{State}
 use Rattle.ss_faults.specs.declared.told.Told.{Told}
 use Rattle.ss_faults.specs.Missing.{condition_told, first_told}
 

@@ -29,10 +29,10 @@ use Rattle.ss_program.specs.declared.timing.Timing.TheVariants as timings
 use Rattle.ss_program.specs.declared.variable.Variable.TheVariants.{Global}
 use Rattle.ss_program.specs.Program.{ProgramTable, set_of}
 use Rattle.ss_program.specs.ProgramExpr.{Expr}
-use Rattle.ss_machine.specs.declared.entry.Entry.{Entry}
-use Rattle.ss_machine.specs.declared.entry.Entry.TheVariants.{Absent, Waiting, Running}
-use Rattle.ss_machine.specs.State.{State}
-use Rattle.ss_machine.specs.Readings.{variable_in}
+use Rattle.ss_state.specs.declared.entry.Entry.{Entry}
+use Rattle.ss_state.specs.declared.entry.Entry.TheVariants.{Absent, Waiting, Running}
+use Rattle.ss_state.specs.State.{State}
+use Rattle.ss_state.specs.Readings.{variable_in}
 use Rattle.ss_faults.specs.declared.told.Told.{Told}
 use Rattle.ss_faults.specs.declared.told.Told.TheVariants.{Value}
 use Rattle.ss_faults.specs.Readings.{told_of, subscript_told, at_entity, attribute_told}

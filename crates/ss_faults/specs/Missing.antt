@@ -36,7 +36,7 @@ use Rattle.ss_program.specs.ProgramExpr.{Expr}
 use Rattle.ss_program.specs.ProgramCondition.{Condition, any, no_conjunctions, or_else, Conjunction, all}
 use Rattle.ss_program.specs.ProgramCondition.{Relations, no_relations, and_also, Relation, compared, is_empty, is_in}
 use Rattle.ss_program.specs.ProgramCondition.{nested}
-use Rattle.ss_machine.specs.State.{State}
+use Rattle.ss_state.specs.State.{State}
 use Rattle.ss_faults.specs.declared.told.Told.{Told}
 use Rattle.ss_faults.specs.declared.told.Told.TheVariants.{Value, Untold, Missing, Unclear}
 use Rattle.ss_faults.specs.Readings.{told_of, subscript_told, both, at_entity, attribute_told, entity_told, owner_told}

@@ -23,8 +23,8 @@ use Rattle.ss_store.specs.Tables as tables
 use Rattle.ss_store.specs.Store.{number_of, exists, attribute_of}
 use Rattle.ss_store.specs.Filing.{walk_first, walk_last, count, predecessor, successor, membership}
 use Rattle.ss_values.specs.Values.{result_in_range, with_sign}
-use Rattle.ss_machine.specs.State.{State}
-use Rattle.ss_machine.specs.Readings.{variable_in}
+use Rattle.ss_state.specs.State.{State}
+use Rattle.ss_state.specs.Readings.{variable_in}
 use Rattle.ss_faults.specs.declared.told.Told.{Told}
 use Rattle.ss_faults.specs.declared.told.Told.TheVariants.{Value, Untold, Missing, Unclear}
 

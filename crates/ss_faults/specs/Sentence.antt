@@ -5,9 +5,9 @@ use Rattle.ss_words.specs.declared.fault.RunFault.{RunFault}
 use Rattle.ss_words.specs.Faults.{run_fault_number}
 use Rattle.ss_program.specs.declared.place.Spot.{Spot}
 use Rattle.ss_program.specs.Program.{ProgramTable, spot_at}
-use Rattle.ss_machine.specs.declared.status.Status.{Status}
-use Rattle.ss_machine.specs.declared.status.Status.TheVariants.{Ready, Stopped, Finished, Faulted}
-use Rattle.ss_machine.specs.State.{State}
+use Rattle.ss_state.specs.declared.status.Status.{Status}
+use Rattle.ss_state.specs.declared.status.Status.TheVariants.{Ready, Stopped, Finished, Faulted}
+use Rattle.ss_state.specs.State.{State}
 use Rattle.ss_sentences.specs.Wording.{fault_sentence}
 use Rattle.ss_faults.specs.declared.sentence.TheConstants.{LONGEST_LINE, CUT_MARK}
 use Rattle.ss_faults.specs.About.{about}

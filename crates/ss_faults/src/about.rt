@@ -12,11 +12,12 @@ use crate::texts::{
     push_class, push_counted, push_entity, push_missing, push_section, push_set, push_valued,
 };
 use ss_links::SetBoard;
-use ss_machine::{Entry, Machine};
+use ss_machine::Machine;
 use ss_program::{
     Begin, Expr, Filing, Looping, Making, Notice, Output, Phrase, Place, Position, SetRef, Timing,
     Variable, When,
 };
+use ss_state::Entry;
 use ss_words::RunFault;
 use std::alloc::AllocError;
 

@@ -8,8 +8,9 @@ use crate::reading::index_told;
 use crate::texts::push_integer;
 use crate::told::Told;
 use ss_links::SetBoard;
-use ss_machine::{Machine, Status};
+use ss_machine::Machine;
 use ss_program::{Looping, Owner, Phrase, Place, Program, SetRef};
+use ss_state::Status;
 use ss_words::RunFault;
 use std::alloc::AllocError;
 

@@ -2,7 +2,7 @@
 ghost use Rattle.std.specs.Prelude.{◌≡◌, pos};
 ghost use Rattle.ss_program.specs.ProgramExpr.{arguments_of, expr_of, factor_of, subscript_of, term_of};
 ghost use Rattle.ss_values.specs.Values.{result_in_range};
-ghost use Rattle.ss_machine.specs.Readings.{variable_in};
+ghost use Rattle.ss_state.specs.Readings.{variable_in};
 ghost use Rattle.ss_faults.specs.Readings as spec;
 
 use crate::told::Told;
@@ -168,7 +168,7 @@ fn signed_told(sign: Option<TermSign>, first: Told) -> Told
 pub fn expression_told<S: SetBoard>(machine: &Machine<S>, e: &Expr) -> Told
     ensures { result ≡ spec.told_of machine.now.input.program machine.now.state e.now }
 {
-    sum_told(machine, &e.sum)
+    sum_told(machine, e.sum())
 }
 
 #[cycle(told)]

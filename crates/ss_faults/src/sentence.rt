@@ -6,8 +6,9 @@ ghost use Rattle.ss_faults.specs.Sentence as spec;
 use crate::about::push_about;
 use crate::texts::push_number;
 use ss_links::SetBoard;
-use ss_machine::{Machine, Status};
+use ss_machine::Machine;
 use ss_sentences::fault_sentence;
+use ss_state::Status;
 use ss_words::RunFault;
 use std::alloc::{AllocError, Global};
 

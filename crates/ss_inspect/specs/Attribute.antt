@@ -5,8 +5,8 @@ use Rattle.std.specs.List.{slice_split, starts_with}
 use Rattle.ss_program.specs.Program.{ProgramTable}
 use Rattle.ss_program.specs.declared.variable.Variable.{Variable}
 use Rattle.ss_store.specs.Store.{Store, number_of, exists}
-use Rattle.ss_machine.specs.Readings.{variable_in}
-use Rattle.ss_machine.specs.Run.{Input, run}
+use Rattle.ss_state.specs.Readings.{variable_in}
+use Rattle.ss_state.specs.Run.{Input, run}
 use Rattle.ss_debug.specs.Answer.{variable_named}
 use Rattle.ss_debug.specs.CommandLines.{separates, line_separators}
 use Rattle.ss_debug.specs.Entities.{class_named, class_text, no_entity_text, entity_lines}

@@ -20,8 +20,8 @@ use Rattle.ss_program.specs.declared.timing.When.TheVariants.{At}
 use Rattle.ss_program.specs.declared.variable.Variable.TheVariants.{Global, Local}
 use Rattle.ss_program.specs.ProgramExpr.{expr, no_sums, sum, term, no_products, variable, digits, implied, at}
 use Rattle.ss_program.specs.Program.{ProgramTable, SectionTable}
-use Rattle.ss_machine.specs.Run.{Input, input_with}
-use Rattle.ss_machine.specs.Examples.{alone, number, job, queue, end_place, start_place, tick_of}
+use Rattle.ss_state.specs.Run.{Input, input_with}
+use Rattle.ss_state.specs.Examples.{alone, number, job, queue, end_place, start_place, tick_of}
 
 -- places, the first on this line and each on the line behind the one before it
 abbrev pub on_lines_from : ℕ → List Place → List Spot

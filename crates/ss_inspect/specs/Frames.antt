@@ -2,9 +2,9 @@
 use Rattle.std.specs.Prelude.{ℕ, ◌+◌, pos, List, [], ◌∷◌, ◌++◌, length, codes, decimal, Option, Some, None}
 use Rattle.std.specs.Prelude.{unwrap_or, if◌then◌else◌, nat_eq, slice_index_or}
 use Rattle.ss_program.specs.Program.{ProgramTable, section_of, spot_at}
-use Rattle.ss_machine.specs.State.{State}
-use Rattle.ss_machine.specs.Frames.{frame_place, frame_local}
-use Rattle.ss_machine.specs.Run.{Input, run}
+use Rattle.ss_state.specs.State.{State}
+use Rattle.ss_state.specs.Frames.{frame_place, frame_local}
+use Rattle.ss_state.specs.Run.{Input, run}
 use Rattle.ss_debug.specs.Move.{spot_line}
 use Rattle.ss_inspect.specs.Texts.{texts_below, lines_or, name_at, named_value}
 

@@ -8,8 +8,8 @@ use Rattle.ss_program.specs.Program.{ProgramTable, set_of}
 use Rattle.ss_store.specs.Store.{Store, number_of, exists, greatest_number, members_of}
 use Rattle.ss_events.specs.Agenda.{Pending, pending_at}
 use Rattle.ss_events.specs.Slots.{slot_of}
-use Rattle.ss_machine.specs.State.{State}
-use Rattle.ss_machine.specs.Run.{Input, run}
+use Rattle.ss_state.specs.State.{State}
+use Rattle.ss_state.specs.Run.{Input, run}
 use Rattle.ss_debug.specs.Answer.{notice_line}
 use Rattle.ss_debug.specs.Entities.{class_named, shape_of, no_entity_text, listed_text}
 use Rattle.ss_inspect.specs.Texts.{texts_below, no_such_text}

@@ -1,7 +1,7 @@
 -- Which entities of a class live.
 use Rattle.std.specs.Prelude.{ℕ, suc, List, [], ◌∷◌, ◌++◌, codes, Option, Some, None, if◌then◌else◌}
 use Rattle.ss_store.specs.Store.{Store, exists, greatest_number}
-use Rattle.ss_machine.specs.Run.{Input, run}
+use Rattle.ss_state.specs.Run.{Input, run}
 use Rattle.ss_debug.specs.Entities.{class_named, members_text}
 use Rattle.ss_inspect.specs.Texts.{texts_below, no_such_text}
 

@@ -10,7 +10,7 @@ use Rattle.ss_program.specs.declared.kinds.SectionKind.{SectionKind}
 use Rattle.ss_program.specs.declared.kinds.SectionKind.TheVariants.{Main, Routine, Event}
 use Rattle.ss_program.specs.Program.{ProgramTable, class_of, set_of, section_of}
 use Rattle.ss_store.specs.Store.{Store}
-use Rattle.ss_machine.specs.Run.{Input, run}
+use Rattle.ss_state.specs.Run.{Input, run}
 use Rattle.ss_inspect.specs.Texts.{texts_below, lines_or}
 use Rattle.ss_inspect.specs.Living.{living_numbers}
 

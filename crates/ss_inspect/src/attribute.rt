@@ -3,7 +3,7 @@ ghost use Rattle.std.specs.Prelude.{◌≡◌, ◌++◌, ◌<◌, OnOk};
 ghost use Rattle.std.specs.Option.{option_map};
 ghost use Rattle.ss_store.specs.Store.{number_of};
 ghost use Rattle.ss_machine.specs.Moment.{position};
-ghost use Rattle.ss_machine.specs.Readings.{variable_in};
+ghost use Rattle.ss_state.specs.Readings.{variable_in};
 ghost use Rattle.ss_debug.specs.Answer.{variable_named};
 ghost use Rattle.ss_debug.specs.Entities.{entity_lines};
 ghost use Rattle.ss_inspect.specs.Attribute.{tells, line_telling, line_or_none, told_text};

@@ -1,6 +1,6 @@
 //! The answers to SHOW CALLS, SHOW LOCALS and SHOW GLOBALS.
 ghost use Rattle.std.specs.Prelude.{◌≡◌, ◌++◌, ◌<◌, length, OnOk, pos, unwrap_or, slice_index_or};
-ghost use Rattle.ss_machine.specs.Frames.{frame_local};
+ghost use Rattle.ss_state.specs.Frames.{frame_local};
 ghost use Rattle.ss_machine.specs.Moment.{position};
 ghost use Rattle.ss_inspect.specs.Frames.{locals_in, local_text, listed_local, frame_line, frame_lines, calls_text};
 ghost use Rattle.ss_inspect.specs.Frames.{local_line, local_lines, locals_text};

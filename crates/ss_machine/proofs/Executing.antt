@@ -19,19 +19,19 @@ use Rattle.ss_store.specs.Store.{without_entity}
 use Rattle.ss_events.specs.Agenda.{Agenda, is_pending}
 use Rattle.ss_values.specs.Faults.{◌>>◌, refuse_if}
 use Rattle.ss_values.specs.Values.{value_of, subscript_value, number_value, FaultIs}
-use Rattle.ss_machine.specs.State.{State}
-use Rattle.ss_machine.specs.Held.{Held}
-use Rattle.ss_machine.specs.Readings.{readings}
-use Rattle.ss_machine.specs.Statements.{state_after_result, state_at_place, state_with_store, state_after_assignment}
-use Rattle.ss_machine.specs.Statements.{entity_named, state_with_value}
-use Rattle.ss_machine.specs.Statements.Entities.{number_asked, state_after_making, state_after_destroy}
-use Rattle.ss_machine.specs.Statements.Entities.{state_after_create}
-use Rattle.ss_machine.specs.Statements.Timing.{state_after_scheduling, state_after_new, state_after_arrival}
-use Rattle.ss_machine.specs.Statements.Timing.{attributes_now, state_with_attributes, state_with_notice, tie_attributes}
-use Rattle.ss_machine.specs.Statements.Timing.{state_with_agenda, agenda_without, state_after_cancel, arguments_asked}
-use Rattle.ss_machine.specs.Statements.Timing.{time_asked, state_after_notice, state_after_schedule}
+use Rattle.ss_state.specs.State.{State}
+use Rattle.ss_state.specs.Held.{Held}
+use Rattle.ss_state.specs.Readings.{readings}
+use Rattle.ss_state.specs.Statements.{state_after_result, state_at_place, state_with_store, state_after_assignment}
+use Rattle.ss_state.specs.Statements.{entity_named, state_with_value}
+use Rattle.ss_state.specs.Statements.Entities.{number_asked, state_after_making, state_after_destroy}
+use Rattle.ss_state.specs.Statements.Entities.{state_after_create}
+use Rattle.ss_state.specs.Statements.Timing.{state_after_scheduling, state_after_new, state_after_arrival}
+use Rattle.ss_state.specs.Statements.Timing.{attributes_now, state_with_attributes, state_with_notice, tie_attributes}
+use Rattle.ss_state.specs.Statements.Timing.{state_with_agenda, agenda_without, state_after_cancel, arguments_asked}
+use Rattle.ss_state.specs.Statements.Timing.{time_asked, state_after_notice, state_after_schedule}
 use Rattle.ss_machine.specs.declared.state.change.Change.{Change}
-use Rattle.ss_machine.specs.declared.entry.Entry.TheVariants.{Waiting}
+use Rattle.ss_state.specs.declared.entry.Entry.TheVariants.{Waiting}
 use Rattle.ss_machine.specs.Outcome.{LeadsTo, LeadsToOrRefuses, IsSettled}
 use Rattle.ss_machine.specs.Storing.{LeavesStore, IsRefused, IsCreating, IsMakingAll, IsScheduling, IsCancelling}
 

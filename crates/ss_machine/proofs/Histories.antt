@@ -1,6 +1,6 @@
 -- changes that are read from numbers
 use Rattle.std.proofs.Common.{◌≡◌, ℕ, zero, suc, List, [], ◌∷◌, ◌++◌, length, refl, ap, sym, ◌∙◌, subst, arith}
-use Rattle.ss_machine.specs.Change.{Change}
+use Rattle.ss_state.specs.Change.{Change}
 use Rattle.ss_machine.specs.declared.history.tape.Owned.{Owned}
 use Rattle.ss_machine.specs.declared.history.kinds.ChangeKind.{ChangeKind}
 use Rattle.ss_machine.specs.History.Kinds.{kind_of}

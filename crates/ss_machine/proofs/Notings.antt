@@ -2,9 +2,9 @@
 use Rattle.std.proofs.Common.{◌≡◌, ℕ, ◌+◌, ◌≤◌, List, [], ◌∷◌, length, arith, refl, ap, sym, subst, ◌∙◌}
 use Rattle.ss_journal.specs.Log.{Log}
 use Rattle.ss_journal.specs.Undoing.{unapply_all, FitsAll, WorkKeepsOrigin}
-use Rattle.ss_machine.specs.Change.{Change}
-use Rattle.ss_machine.specs.Change.{Fits, unapply}
-use Rattle.ss_machine.specs.Held.{Held}
+use Rattle.ss_state.specs.Change.{Change}
+use Rattle.ss_state.specs.Change.{Fits, unapply}
+use Rattle.ss_state.specs.Held.{Held}
 use Rattle.ss_machine.specs.declared.executor.Executor.{Executor}
 use Rattle.ss_machine.specs.Noting.{Notes}
 

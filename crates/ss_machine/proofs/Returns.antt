@@ -1,10 +1,10 @@
 -- the frame to which a RETURN comes back
 use Rattle.std.proofs.Common.{◌≡◌, List, length, subst, refl}
 use Rattle.ss_program.specs.Program.{ProgramTable}
-use Rattle.ss_machine.specs.State.{State, FrameState}
-use Rattle.ss_machine.specs.Well.{IsInBounds, IsWellFrame, AreWellFrames}
+use Rattle.ss_state.specs.State.{State, FrameState}
+use Rattle.ss_state.specs.Well.{IsInBounds, IsWellFrame, AreWellFrames}
 use Rattle.ss_machine.specs.Dropping.{HasDropped}
-use Rattle.ss_machine.specs.Moment.{yield_count, place_targets}
+use Rattle.ss_state.specs.ChangeCounts.{yield_count, place_targets}
 
 -- it is well-formed
 pub caller_well : (p : ProgramTable) (s t : State) → IsInBounds p s → HasDropped s t → IsWellFrame p t.frame

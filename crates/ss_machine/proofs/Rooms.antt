@@ -6,10 +6,10 @@ use Rattle.ss_program.specs.declared.timing.Timing.TheVariants.{Schedule, Cancel
 use Rattle.ss_program.specs.declared.ways.Ways.{Ways}
 use Rattle.ss_program.specs.Program.{ProgramTable, section_of}
 use Rattle.ss_program.specs.ProgramSound.{IsSound, IsTimed}
-use Rattle.ss_machine.specs.declared.limits.TheConstants.{MOST_STEP_CHANGES}
-use Rattle.ss_machine.specs.State.{State}
-use Rattle.ss_machine.specs.Moment.{most_changes, yield_count}
-use Rattle.ss_machine.proofs.Sounds.{few_yielded, few_arguments}
+use Rattle.ss_state.specs.declared.limits.TheConstants.{MOST_STEP_CHANGES}
+use Rattle.ss_state.specs.State.{State}
+use Rattle.ss_state.specs.ChangeCounts.{most_changes, yield_count}
+use Rattle.ss_state.proofs.Sounds.{few_yielded, few_arguments}
 
 -- RETURN and END note few
 pub control_room : (p : ProgramTable) (s : State) → IsSound p → 3 + yield_count p s.below ≤ MOST_STEP_CHANGES

@@ -14,14 +14,13 @@ use Rattle.ss_program.specs.ProgramSound.{Scope, IsSound, IsSoundPlace}
 use Rattle.ss_store.specs.declared.shape.ClassShape.{ClassShape}
 use Rattle.ss_store.specs.Tables.{tables_of, class_shape, set_shape, class_in}
 use Rattle.ss_store.specs.Tables as shapes
-use Rattle.ss_program.specs.declared.target.Target.TheVariants as targets
 use Rattle.ss_values.specs.Seen.{scope_of}
-use Rattle.ss_machine.specs.Held.{Held}
-use Rattle.ss_machine.specs.Readings.{readings}
+use Rattle.ss_state.specs.Held.{Held}
+use Rattle.ss_state.specs.Readings.{readings}
 use Rattle.ss_machine.specs.Seen.{InHeld}
-use Rattle.ss_machine.specs.Loops.{AreSoundWalks}
-use Rattle.ss_machine.specs.Well.{IsInBounds}
-use Rattle.ss_machine.proofs.Sounds.{scope_at, spot_sound}
+use Rattle.ss_state.specs.Loops.{AreSoundWalks}
+use Rattle.ss_state.specs.Well.{IsInBounds}
+use Rattle.ss_state.proofs.Sounds.{scope_at, spot_sound}
 
 -- ---- tables
 

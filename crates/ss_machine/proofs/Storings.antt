@@ -23,18 +23,18 @@ use Rattle.ss_events.specs.Changes as notices
 use Rattle.ss_events.specs.Changes.{Went, IsScheduled, after_scheduling}
 use Rattle.ss_values.specs.Faults.{◌>>◌}
 use Rattle.ss_values.specs.Values.{subscript_value, number_value}
-use Rattle.ss_machine.specs.State.{State}
-use Rattle.ss_machine.specs.Readings.{readings}
-use Rattle.ss_machine.specs.Statements.{state_after_result, state_at_place, state_with_store, state_with_value}
-use Rattle.ss_machine.specs.Statements.Filing.{which_at, state_after_file, state_after_remove, state_after_remove_end}
-use Rattle.ss_machine.specs.Statements.Timing.{state_with_agenda, state_with_notice}
+use Rattle.ss_state.specs.State.{State}
+use Rattle.ss_state.specs.Readings.{readings}
+use Rattle.ss_state.specs.Statements.{state_after_result, state_at_place, state_with_store, state_with_value}
+use Rattle.ss_state.specs.Statements.Filing.{which_at, state_after_file, state_after_remove, state_after_remove_end}
+use Rattle.ss_state.specs.Statements.Timing.{state_with_agenda, state_with_notice}
 use Rattle.ss_store.specs.Store.{Store, number_of}
 use Rattle.ss_store.specs.Value.{StoreValue}
 use Rattle.ss_store.specs.Change.{Leaves, IsOutcome, IsRemoval, IsMaking}
 use Rattle.ss_words.specs.Outcomes.{RefusesAs}
 use Rattle.ss_machine.specs.declared.state.change.Change.{Change}
 use Rattle.ss_machine.specs.declared.state.change.Change.TheVariants as c
-use Rattle.ss_machine.specs.Held.{Held, store_of, with_store, agenda_of, with_agenda}
+use Rattle.ss_state.specs.Held.{Held, store_of, with_store, agenda_of, with_agenda}
 use Rattle.ss_machine.specs.Storing.{LeavesStore, IsStoring, IsRemoving, IsRefused, IsMakingAll}
 use Rattle.ss_machine.specs.Storing.{LeavesState, IsScheduling}
 use Rattle.ss_machine.specs.Outcome.{LeadsTo, LeadsToOrRefuses, IsSettledOrRefused}

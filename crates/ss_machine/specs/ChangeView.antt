@@ -1,8 +1,8 @@
 -- Private: what the code notes of a change.
 use Rattle.ss_machine.specs.declared.state.change.Change.{Change as CodeChange}
 use Rattle.ss_machine.specs.declared.state.change.Change.TheVariants as code
-use Rattle.ss_machine.specs.Change.{Change, Variable, Local, Place, Clock, Store, Agenda, Taken, Report, Entry, Status}
-use Rattle.ss_machine.specs.Change.{LoopOpened, LoopMoved, LoopClosed, FrameOpened, FrameDropped, Found, Statistics}
+use Rattle.ss_state.specs.Change.{Change, Variable, Local, Place, Clock, Store, Agenda, Taken, Report, Entry, Status}
+use Rattle.ss_state.specs.Change.{LoopOpened, LoopMoved, LoopClosed, FrameOpened, FrameDropped, Found, Statistics}
 
 -- the change that the code notes
 abbrev pub as_change : CodeChange → Change

@@ -1,6 +1,6 @@
 -- Private: the last frame was dropped.
-use Rattle.std.specs.Prelude.{◌≡◌, List, ◌∷◌}
-use Rattle.ss_machine.specs.State.{State, FrameState}
+use Rattle.std.specs.Prelude.{◌≡◌, ◌∷◌}
+use Rattle.ss_state.specs.State.{State}
 
 -- the last frame was dropped
 pub record HasDropped (old new : State) : Type 0 where

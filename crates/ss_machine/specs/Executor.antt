@@ -4,8 +4,8 @@ use Rattle.ss_journal.specs.Undoing.{unapply_all}
 use Rattle.ss_store.specs.Tables.{Tables}
 use Rattle.ss_events.specs.Rules.{Rule}
 use Rattle.ss_machine.specs.declared.executor.Executor.{Executor}
-use Rattle.ss_machine.specs.State.{State}
-use Rattle.ss_machine.specs.Change.{unapply}
+use Rattle.ss_state.specs.State.{State}
+use Rattle.ss_state.specs.Change.{unapply}
 
 -- the state of its run
 abbrev pub state : {S : Type 0} → Executor S → State

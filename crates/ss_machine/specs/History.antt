@@ -11,12 +11,12 @@ use Rattle.ss_program.specs.declared.kinds.Owner.TheVariants as owners
 use Rattle.ss_store.specs.declared.change.StoreChange.{StoreChange}
 use Rattle.ss_store.specs.declared.change.StoreChange.TheVariants as stores
 use Rattle.ss_events.specs.declared.agenda.AgendaChange.TheVariants as notices
-use Rattle.ss_machine.specs.declared.entry.Entry.{Entry}
-use Rattle.ss_machine.specs.declared.entry.Entry.TheVariants as entry
+use Rattle.ss_state.specs.declared.entry.Entry.{Entry}
+use Rattle.ss_state.specs.declared.entry.Entry.TheVariants as entry
 use Rattle.ss_events.specs.declared.pending_notice.PendingNotice.{PendingNotice}
 use Rattle.ss_machine.specs.declared.history.tape.Tape.{Tape}
-use Rattle.ss_machine.specs.Change.{Change}
-use Rattle.ss_machine.specs.Change as changes
+use Rattle.ss_state.specs.Change.{Change}
+use Rattle.ss_state.specs.Change as changes
 use Rattle.ss_machine.specs.declared.state.change.Change.{Change as CodeChange}
 use Rattle.ss_machine.specs.ChangeView.{as_change}
 use Rattle.ss_machine.specs.declared.history.tape.Owned.{Owned}

@@ -1,7 +1,7 @@
 -- Private: how the chain of open loops is seen.
 use Rattle.std.specs.Prelude.{List, [], ◌∷◌, Option, Some, None}
 use Rattle.std.specs.Global.{Box}
-use Rattle.ss_machine.specs.Loops.{OpenLoop}
+use Rattle.ss_state.specs.Loops.{OpenLoop}
 use Rattle.ss_machine.specs.declared.state.loops.Node.{Node, Node', Held-Node-outer, None', Some'}
 
 -- the loops of a chain, the innermost first

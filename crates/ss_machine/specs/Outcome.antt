@@ -4,8 +4,8 @@ use Rattle.ss_words.specs.declared.fault.RunFault.{RunFault}
 use Rattle.ss_words.specs.declared.fault.StepFault.{StepFault}
 use Rattle.ss_words.specs.declared.fault.StepFault.TheVariants.{Fault, Memory}
 use Rattle.ss_values.specs.Values.{FaultIs}
-use Rattle.ss_machine.specs.declared.status.Status.TheVariants.{Faulted}
-use Rattle.ss_machine.specs.State.{State}
+use Rattle.ss_state.specs.declared.status.Status.TheVariants.{Faulted}
+use Rattle.ss_state.specs.State.{State}
 
 -- a call that may fault led to what is wanted, or gave the wanted fault
 abbrev pub LeadsTo : {A B : Type 0} → Result A RunFault → Result B RunFault → B → Type 0

@@ -1,19 +1,25 @@
 -- Private: what every machine keeps.
-use Rattle.std.specs.Prelude.{◌≡◌, ℕ, ◌+◌, ◌≤◌, List, [], length}
+use Rattle.std.specs.Prelude.{◌≡◌, ℕ, zero, suc, ◌+◌, ◌≤◌, List, [], length}
 use Rattle.ss_journal.specs.Log.{Log}
 use Rattle.ss_journal.specs.Undoing.{StepsLeadBack}
 use Rattle.ss_program.specs.ProgramSound.{IsSound}
 use Rattle.ss_store.specs.Tables.{tables_of}
 use Rattle.ss_events.specs.Rules.{rules_of}
-use Rattle.ss_machine.specs.declared.limits.TheConstants.{LAST_POSITION}
-use Rattle.ss_machine.specs.Held.{Held}
-use Rattle.ss_machine.specs.Well.{AreItemsInRange}
-use Rattle.ss_machine.specs.Change.{Change, unapply, Fits}
-use Rattle.ss_machine.specs.Run.{Input, run}
+use Rattle.ss_state.specs.declared.limits.TheConstants.{LAST_POSITION}
+use Rattle.ss_state.specs.Held.{Held}
+use Rattle.ss_state.specs.Well.{AreItemsInRange}
+use Rattle.ss_state.specs.Change.{Change, unapply, Fits}
+use Rattle.ss_state.specs.declared.status.Status.TheVariants.{Ready}
+use Rattle.ss_state.specs.Run.{Input, run}
 
 -- changes that fit and lead back through the states of a run, the first of them to its state number a
 abbrev pub LeadsBack : Input → ℕ → List (List Change) → Held → Type 0
 LeadsBack input a steps held = StepsLeadBack Fits unapply (λ g. g.state) (λ k. run input (a + k)) steps held
+
+-- the states of a run before its state number p are ready: the run went on from each
+abbrev pub WentOn : Input → ℕ → Type 0
+WentOn input zero = Unit {0}
+WentOn input (suc p) = ((run input p).status ≡ Ready) × WentOn input p
 
 -- what every machine keeps
 pub record Stands (input : Input) (forgotten : ℕ) (held : Held) (log : Log Change) : Type 0 where
@@ -27,6 +33,8 @@ pub record Stands (input : Input) (forgotten : ℕ) (held : Held) (log : Log Cha
   pub here : held.state ≡ run input (forgotten + length log.steps)
   -- which is not past the last one
   pub within : forgotten + length log.steps ≤ LAST_POSITION
+  -- the run went on up to it
+  pub went : WentOn input (forgotten + length log.steps)
   -- beside the state stand the tables of the program's classes and sets
   pub tables : held.beside.tables ≡ tables_of input.program
   -- and the order of its notices

@@ -7,11 +7,11 @@ use Rattle.ss_store.specs.Store.{Store, last_reference}
 use Rattle.ss_events.specs.Agenda.{Agenda}
 use Rattle.ss_machine.specs.declared.state.change.Change.{Change}
 use Rattle.ss_machine.specs.ChangeView.{as_change}
-use Rattle.ss_machine.specs.Held.{Held}
-use Rattle.ss_machine.specs.Change.{unapply, Fits}
-use Rattle.ss_machine.specs.State.{State}
-use Rattle.ss_machine.specs.Statements.{state_with_store}
-use Rattle.ss_machine.specs.Statements.Timing.{state_with_agenda}
+use Rattle.ss_state.specs.Held.{Held}
+use Rattle.ss_state.specs.Change.{unapply, Fits}
+use Rattle.ss_state.specs.State.{State}
+use Rattle.ss_state.specs.Statements.{state_with_store}
+use Rattle.ss_state.specs.Statements.Timing.{state_with_agenda}
 
 -- a change of the store was made
 pub record LeavesStore (change : Change) (store : Store) (old new : Held) : Type 0 where

@@ -5,7 +5,7 @@ use Rattle.ss_machine.specs.declared.state.loops.Walk.{Walk as CodeWalk}
 use Rattle.ss_machine.specs.declared.state.loops.Walk.TheVariants as walks
 use Rattle.ss_machine.specs.declared.statements.looping.verdict.Verdict.{Verdict as CodeVerdict}
 use Rattle.ss_machine.specs.declared.statements.looping.verdict.Verdict.TheVariants as verdicts
-use Rattle.ss_machine.specs.Loops.{Walk, Numbers, Members, Verdict, Runs, Passes, Closes}
+use Rattle.ss_state.specs.Loops.{Walk, Numbers, Members, Verdict, Runs, Passes, Closes}
 
 -- what a loop goes through, as the code says it
 abbrev pub as_walk : CodeWalk → Walk

@@ -10,22 +10,20 @@ ghost use Rattle.ss_links.specs.Board.{empty_board};
 ghost use Rattle.ss_store.specs.Tables.{tables_of};
 ghost use Rattle.ss_events.specs.Rules.{rules_of};
 ghost use Rattle.ss_machine.specs.Executor.{rules, state, state_before, tables};
-ghost use Rattle.ss_machine.specs.Change.{Fits, unapply};
+ghost use Rattle.ss_state.specs.Change.{Fits, unapply};
 ghost use Rattle.ss_machine.specs.Noting.{Notes};
 ghost use Rattle.ss_machine.specs.Outcome.{LeadsTo, IsMarked, IsSettled, IsSettledOrRefused};
-ghost use Rattle.ss_machine.specs.Moment.{most_changes, change_bound};
+ghost use Rattle.ss_state.specs.ChangeCounts.{most_changes, change_bound};
 ghost use Rattle.ss_machine.specs.Seen.{InHeld, scope_held};
-ghost use Rattle.ss_machine.specs.Statements.{state_after_assignment, state_with_value, state_at_place};
-ghost use Rattle.ss_machine.specs.Statements.{state_with_values};
-ghost use Rattle.ss_machine.specs.Step.{step, step_at};
-ghost use Rattle.ss_machine.specs.Run.{start};
-ghost use Rattle.ss_machine.specs.Well.{IsInBounds};
+ghost use Rattle.ss_state.specs.Statements.{state_after_assignment, state_with_value, state_at_place};
+ghost use Rattle.ss_state.specs.Statements.{state_with_values};
+ghost use Rattle.ss_state.specs.Step.{step, step_at};
+ghost use Rattle.ss_state.specs.Run.{start};
+ghost use Rattle.ss_state.specs.Well.{IsInBounds};
 
 use crate::history::History;
-use crate::limits::MOST_STEP_CHANGES;
 use crate::state::State;
 use crate::statements::looping::looping_room;
-use crate::status::Status;
 use ss_data::Feed;
 use ss_journal::Undo;
 use ss_links::SetBoard;
@@ -33,6 +31,7 @@ use ss_program::{
     Assign, Branch, Call, Control, Filing, Looping, Making, Output, Place, Program, Spot, Target,
     Targets, Variable, Ways,
 };
+use ss_state::{MOST_STEP_CHANGES, Status};
 use ss_values::{subscript_value, value, values};
 use ss_words::{RunFault, StepFault};
 use std::alloc::{AllocError, Global};

@@ -31,7 +31,7 @@ pub struct History {
 impl Model for History {
     ghost use Rattle.std.specs.Prelude.{◌∷◌, min};
     ghost use Rattle.ss_journal.specs.Log.{Log};
-    ghost use Rattle.ss_machine.specs.Change.{Change};
+    ghost use Rattle.ss_state.specs.Change.{Change};
     ghost use Rattle.ss_machine.specs.History.{changes_of, steps_of, change_room, AreWritten};
 
     ghost Value = { Log Change };

@@ -5,20 +5,11 @@
 //! back restores the state before it, whole.
 #![tactic(auto)]
 
-mod entry;
 mod examples;
 mod executor;
 mod history;
-pub mod laws;
-mod limits;
 mod machine;
 mod state;
 mod statements;
-mod status;
-mod stepped;
 
-pub use entry::Entry;
-pub use limits::{LAST_POSITION, MOST_STEP_CHANGES};
 pub use machine::Machine;
-pub use status::Status;
-pub use stepped::Stepped;

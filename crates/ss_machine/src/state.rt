@@ -16,26 +16,24 @@ ghost use Rattle.ss_values.specs.Seen.{scope_of, view_readings};
 ghost use Rattle.ss_links.specs.Board.{empty_board};
 ghost use Rattle.ss_store.specs.Tables.{tables_of};
 ghost use Rattle.ss_events.specs.Rules.{rules_of};
-ghost use Rattle.ss_machine.specs.Held.{store_of, agenda_of};
-ghost use Rattle.ss_machine.specs.Readings.{readings, variable_in, HasVariable};
-ghost use Rattle.ss_machine.specs.Statements.{state_after_assignment};
-ghost use Rattle.ss_machine.specs.Run.{start};
-ghost use Rattle.ss_machine.specs.Change.{Fits, unapply};
+ghost use Rattle.ss_state.specs.Held.{store_of, agenda_of};
+ghost use Rattle.ss_state.specs.Readings.{readings, variable_in, HasVariable};
+ghost use Rattle.ss_state.specs.Statements.{state_after_assignment};
+ghost use Rattle.ss_state.specs.Run.{start};
+ghost use Rattle.ss_state.specs.Change.{Fits, unapply};
 ghost use Rattle.ss_machine.specs.ChangeView.{as_change};
 ghost use Rattle.ss_program.specs.declared.variable.Variable.TheVariants as variable;
 
-use crate::entry::Entry;
-use crate::limits::MOST_BELOW;
 use crate::state::change::Change;
 use crate::state::frame::{Frame, FrameBox};
 use crate::state::statistics::Statistics;
-use crate::status::Status;
 use ss_data::Feed;
 use ss_events::Agenda;
 use ss_journal::Undo;
 use ss_links::SetBoard;
 use ss_program::{Program, Variable};
 use ss_report::Report;
+use ss_state::{Entry, MOST_BELOW, Status};
 use ss_store::Store;
 use ss_values::View;
 use std::alloc::{AllocError, Global};
@@ -59,8 +57,8 @@ pub struct State<S: SetBoard> {
 
 impl<S: SetBoard> Model for State<S> {
     ghost use Rattle.std.specs.Prelude.{reverse, ◌≤◌, vec_capacity};
-    ghost use Rattle.ss_machine.specs.declared.limits.TheConstants.{MOST_BELOW};
-    ghost use Rattle.ss_machine.specs.Held.{Held};
+    ghost use Rattle.ss_state.specs.declared.limits.TheConstants.{MOST_BELOW};
+    ghost use Rattle.ss_state.specs.Held.{Held};
 
     ghost Value = { Held };
 

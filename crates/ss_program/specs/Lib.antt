@@ -14,3 +14,4 @@ pub mod Match
 pub mod Nesting
 pub mod Pairings
 pub mod CountMap
+pub mod Lowering

@@ -1,22 +1,65 @@
+ghost use Rattle.std.specs.Prelude.{◌≡◌, IfOk};
+ghost use Rattle.ss_program.specs.ProgramExpr.{expr_of};
+ghost use Rattle.ss_program.specs.Lowering.{code_of};
+
+use crate::lowering::{is_plain, lower_sum};
+use crate::op::Op;
 use crate::sum::Sum;
+use std::alloc::{AllocError, Global};
 use std::marker::Model;
 
-/// An expression of a place. Contracts see it as the tree of its text, with variables in place of
-/// names.
+/// An expression of a place, with its operations where it is linear. Contracts see it as the tree of
+/// its text, with variables in place of names.
 #[derive(Drop)]
 pub struct Expr {
-    pub sum: Sum,
+    sum: Sum,
+    // No operations where the tree is to be read.
+    code: Vec<Op>,
 }
 
 impl Model for Expr {
+    ghost use Rattle.std.specs.Prelude.{◌≡◌};
     ghost use Rattle.ss_program.specs.ProgramExpr.{Expr as Tree, expr_of};
     ghost use Rattle.ss_program.specs.ProgramExprCode.{expr_code};
+    ghost use Rattle.ss_program.specs.Lowering.{code_of};
 
     ghost Value = { Tree };
 
     ghost coded = { expr_code };
 
     ghost view = { λ a. expr_of a.sum };
+
+    ghost invariant = { λ a. a.code.items ≡ code_of (expr_of a.sum) };
+}
+
+impl Expr {
+    /// The expression of a tree.
+    pub fn new(alloc: Global, sum: Sum) -> Result<Expr, AllocError>
+        ensures { IfOk result (λ e. e ≡ expr_of sum) }
+    {
+        let mut code = Vec::new(alloc);
+        if !is_plain(&sum) && !lower_sum(&mut code, &sum)? {
+            code.clear();
+        }
+        Ok(Expr { sum, code })
+    }
+
+    /// The tree.
+    #[inline(always)]
+    pub fn sum(&self) -> &Sum
+        ensures { expr_of result.now ≡ self.now }
+    {
+        &self.sum
+    }
+
+    /// The operations that have the same value. There are none where the expression is not linear,
+    /// or is a number or a variable alone, which is read from the tree faster.
+    #[inline(always)]
+    pub fn code(&self) -> &[Op]
+        ensures { result.now ≡ code_of self.now }
+    {
+        &self.code
+    }
 }
 
 /// The expressions of a list, in order.

@@ -1,7 +1,7 @@
 -- Lines that are all commands of docs/DEBUGGER.md, at the prompt.
 use Rattle.std.proofs.Common.{◌≡◌, Bool, true, false, ℕ, List, [], ◌∷◌, ◌++◌, map, refl, ◌∙◌, ap}
 use Rattle.std.specs.Prelude.{if◌then◌else◌}
-use Rattle.ss_machine.specs.Run.{Input}
+use Rattle.ss_state.specs.Run.{Input}
 use Rattle.ss_debug.specs.declared.commands.Command.{Command}
 use Rattle.ss_debug.specs.Command.{command_of}
 use Rattle.ss_debug.specs.Turn.{DebuggerState, debugger_state_after, debugger_state_after_lines}

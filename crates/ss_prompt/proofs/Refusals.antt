@@ -1,7 +1,7 @@
 -- A state line of its parts.
 use Rattle.std.proofs.Common.{◌≡◌, ℕ, List, [], ◌∷◌, ◌++◌, ap, ◌∙◌, sym, append_assoc, append-nil, codes, decimal}
 use Rattle.std.specs.Fmt.{signed_decimal}
-use Rattle.ss_machine.specs.Run.{Input, run}
+use Rattle.ss_state.specs.Run.{Input, run}
 use Rattle.ss_debug.specs.Answer.{status_text, section_at, moment_text, place_text, state_line}
 use Rattle.ss_debug.specs.Move.{line_at}
 use Rattle.ss_prompt.specs.Refusal.{refusal_at, refusal_with}

@@ -1,7 +1,7 @@
 -- What the history tells, of a change that is found and of one that is not.
 use Rattle.std.proofs.Common.{◌≡◌, ◌++◌, ℕ, List, Option, Some, None, refl, true, false}
 use Rattle.std.specs.Prelude.{codes, is_some}
-use Rattle.ss_machine.specs.Run.{Input}
+use Rattle.ss_state.specs.Run.{Input}
 use Rattle.ss_trace.specs.History.{why_head, why_line}
 use Rattle.ss_prompt.specs.Past.{end_text, list_change_text, no_end_text, no_list_change_text}
 

@@ -2,7 +2,7 @@
 -- that
 -- a loop names changed.
 use Rattle.std.specs.Prelude.{ℕ, ◌≡◌, nat_lt, ◌⊎◌, List, [], ◌++◌, codes, decimal, if◌then◌else◌, Option, Some, None}
-use Rattle.ss_machine.specs.Run.{Input, run}
+use Rattle.ss_state.specs.Run.{Input, run}
 use Rattle.ss_debug.specs.declared.commands.Question.TheVariants.{Entity, Set}
 use Rattle.ss_debug.specs.Answer.{state_line}
 use Rattle.ss_debug.specs.CommandLines.{command_words}

@@ -1,7 +1,7 @@
 -- What is answered where memory was refused.
 use Rattle.std.specs.Prelude.{ℕ, List, [], ◌∷◌, ◌++◌, codes, decimal}
 use Rattle.std.specs.Fmt.{signed_decimal}
-use Rattle.ss_machine.specs.Run.{Input, run}
+use Rattle.ss_state.specs.Run.{Input, run}
 use Rattle.ss_debug.specs.Answer.{state_line, section_at}
 use Rattle.ss_debug.specs.Move.{line_at}
 

@@ -1,7 +1,7 @@
 -- What SHOW tells beside questions.
 use Rattle.std.specs.Prelude.{ℕ, Bool, ◌||◌, List, [], ◌∷◌, codes, Option, Some, None, if◌then◌else◌}
 use Rattle.std.specs.Str.{bytes_eq}
-use Rattle.ss_machine.specs.Run.{Input}
+use Rattle.ss_state.specs.Run.{Input}
 use Rattle.ss_inspect.specs.Frames.{calls_text, locals_text, globals_text}
 use Rattle.ss_inspect.specs.Tables.{classes_text, sets_text, sections_text}
 use Rattle.ss_inspect.specs.Living.{living_text}

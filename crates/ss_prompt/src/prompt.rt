@@ -1,6 +1,6 @@
 //! The debugger answers the lines of a dialogue.
 ghost use Rattle.std.specs.Prelude.{◌≡◌, ◌++◌, [], map, OnOk};
-ghost use Rattle.ss_machine.specs.Run.{run};
+ghost use Rattle.ss_state.specs.Run.{run};
 ghost use Rattle.ss_debug.specs.View.{debugger_state_of};
 ghost use Rattle.ss_prompt.specs.PromptState.{prompt_state_of, greeting};
 ghost use Rattle.ss_prompt.specs.Prompting.{prompt_meaning};
@@ -11,7 +11,7 @@ use crate::refusal::put_refusal_at;
 use ss_console::{Answerer, Console, Go, PutFault};
 use ss_debug::Debugger;
 use ss_links::SetBoard;
-use ss_machine::Status;
+use ss_state::Status;
 use std::alloc::{AllocError, Global};
 use std::marker::Model;
 

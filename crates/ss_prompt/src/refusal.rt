@@ -11,7 +11,8 @@ use crate::sections::present_line;
 use itoa::Buffer;
 use ss_console::{Console, PutFault, put_texts};
 use ss_links::SetBoard;
-use ss_machine::{Machine, Status};
+use ss_machine::Machine;
+use ss_state::Status;
 
 /// Writes that memory was refused, and a state line of its parts.
 fn put_parts<'a, C: Console>(

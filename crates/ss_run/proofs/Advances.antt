@@ -1,14 +1,14 @@
 use Rattle.std.proofs.Common.{◌≡◌, ◌≢◌, ℕ, ◌+◌, ◌<◌, ◌≤◌, ◌∙◌, ◌⊎◌, inl, inr, Bool, true, false, nat_lt, refl, arith}
 use Rattle.std.proofs.Common.{List, [], ◌++◌}
 use borrow.Author.Tests.{ltb-true, ltb-false}
-use Rattle.ss_machine.specs.declared.limits.TheConstants.{LAST_POSITION}
-use Rattle.ss_machine.specs.declared.status.Status.{Status}
-use Rattle.ss_machine.specs.declared.status.Status.TheVariants.{Ready, Stopped, Finished, Faulted}
-use Rattle.ss_machine.specs.declared.stepped.Stepped.{Stepped}
-use Rattle.ss_machine.specs.declared.stepped.Stepped.TheVariants.{Moved, AtEnd}
+use Rattle.ss_state.specs.declared.limits.TheConstants.{LAST_POSITION}
+use Rattle.ss_state.specs.declared.status.Status.{Status}
+use Rattle.ss_state.specs.declared.status.Status.TheVariants.{Ready, Stopped, Finished, Faulted}
+use Rattle.ss_state.specs.declared.stepped.Stepped.{Stepped}
+use Rattle.ss_state.specs.declared.stepped.Stepped.TheVariants.{Moved, AtEnd}
 use Rattle.ss_machine.specs.Moment.{Moment, position, HasMoved, Steps}
-use Rattle.ss_machine.specs.State.{is_ready}
-use Rattle.ss_machine.specs.Run.{run}
+use Rattle.ss_state.specs.State.{is_ready}
+use Rattle.ss_state.specs.Run.{run}
 use Rattle.ss_debug.specs.Move.{is_ready_at}
 use Rattle.ss_debug.specs.declared.commands.Command.TheVariants.{Show}
 use Rattle.ss_debug.specs.declared.commands.Question.TheVariants.{Where}

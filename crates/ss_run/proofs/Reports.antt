@@ -1,7 +1,7 @@
 use Rattle.std.proofs.Common.{◌≡◌, ℕ, List, inl, inr, refl, Result, Ok, Err}
 use Rattle.std.specs.Prelude.{⊤}
 use Rattle.ss_program.specs.Program.{ProgramTable}
-use Rattle.ss_machine.specs.Run.{input_with}
+use Rattle.ss_state.specs.Run.{input_with}
 use Rattle.ss_session.specs.declared.load.LoadFault.{LoadFault}
 use Rattle.ss_session.specs.declared.load.LoadFault.TheVariants as load
 use Rattle.ss_run.specs.declared.whole_run.RunEnd.{RunEnd}

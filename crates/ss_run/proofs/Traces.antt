@@ -8,10 +8,10 @@ use Rattle.std.specs.Io.KnownBytes.{Appends}
 use Rattle.std.specs.declared.vec.Vec.{Vec}
 use Rattle.std.specs.Global.{Global}
 use Rattle.ss_program.specs.Program.{ProgramTable}
-use Rattle.ss_machine.specs.declared.limits.TheConstants.{LAST_POSITION}
-use Rattle.ss_machine.specs.declared.stepped.Stepped.TheVariants.{Moved}
+use Rattle.ss_state.specs.declared.limits.TheConstants.{LAST_POSITION}
+use Rattle.ss_state.specs.declared.stepped.Stepped.TheVariants.{Moved}
 use Rattle.ss_machine.specs.Moment.{Moment, position}
-use Rattle.ss_machine.specs.Run.{Input, input_with}
+use Rattle.ss_state.specs.Run.{Input, input_with}
 use Rattle.ss_debug.specs.Move.{is_ready_at}
 use Rattle.ss_trace.specs.declared.question.Question.{Question}
 use Rattle.ss_trace.specs.Question.{answer_at}

@@ -3,11 +3,11 @@ use Rattle.std.specs.Prelude.{ℕ, ◌+◌, ◌<◌, ◌≤◌, ◌≡◌, ◌�
 use Rattle.std.specs.Io.KnownBytes.{Appends}
 use Rattle.ss_words.specs.Faults.{text_rule_code}
 use Rattle.ss_check.specs.CheckRules.{check_rule_code}
-use Rattle.ss_machine.specs.declared.limits.TheConstants.{LAST_POSITION}
-use Rattle.ss_machine.specs.declared.stepped.Stepped.{Stepped}
-use Rattle.ss_machine.specs.declared.stepped.Stepped.TheVariants.{Moved, AtEnd}
+use Rattle.ss_state.specs.declared.limits.TheConstants.{LAST_POSITION}
+use Rattle.ss_state.specs.declared.stepped.Stepped.{Stepped}
+use Rattle.ss_state.specs.declared.stepped.Stepped.TheVariants.{Moved, AtEnd}
 use Rattle.ss_machine.specs.Moment.{Moment, position}
-use Rattle.ss_machine.specs.Run.{Input, run}
+use Rattle.ss_state.specs.Run.{Input, run}
 use Rattle.ss_debug.specs.Move.{is_ready_at}
 use Rattle.ss_session.specs.declared.load.LoadFault.{LoadFault}
 use Rattle.ss_session.specs.declared.load.LoadFault.TheVariants as load

@@ -3,7 +3,7 @@ use Rattle.std.specs.Prelude.{ℕ, ◌-◌, List, ◌∷◌, [], ◌++◌, lengt
 use Rattle.std.specs.Prelude.{zero, suc, if◌then◌else◌}
 use Rattle.std.specs.List.{before_first, after_first}
 use Rattle.ss_program.specs.Program.{ProgramTable}
-use Rattle.ss_machine.specs.State.{State}
+use Rattle.ss_state.specs.State.{State}
 use Rattle.ss_debug.specs.CommandLines.{separates, line_separators}
 use Rattle.ss_sentences.specs.Wording.{rule_sentence}
 use Rattle.ss_faults.specs.Sentence.{fault_text}

@@ -6,9 +6,9 @@ use Rattle.ss_words.specs.Faults.{text_rule_code}
 use Rattle.ss_check.specs.declared.fault.CheckRule.{CheckRule}
 use Rattle.ss_check.specs.CheckRules.{check_rule_code}
 use Rattle.ss_program.specs.Program.{ProgramTable}
-use Rattle.ss_machine.specs.declared.limits.TheConstants.{LAST_POSITION}
-use Rattle.ss_machine.specs.State.{is_faulted}
-use Rattle.ss_machine.specs.Run.{Input, run, input_with}
+use Rattle.ss_state.specs.declared.limits.TheConstants.{LAST_POSITION}
+use Rattle.ss_state.specs.State.{is_faulted}
+use Rattle.ss_state.specs.Run.{Input, run, input_with}
 use Rattle.ss_debug.specs.Move.{is_ready_at}
 use Rattle.ss_debug.specs.Answer.{state_line}
 use Rattle.ss_run.specs.declared.whole_run.RunEnd.{RunEnd}

@@ -7,8 +7,8 @@ use Rattle.std.specs.Fmt.{signed_decimal}
 use Rattle.std.specs.Io.KnownBytes.{Appends}
 use Rattle.csv.specs.Writing.{default_writer, row_text}
 use Rattle.ss_program.specs.Program.{ProgramTable}
-use Rattle.ss_machine.specs.declared.limits.TheConstants.{LAST_POSITION}
-use Rattle.ss_machine.specs.Run.{Input, run, input_with}
+use Rattle.ss_state.specs.declared.limits.TheConstants.{LAST_POSITION}
+use Rattle.ss_state.specs.Run.{Input, run, input_with}
 use Rattle.ss_debug.specs.Move.{is_ready_at, line_at}
 use Rattle.ss_debug.specs.Answer.{section_at}
 use Rattle.ss_trace.specs.declared.question.Question.{Question}

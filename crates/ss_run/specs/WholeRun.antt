@@ -4,7 +4,7 @@ use Rattle.ss_words.specs.declared.fault.TextRule.{TextRule}
 use Rattle.ss_check.specs.declared.fault.CheckRule.{CheckRule}
 use Rattle.ss_check.specs.CheckRules.{check_rule_code}
 use Rattle.ss_program.specs.Program.{ProgramTable}
-use Rattle.ss_machine.specs.Run.{Input, run, input_with}
+use Rattle.ss_state.specs.Run.{Input, run, input_with}
 use Rattle.ss_session.specs.Model.{refused_text, refused_check, accepted, IsOutcome}
 use Rattle.ss_session.specs.Texts.{OutletState}
 use Rattle.ss_run.specs.declared.whole_run.RunEnd.{RunEnd}

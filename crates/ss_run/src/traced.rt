@@ -2,7 +2,7 @@
 ghost use Rattle.std.specs.Prelude.{◌≡◌, ◌+◌, ◌-◌, ◌<◌, ◌^◌, IfOk, OnOk, IfErr};
 ghost use Rattle.std.specs.Io.KnownBytes.{Appends};
 ghost use Rattle.ss_machine.specs.Moment.{position};
-ghost use Rattle.ss_machine.specs.Run.{input_with};
+ghost use Rattle.ss_state.specs.Run.{input_with};
 ghost use Rattle.ss_run.specs.Report.{IsRunEnd};
 ghost use Rattle.ss_run.specs.Advance.{HasAdvanced};
 ghost use Rattle.ss_run.specs.Trace.{step_rows, IsTraced, IsTracedInPart, TraceSays};
@@ -16,9 +16,10 @@ use crate::whole_run::{
 };
 use ss_debug::{Command, Debugger, obey};
 use ss_links::{LinkedSets, SetBoard};
-use ss_machine::{Machine, Stepped};
+use ss_machine::Machine;
 use ss_program::Program;
 use ss_session::{Outlet, load_program, machine, put_all};
+use ss_state::Stepped;
 use ss_trace::Question;
 use std::alloc::{AllocError, Global};
 use std::mem::replace;

@@ -2,7 +2,7 @@
 ghost use Rattle.std.specs.Prelude.{◌≡◌, ◌-◌, ◌^◌, ◌<◌, OnErr, OnOk, IfOk};
 ghost use Rattle.ss_links.specs.Board.{empty_board};
 ghost use Rattle.ss_machine.specs.Moment.{position};
-ghost use Rattle.ss_machine.specs.Run.{input_with};
+ghost use Rattle.ss_state.specs.Run.{input_with};
 ghost use Rattle.ss_run.specs.Report.{IsRunEnd, status_of_run, SaysEnd, ReportSays};
 ghost use Rattle.ss_run.specs.WholeRun.{TellsEnd, RunSays};
 ghost use Rattle.ss_run.specs.Advance.{HasAdvanced, MakesRun, RefusesText, RefusesBy, IsRefusal};
@@ -11,10 +11,11 @@ use crate::explained::{end_explanation, rule_explanation};
 use crate::fields::unfit_values;
 use ss_debug::{Command, Debugger, Question, obey};
 use ss_links::{LinkedSets, SetBoard};
-use ss_machine::{Machine, Status, Stepped};
+use ss_machine::Machine;
 use ss_program::Program;
 use ss_sentences::text_refusal;
 use ss_session::{LoadFault, Outlet, load_program, machine, put_all, refusal_text};
+use ss_state::{Status, Stepped};
 use std::alloc::{AllocError, Global};
 use thiserror::Error;
 

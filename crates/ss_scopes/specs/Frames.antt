@@ -2,8 +2,8 @@
 use Rattle.std.specs.Prelude.{ℕ, ◌+◌, pos, List, [], length, Option, Some, None, unwrap_or, slice_index_or}
 use Rattle.std.specs.Fmt.{signed_decimal}
 use Rattle.ss_program.specs.Program.{ProgramTable, section_of, spot_at}
-use Rattle.ss_machine.specs.State.{State}
-use Rattle.ss_machine.specs.Frames.{frame_place, frame_local}
+use Rattle.ss_state.specs.State.{State}
+use Rattle.ss_state.specs.Frames.{frame_place, frame_local}
 use Rattle.ss_debug.specs.Move.{spot_line}
 use Rattle.ss_inspect.specs.Frames.{locals_in}
 use Rattle.ss_inspect.specs.Texts.{name_at}

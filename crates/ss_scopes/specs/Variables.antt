@@ -1,7 +1,7 @@
 -- The scopes of a frame, and the variables that a reference of an editor has in a state.
 use Rattle.std.specs.Prelude.{ℕ, ◌+◌, ◌-◌, ◌&&◌, Bool, true, false, not, List, [], ◌++◌, codes, nat_lt, if◌then◌else◌}
-use Rattle.ss_machine.specs.State.{State}
-use Rattle.ss_machine.specs.Run.{Input, run}
+use Rattle.ss_state.specs.State.{State}
+use Rattle.ss_state.specs.Run.{Input, run}
 use Rattle.ss_debug.specs.declared.commands.Question.{Question}
 use Rattle.ss_debug.specs.declared.commands.Question.TheVariants.{Clock, Where, Taken, Entry}
 use Rattle.ss_debug.specs.Turn.{show_answer}

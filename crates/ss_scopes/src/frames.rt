@@ -1,7 +1,7 @@
 //! Frames, and the variables of a frame and of the run.
 ghost use Rattle.std.specs.Prelude.{◌≡◌, ◌++◌, ◌-◌, ◌^◌, ◌<◌, length, OnOk, pos, unwrap_or, slice_index_or};
 ghost use Rattle.std.specs.Fmt.{signed_decimal};
-ghost use Rattle.ss_machine.specs.Frames.{frame_local};
+ghost use Rattle.ss_state.specs.Frames.{frame_local};
 ghost use Rattle.ss_inspect.specs.Frames.{locals_in};
 ghost use Rattle.ss_messages.specs.Bodies.{variable_item};
 ghost use Rattle.ss_scopes.specs.Pages.{page};

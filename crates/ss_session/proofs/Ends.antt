@@ -7,8 +7,8 @@ use Rattle.ss_words.specs.Faults.{text_rule_code}
 use Rattle.ss_check.specs.declared.fault.CheckRule.{CheckRule}
 use Rattle.ss_check.specs.CheckRules.{check_rule_code}
 use Rattle.ss_program.specs.Program.{ProgramTable}
-use Rattle.ss_machine.specs.State.{State}
-use Rattle.ss_machine.specs.Run.{Input, run}
+use Rattle.ss_state.specs.State.{State}
+use Rattle.ss_state.specs.Run.{Input, run}
 use Rattle.ss_debug.specs.Turn.{initial_debugger_state}
 use Rattle.ss_debug.specs.View.{DebuggerView, debugger_state_of}
 use Rattle.ss_session.proofs.Pieces.{appends_none}

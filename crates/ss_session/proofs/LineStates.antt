@@ -4,7 +4,7 @@ use Rattle.std.proofs.Common.{sym, ap, Err, append_assoc, append-nil, Option, le
 use Rattle.std.proofs.Math.Seq.{take-append_seam, take-append-add}
 use Rattle.std.proofs.lemmas.List.{take-append-le}
 use Rattle.std.specs.Io.KnownBytes.{Appends}
-use Rattle.ss_machine.specs.Run.{Input}
+use Rattle.ss_state.specs.Run.{Input}
 use Rattle.ss_debug.specs.declared.commands.Command.{Command}
 use Rattle.ss_debug.specs.declared.commands.Command.TheVariants.{Quit}
 use Rattle.ss_debug.specs.declared.go.Go.TheVariants as go

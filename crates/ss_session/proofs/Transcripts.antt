@@ -18,7 +18,7 @@ use Rattle.ss_check.specs.Breach.{breach}
 use Rattle.ss_check.specs.Resolved.{program_resolved}
 use Rattle.ss_program.specs.Program.{ProgramTable}
 use Rattle.std.specs.Prelude.{codes}
-use Rattle.ss_machine.specs.Run.{input_with}
+use Rattle.ss_state.specs.Run.{input_with}
 use Rattle.ss_debug.specs.CommandLines.{command_lines}
 use Rattle.ss_debug.specs.Turn.{obeyed_lines}
 use Rattle.ss_session.specs.Model.{refused_text, refused_check, accepted, Spells}

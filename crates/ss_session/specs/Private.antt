@@ -1,7 +1,7 @@
 -- How each private function of the session ends. No public contract cites this module.
 use Rattle.std.specs.Prelude.{ℕ, ◌+◌, ◌≡◌, false, List, [], ◌++◌, Option, Result, Ok, Err}
 use Rattle.std.specs.Io.KnownBytes.{Appends}
-use Rattle.ss_machine.specs.Run.{Input}
+use Rattle.ss_state.specs.Run.{Input}
 use Rattle.ss_debug.specs.Command.{command_of}
 use Rattle.ss_debug.specs.Turn.{DebuggerState, initial_debugger_state, debugger_state_after, answer}
 use Rattle.ss_debug.specs.Turn.{answers, debugger_state_after_lines, go_of}

@@ -1,7 +1,7 @@
 -- The texts of a session, and what an outlet tells.
 use Rattle.std.specs.Prelude.{ℕ, List, Option}
 use Rattle.ss_program.specs.Program.{ProgramTable}
-use Rattle.ss_machine.specs.Run.{Input, input_with}
+use Rattle.ss_state.specs.Run.{Input, input_with}
 use Rattle.ss_debug.specs.CommandLines.{command_lines}
 use Rattle.ss_debug.specs.Turn.{obeyed_lines}
 

@@ -2,8 +2,8 @@
 use Rattle.std.specs.Prelude.{ℕ, Bool, List, ◌∷◌, [], ◌++◌, codes, decimal, if◌then◌else◌}
 use Rattle.ss_words.specs.Faults.{text_rule_code}
 use Rattle.ss_check.specs.CheckRules.{check_rule_code}
-use Rattle.ss_machine.specs.State.{is_faulted}
-use Rattle.ss_machine.specs.Run.{Input, run}
+use Rattle.ss_state.specs.State.{is_faulted}
+use Rattle.ss_state.specs.Run.{Input, run}
 use Rattle.ss_debug.specs.Turn.{initial_debugger_state, answers, debugger_state_after_lines}
 use Rattle.ss_debug.specs.Answer.{report_text}
 use Rattle.ss_session.specs.declared.ending.End.{End}

@@ -1,7 +1,7 @@
 -- What was written of the answers of a session that was cut short.
 use Rattle.std.specs.Prelude.{ℕ, ◌≤◌, List, length, take, Option}
 use Rattle.std.specs.Io.KnownBytes.{Appends}
-use Rattle.ss_machine.specs.Run.{Input}
+use Rattle.ss_state.specs.Run.{Input}
 use Rattle.ss_debug.specs.Turn.{DebuggerState, answers}
 
 -- the whole answers of the first lines, some number of them

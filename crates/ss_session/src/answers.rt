@@ -2,7 +2,7 @@ ghost use Rattle.std.specs.Prelude.{◌≡◌, ◌+◌, ◌-◌, ◌^◌, ◌<�
 ghost use Rattle.std.specs.Io.KnownBytes.{Appends};
 ghost use Rattle.ss_debug.specs.CommandLines.{command_lines};
 ghost use Rattle.ss_debug.specs.Turn.{obeyed_lines};
-ghost use Rattle.ss_machine.specs.State.{is_faulted};
+ghost use Rattle.ss_state.specs.State.{is_faulted};
 ghost use Rattle.ss_session.specs.Written.{WritesPart};
 ghost use Rattle.ss_session.specs.Transcript.{end_of};
 ghost use Rattle.ss_session.specs.Private.{ProgramEnds};
@@ -12,7 +12,8 @@ use crate::outlet::{Outlet, PutFault, put_all};
 use crate::turns::obey_lines;
 use ss_debug::Debugger;
 use ss_links::SetBoard;
-use ss_machine::{Machine, Status};
+use ss_machine::Machine;
+use ss_state::Status;
 use std::alloc::Global;
 
 /// Writes two texts, one after the other.

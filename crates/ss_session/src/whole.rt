@@ -1,6 +1,6 @@
 ghost use Rattle.std.specs.Prelude.{◌≡◌, ◌-◌, ◌^◌, ◌<◌, [], IfOk, IfErr};
 ghost use Rattle.ss_links.specs.Board.{empty_board};
-ghost use Rattle.ss_machine.specs.Run.{input_with, run};
+ghost use Rattle.ss_state.specs.Run.{input_with, run};
 ghost use Rattle.ss_debug.specs.Turn.{initial_debugger_state};
 ghost use Rattle.ss_debug.specs.View.{debugger_state_of};
 ghost use Rattle.ss_session.specs.Model.{accepted, IsOutcome};

@@ -5,7 +5,7 @@ use Rattle.std.specs.Bool.{one_answer}
 use Rattle.std.proofs.lemmas.Bool.{lt-ltb}
 use borrow.Author.Tests.{ltb-true}
 use Rattle.std.proofs.lemmas.Slice.Eq.{bytes_eq-Decides}
-use Rattle.ss_machine.specs.Run.{Input}
+use Rattle.ss_state.specs.Run.{Input}
 use Rattle.ss_debug.specs.Move.{is_stop, stops, stops_back}
 use Rattle.ss_trace.specs.declared.question.Question.{Question}
 use Rattle.ss_trace.specs.Question.{answer_at, changes_at}

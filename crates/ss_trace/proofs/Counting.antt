@@ -34,8 +34,8 @@ use Rattle.ss_store.specs.Filing.{after_filing, after_removing, filed_in}
 use Rattle.ss_store.specs.Filing.{filed_by, ranks_behind, names_entity, names_member}
 use Rattle.ss_store.specs.Filing.{member_named, without_member}
 use Rattle.ss_store.proofs.Between.{other_lists_stay}
-use Rattle.ss_machine.proofs.Ranges.{Got}
-use Rattle.ss_machine.proofs.Stores.{unless_got}
+use Rattle.ss_state.proofs.Ranges.{Got}
+use Rattle.ss_state.proofs.Stores.{unless_got}
 use Rattle.ss_trace.proofs.SameLists.{HasSameLists, same_lists, list_same, attribute_same}
 
 -- a list that is another one has another length

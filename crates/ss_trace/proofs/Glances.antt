@@ -20,11 +20,11 @@ use Rattle.ss_store.proofs.Core.{some_eq}
 use Rattle.ss_store.specs.Tables.{set_shape, no_set}
 use Rattle.ss_store.specs.Store.{Entity, Store, entity, exists, attribute_of, list_by, list_number, members_of}
 use Rattle.ss_store.specs.Store.{number_of}
-use Rattle.ss_machine.specs.declared.entry.Entry.{Entry}
-use Rattle.ss_machine.specs.declared.entry.Entry.TheVariants as entries
-use Rattle.ss_machine.specs.Readings.{variable_in}
-use Rattle.ss_machine.specs.State.{State}
-use Rattle.ss_machine.specs.Run.{Input, run}
+use Rattle.ss_state.specs.declared.entry.Entry.{Entry}
+use Rattle.ss_state.specs.declared.entry.Entry.TheVariants as entries
+use Rattle.ss_state.specs.Readings.{variable_in}
+use Rattle.ss_state.specs.State.{State}
+use Rattle.ss_state.specs.Run.{Input, run}
 use Rattle.ss_debug.specs.declared.commands.Question.TheVariants as shown
 use Rattle.ss_debug.specs.Answer.{clock_text, var_text, value_line, variable_named, taken_text, entry_text}
 use Rattle.ss_debug.specs.Entities.{set_text, named_list_text, list_text, owned_list_text, no_entity_text, shape_of}

@@ -7,9 +7,9 @@ use Rattle.std.specs.declared.vec.Vec.{Vec}
 use Rattle.std.specs.Global.{Global}
 use Rattle.std.proofs.lemmas.Bool.{lt-ltb}
 use borrow.Author.Tests.{ltb-true}
-use Rattle.ss_machine.specs.Run.{Input}
+use Rattle.ss_state.specs.Run.{Input}
 use Rattle.ss_trace.specs.declared.question.Question.{Question}
-use Rattle.ss_machine.specs.Run.{run}
+use Rattle.ss_state.specs.Run.{run}
 use Rattle.ss_machine.specs.Moment.{Moment, position}
 use Rattle.ss_debug.specs.Move.{line_at}
 use Rattle.ss_debug.specs.Answer.{section_at}

@@ -38,15 +38,15 @@ use Rattle.ss_store.specs.Tables.{Tables, tables_of, set_of}
 use Rattle.ss_store.proofs.Between.{other_lists_stay}
 use Rattle.ss_values.specs.Faults.{◌>>=◌}
 use Rattle.ss_values.specs.Values.{value_of, subscript_value, number_value, assigned_value}
-use Rattle.ss_machine.proofs.Ranges.{Got, after_got}
-use Rattle.ss_machine.proofs.Stores.{unless_got}
-use Rattle.ss_machine.specs.Readings.{readings}
-use Rattle.ss_machine.specs.Run.{Input, run}
-use Rattle.ss_machine.specs.State.{State, is_ready}
-use Rattle.ss_machine.specs.Statements.{state_with_store, state_with_value, ways_here}
-use Rattle.ss_machine.specs.Statements.Assigning.{target_of}
-use Rattle.ss_machine.specs.Statements.Filing.{state_after_filing, state_after_file, how_asked, how_at, which_at}
-use Rattle.ss_machine.specs.Step.{step, step_at, step_by}
+use Rattle.ss_state.proofs.Ranges.{Got, after_got}
+use Rattle.ss_state.proofs.Stores.{unless_got}
+use Rattle.ss_state.specs.Readings.{readings}
+use Rattle.ss_state.specs.Run.{Input, run}
+use Rattle.ss_state.specs.State.{State, is_ready}
+use Rattle.ss_state.specs.Statements.{state_with_store, state_with_value, ways_here}
+use Rattle.ss_state.specs.Statements.Assigning.{target_of}
+use Rattle.ss_state.specs.Statements.Filing.{state_after_filing, state_after_file, how_asked, how_at, which_at}
+use Rattle.ss_state.specs.Step.{step, step_at, step_by}
 use Rattle.ss_debug.specs.Entities.{shape_of}
 use Rattle.ss_trace.specs.declared.touches.Part.TheVariants as parts
 use Rattle.ss_trace.specs.declared.touches.Touch.{Touch}

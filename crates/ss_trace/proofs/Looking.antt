@@ -2,7 +2,7 @@
 use Rattle.std.proofs.Common.{◌≡◌, ℕ, ◌+◌, ◌<◌, ◌≤◌, Bool, true, false, refl, ◌∙◌, arith, nat_lt}
 use borrow.Author.Tests.{ltb-true, ltb-false}
 use Rattle.ss_machine.specs.Moment.{position, HasGoneBack}
-use Rattle.ss_machine.specs.Run.{Input}
+use Rattle.ss_state.specs.Run.{Input}
 use Rattle.ss_debug.specs.Move.{is_ready_at}
 use Rattle.ss_debug.specs.View.{DebuggerView}
 use Rattle.ss_trace.specs.View.{HasLookedBack}

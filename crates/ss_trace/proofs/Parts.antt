@@ -2,8 +2,8 @@
 use Rattle.std.proofs.Common.{◌≡◌, ℕ, zero, suc, ◌+◌, ◌-◌, ◌<◌, ◌≤◌, List, Bool, true, false, not, refl, sym, arith}
 use Rattle.std.proofs.Common.{min}
 use Rattle.std.proofs.Common.{cond, ◌∙◌}
-use Rattle.ss_machine.specs.declared.limits.TheConstants.{LAST_POSITION}
-use Rattle.ss_machine.specs.Run.{Input}
+use Rattle.ss_state.specs.declared.limits.TheConstants.{LAST_POSITION}
+use Rattle.ss_state.specs.Run.{Input}
 use Rattle.ss_debug.specs.Move.{is_on_break, stops, stops_back, search_back_end}
 use Rattle.ss_debug.proofs.Moves.{least_within}
 use Rattle.ss_trace.specs.Movements.{counted_end, is_level, frames_at, ahead_condition, ahead_end, is_met, is_met_back}

@@ -36,28 +36,28 @@ use Rattle.ss_store.specs.Store.{Store, number_of, with_attribute}
 use Rattle.ss_store.specs.Tables.{Tables, tables_of}
 use Rattle.ss_values.specs.Faults.{◌>>=◌, ◌>>◌, refuse_if}
 use Rattle.ss_values.specs.Values.{subscript_value, assigned_value, values_of}
-use Rattle.ss_machine.proofs.Ranges.{Got, after_got, anything}
-use Rattle.ss_machine.specs.declared.entry.Entry.TheVariants.{Absent, Waiting, Running}
-use Rattle.ss_machine.specs.declared.entry.Entry.{Entry}
-use Rattle.ss_machine.specs.declared.status.Status.TheVariants.{Stopped, Finished, Faulted}
-use Rattle.ss_machine.specs.declared.status.Status.{Status}
-use Rattle.ss_machine.specs.Loops.{OpenLoop, Verdict, Runs, Passes, Closes, innermost, loop_of_phrase, loop_variable}
-use Rattle.ss_machine.specs.Loops.{loops_with_candidate, next_candidate, verdict_of}
-use Rattle.ss_machine.specs.Readings.{readings}
-use Rattle.ss_machine.specs.State.{State, FrameState, Statistics, is_waiting, new_frame, no_statistics}
-use Rattle.ss_machine.specs.Statements.{state_after_result, state_at_place, state_after_assignment, state_with_store}
-use Rattle.ss_machine.specs.Statements.{state_with_value, state_with_values, state_with_taken, ways_here}
-use Rattle.ss_machine.specs.Statements.Assigning.{target_of}
-use Rattle.ss_machine.specs.Statements.Calling.{state_after_return, state_after_section, state_behind_call}
-use Rattle.ss_machine.specs.Statements.Calling.{state_behind_mark, state_without_entry, state_after_event}
-use Rattle.ss_machine.specs.Statements.Calling.{state_behind_place}
-use Rattle.ss_machine.specs.Statements.Looping.{state_after_phrase, state_after_reset, candidate_tried}
-use Rattle.ss_machine.specs.Statements.Looping.{state_after_turn, state_after_verdict, state_with_candidate}
-use Rattle.ss_machine.specs.Statements.Looping.{state_with_loops, state_with_found, state_with_statistics}
-use Rattle.ss_machine.specs.Statements.Looping.{statistic_value, state_after_telling}
-use Rattle.ss_machine.specs.Statements.Printing.{longer_report, lines_asked}
-use Rattle.ss_machine.specs.Statements.Reading.{values_taken}
-use Rattle.ss_machine.specs.Step.{step_at}
+use Rattle.ss_state.proofs.Ranges.{Got, after_got, anything}
+use Rattle.ss_state.specs.declared.entry.Entry.TheVariants.{Absent, Waiting, Running}
+use Rattle.ss_state.specs.declared.entry.Entry.{Entry}
+use Rattle.ss_state.specs.declared.status.Status.TheVariants.{Stopped, Finished, Faulted}
+use Rattle.ss_state.specs.declared.status.Status.{Status}
+use Rattle.ss_state.specs.Loops.{OpenLoop, Verdict, Runs, Passes, Closes, innermost, loop_of_phrase, loop_variable}
+use Rattle.ss_state.specs.Loops.{loops_with_candidate, next_candidate, verdict_of}
+use Rattle.ss_state.specs.Readings.{readings}
+use Rattle.ss_state.specs.State.{State, FrameState, Statistics, is_waiting, new_frame, no_statistics}
+use Rattle.ss_state.specs.Statements.{state_after_result, state_at_place, state_after_assignment, state_with_store}
+use Rattle.ss_state.specs.Statements.{state_with_value, state_with_values, state_with_taken, ways_here}
+use Rattle.ss_state.specs.Statements.Assigning.{target_of}
+use Rattle.ss_state.specs.Statements.Calling.{state_after_return, state_after_section, state_behind_call}
+use Rattle.ss_state.specs.Statements.Calling.{state_behind_mark, state_without_entry, state_after_event}
+use Rattle.ss_state.specs.Statements.Calling.{state_behind_place}
+use Rattle.ss_state.specs.Statements.Looping.{state_after_phrase, state_after_reset, candidate_tried}
+use Rattle.ss_state.specs.Statements.Looping.{state_after_turn, state_after_verdict, state_with_candidate}
+use Rattle.ss_state.specs.Statements.Looping.{state_with_loops, state_with_found, state_with_statistics}
+use Rattle.ss_state.specs.Statements.Looping.{statistic_value, state_after_telling}
+use Rattle.ss_state.specs.Statements.Printing.{longer_report, lines_asked}
+use Rattle.ss_state.specs.Statements.Reading.{values_taken}
+use Rattle.ss_state.specs.Step.{step_at}
 use Rattle.ss_trace.specs.declared.touches.Touch.TheVariants.{Nothing}
 use Rattle.ss_trace.specs.Touches.{touched_target, touched_assign, touched_looping}
 

@@ -6,8 +6,8 @@ use Rattle.ss_program.specs.declared.kinds.Owner.{Owner}
 use Rattle.ss_program.specs.declared.kinds.Owner.TheVariants.{System, OwnedBy}
 use Rattle.ss_store.specs.Store.{Entity, Store, entity, exists, list_number, list_by, lists_by}
 use Rattle.ss_store.specs.Store.{with_changed, with_value, with_attribute}
-use Rattle.ss_machine.proofs.Ranges.{Got}
-use Rattle.ss_machine.proofs.Stores.{unless_got}
+use Rattle.ss_state.proofs.Ranges.{Got}
+use Rattle.ss_state.proofs.Stores.{unless_got}
 use Rattle.ss_trace.proofs.OneEntity.{one_left, all_left, there_same}
 
 -- the lists that an entity owns, if there is one

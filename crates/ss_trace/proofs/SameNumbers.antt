@@ -10,8 +10,8 @@ use Rattle.std.proofs.lemmas.Bool.Decides.{Decides-int_eq}
 use Rattle.std.proofs.lemmas.Slice.Eq.{slice_eq-Decides}
 use Rattle.ss_program.specs.Program.{ProgramTable, class_of, set_of}
 use Rattle.ss_store.specs.Store.{Store, number_of, exists}
-use Rattle.ss_machine.specs.Run.{Input, run}
-use Rattle.ss_machine.specs.State.{State}
+use Rattle.ss_state.specs.Run.{Input, run}
+use Rattle.ss_state.specs.State.{State}
 use Rattle.ss_debug.specs.declared.commands.Question.TheVariants as shown
 use Rattle.ss_debug.specs.Entities.{lines_below, attribute_line, kept_line}
 use Rattle.ss_debug.specs.Entities.{owned_set_lines, joined_set_lines, entity_lines, class_named, class_text}

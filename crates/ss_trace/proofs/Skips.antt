@@ -18,12 +18,12 @@ use Rattle.ss_program.specs.declared.target.Target.TheVariants as targets
 use Rattle.ss_program.specs.declared.ways.Ways.{Ways}
 use Rattle.ss_events.specs.Agenda.{Agenda}
 use Rattle.ss_store.specs.Store.{Store, with_attribute}
-use Rattle.ss_machine.proofs.Ranges.{Got}
-use Rattle.ss_machine.specs.State.{State, is_ready}
-use Rattle.ss_machine.specs.Run.{Input, run}
-use Rattle.ss_machine.specs.Statements.{state_with_store, ways_here}
-use Rattle.ss_machine.specs.Statements.Printing.{longer_report}
-use Rattle.ss_machine.specs.Step.{step, step_at, step_by}
+use Rattle.ss_state.proofs.Ranges.{Got}
+use Rattle.ss_state.specs.State.{State, is_ready}
+use Rattle.ss_state.specs.Run.{Input, run}
+use Rattle.ss_state.specs.Statements.{state_with_store, ways_here}
+use Rattle.ss_state.specs.Statements.Printing.{longer_report}
+use Rattle.ss_state.specs.Step.{step, step_at, step_by}
 use Rattle.ss_debug.specs.Answer.{events_text, report_text}
 use Rattle.ss_trace.specs.declared.touches.Part.{Part}
 use Rattle.ss_trace.specs.declared.touches.Part.TheVariants.{Entities, Lists, Notices}

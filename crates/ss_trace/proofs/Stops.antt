@@ -1,6 +1,6 @@
 -- Where a movement stops, seen from the debugger that stands there.
 use Rattle.std.proofs.Common.{◌≡◌, ℕ, ◌+◌, ◌-◌, List, ◌&&◌, nat_lt, refl, arith}
-use Rattle.ss_machine.specs.Run.{Input}
+use Rattle.ss_state.specs.Run.{Input}
 use Rattle.ss_debug.specs.Move.{is_stop, stops, stops_back}
 use Rattle.ss_trace.specs.declared.sought.Sought.{Sought}
 use Rattle.ss_trace.specs.Movements.{ahead_condition}

@@ -33,23 +33,23 @@ use Rattle.ss_store.specs.Store.{Store, number_of, last_reference, with_attribut
 use Rattle.ss_store.specs.Tables.{Tables, tables_of, class_of, set_of}
 use Rattle.ss_values.specs.Faults.{◌>>=◌, ◌>>◌}
 use Rattle.ss_values.specs.Values.{value_of, subscript_value, number_value}
-use Rattle.ss_machine.proofs.Ranges.{Got, after_got, unless_refused}
-use Rattle.ss_machine.specs.Readings.{readings}
-use Rattle.ss_machine.specs.State.{State}
-use Rattle.ss_machine.specs.Statements.{state_after_result, state_with_store}
-use Rattle.ss_machine.specs.Statements.{state_with_taken, entity_named}
-use Rattle.ss_machine.specs.Statements.Entities.{state_after_create, number_asked, state_after_create_every}
-use Rattle.ss_machine.specs.Statements.Entities.{state_after_destroy, store_without}
-use Rattle.ss_machine.specs.Statements.Filing.{state_after_filing}
-use Rattle.ss_machine.specs.Statements.Filing.{which_at, how_at, how_asked, state_after_file}
-use Rattle.ss_machine.specs.Step.{step_at}
-use Rattle.ss_machine.specs.Statements.Timing.{arguments_asked, time_asked, attributes_now, tie_attributes}
-use Rattle.ss_machine.specs.Statements.Timing.{state_with_attributes, state_with_agenda, state_after_scheduling}
-use Rattle.ss_machine.specs.Statements.Timing.{state_after_notice, state_after_schedule}
-use Rattle.ss_machine.specs.Statements.Timing.{agenda_without, state_after_cancel}
-use Rattle.ss_machine.specs.Statements.Timing.{event_section, store_at_start}
-use Rattle.ss_machine.specs.Statements.Timing.{state_at_time, state_after_start, step_simulation}
-use Rattle.ss_machine.specs.Statements.Timing.{arrival_asked, state_after_arrival, state_after_load, loads}
+use Rattle.ss_state.proofs.Ranges.{Got, after_got, unless_refused}
+use Rattle.ss_state.specs.Readings.{readings}
+use Rattle.ss_state.specs.State.{State}
+use Rattle.ss_state.specs.Statements.{state_after_result, state_with_store}
+use Rattle.ss_state.specs.Statements.{state_with_taken, entity_named}
+use Rattle.ss_state.specs.Statements.Entities.{state_after_create, number_asked, state_after_create_every}
+use Rattle.ss_state.specs.Statements.Entities.{state_after_destroy, store_without}
+use Rattle.ss_state.specs.Statements.Filing.{state_after_filing}
+use Rattle.ss_state.specs.Statements.Filing.{which_at, how_at, how_asked, state_after_file}
+use Rattle.ss_state.specs.Step.{step_at}
+use Rattle.ss_state.specs.Statements.Timing.{arguments_asked, time_asked, attributes_now, tie_attributes}
+use Rattle.ss_state.specs.Statements.Timing.{state_with_attributes, state_with_agenda, state_after_scheduling}
+use Rattle.ss_state.specs.Statements.Timing.{state_after_notice, state_after_schedule}
+use Rattle.ss_state.specs.Statements.Timing.{agenda_without, state_after_cancel}
+use Rattle.ss_state.specs.Statements.Timing.{event_section, store_at_start}
+use Rattle.ss_state.specs.Statements.Timing.{state_at_time, state_after_start, step_simulation}
+use Rattle.ss_state.specs.Statements.Timing.{arrival_asked, state_after_arrival, state_after_load, loads}
 use Rattle.ss_trace.proofs.PlaceSteps.{Ignores, IgnoresAttributes, got, then_got, then_any, placed, assigned, value}
 
 -- what is said of a state is said of it with the store that a statement makes of its own

@@ -9,8 +9,8 @@ use borrow.Author.Tests.{ltb-true}
 use Rattle.ss_program.specs.Program.{ProgramTable, class_of}
 use Rattle.ss_store.specs.Store.{Entity, Store, entity, exists, attribute_in, attributes_of}
 use Rattle.ss_store.specs.Store.{number_of}
-use Rattle.ss_machine.specs.Run.{Input, run}
-use Rattle.ss_machine.specs.State.{State}
+use Rattle.ss_state.specs.Run.{Input, run}
+use Rattle.ss_state.specs.State.{State}
 use Rattle.ss_debug.specs.Entities.{shape_of}
 use Rattle.ss_debug.specs.declared.commands.Question.TheVariants as shown
 use Rattle.ss_trace.specs.declared.question.Question.{Question}

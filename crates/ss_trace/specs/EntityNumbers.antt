@@ -5,8 +5,8 @@ use Rattle.std.specs.Result.{result_unwrap_or}
 use Rattle.ss_program.specs.Program.{ProgramTable, class_of, set_of}
 use Rattle.ss_store.specs.declared.shape.Neighbours.{Neighbours}
 use Rattle.ss_store.specs.Store.{Store, number_of, exists, attribute_of}
-use Rattle.ss_machine.specs.State.{State}
-use Rattle.ss_machine.specs.Run.{Input, run}
+use Rattle.ss_state.specs.State.{State}
+use Rattle.ss_state.specs.Run.{Input, run}
 use Rattle.ss_debug.specs.Entities.{shape_of}
 use Rattle.ss_trace.specs.declared.attribute.Kept.{Kept}
 use Rattle.ss_trace.specs.declared.attribute.Kept.TheVariants.{First, Last, Number, Predecessor, Successor, Membership}

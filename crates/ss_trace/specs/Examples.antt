@@ -20,9 +20,9 @@ use Rattle.ss_program.specs.declared.timing.When.TheVariants.{At}
 use Rattle.ss_program.specs.declared.variable.Variable.TheVariants.{Global, Local}
 use Rattle.ss_program.specs.ProgramExpr.{expr, no_sums, sum, term, no_products, variable, digits, implied, at}
 use Rattle.ss_program.specs.Program.{ProgramTable, SectionTable}
-use Rattle.ss_machine.specs.Run.{Input, input_with}
-use Rattle.ss_machine.specs.Examples.{alone, number, job, queue, end_place, start_place, tick_of, on_one_line}
-use Rattle.ss_machine.specs.Examples.{next_is_removed}
+use Rattle.ss_state.specs.Run.{Input, input_with}
+use Rattle.ss_state.specs.Examples.{alone, number, job, queue, end_place, start_place, tick_of, on_one_line}
+use Rattle.ss_state.specs.Examples.{next_is_removed}
 use Rattle.ss_debug.specs.declared.commands.Question.TheVariants as shown
 use Rattle.ss_debug.specs.Move.{search_back_end}
 use Rattle.ss_trace.specs.declared.question.Question.{Question}

@@ -3,7 +3,7 @@ use Rattle.std.specs.Prelude.{ℕ, zero, suc, ◌+◌, ◌-◌, Bool, List, [], 
 use Rattle.std.specs.Prelude.{decimal}
 use Rattle.std.specs.Prelude.{Option, Some, None, if◌then◌else◌, nat_lt}
 use Rattle.std.specs.Fmt.{signed_decimal}
-use Rattle.ss_machine.specs.Run.{Input, run}
+use Rattle.ss_state.specs.Run.{Input, run}
 use Rattle.ss_debug.specs.Move.{line_at}
 use Rattle.ss_debug.specs.Answer.{section_at, state_line}
 use Rattle.ss_trace.specs.declared.question.Question.{Question}

@@ -1,8 +1,8 @@
 -- Where the movements over and out of sections, to a time and to a position end.
 use Rattle.std.specs.Prelude.{ℕ, zero, suc, ◌+◌, ◌-◌, pos, int_lt, Bool, not, ◌&&◌, ◌||◌, List, length, codes}
 use Rattle.std.specs.Prelude.{None, if◌then◌else◌, nat_lt, nat_le}
-use Rattle.ss_machine.specs.declared.limits.TheConstants.{LAST_POSITION}
-use Rattle.ss_machine.specs.Run.{Input, run}
+use Rattle.ss_state.specs.declared.limits.TheConstants.{LAST_POSITION}
+use Rattle.ss_state.specs.Run.{Input, run}
 use Rattle.ss_debug.specs.Move.{StopCondition, is_on_break, forward_end, search_back_end, step_condition}
 use Rattle.ss_debug.specs.Move.{MovementShape, forward, back, search_back}
 use Rattle.ss_trace.specs.declared.movement.Movement.{Movement}

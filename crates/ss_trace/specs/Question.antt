@@ -11,8 +11,8 @@ use Rattle.ss_store.specs.declared.shape.SetShape.{SetShape}
 use Rattle.ss_store.specs.Store.{Store, number_of, exists, attribute_of, members_of}
 use Rattle.ss_store.specs.Filing as filing
 use Rattle.ss_store.specs.Filing.{walk_first, walk_last, predecessor, successor, membership}
-use Rattle.ss_machine.specs.State.{State}
-use Rattle.ss_machine.specs.Run.{Input, run}
+use Rattle.ss_state.specs.State.{State}
+use Rattle.ss_state.specs.Run.{Input, run}
 use Rattle.ss_debug.specs.declared.commands.Question.{Question as ShownQuestion}
 use Rattle.ss_debug.specs.declared.commands.Question.TheVariants as shown
 use Rattle.ss_debug.specs.Entities.{class_named, set_named, shape_of, no_entity_text, owner_or_variable, member_read}

@@ -1,6 +1,6 @@
 -- Private: the answer to a question that is followed from state to state.
 use Rattle.std.specs.Prelude.{ℕ, ◌≡◌}
-use Rattle.ss_machine.specs.Run.{Input}
+use Rattle.ss_state.specs.Run.{Input}
 use Rattle.ss_trace.specs.declared.question.Question.{Question}
 use Rattle.ss_trace.specs.declared.reading.Reading.{Reading}
 use Rattle.ss_trace.specs.Question.{answer_at}

@@ -4,7 +4,7 @@ use Rattle.std.specs.Prelude.{List, [], ◌∷◌, length, slice_index_or, if◌
 use Rattle.std.specs.Ordering.{int_eq}
 use Rattle.ss_program.specs.Program.{ProgramTable, class_of}
 use Rattle.ss_store.specs.Store.{Store, number_of, exists}
-use Rattle.ss_machine.specs.Run.{Input, run}
+use Rattle.ss_state.specs.Run.{Input, run}
 use Rattle.ss_trace.specs.declared.attribute.Kept.{Kept}
 use Rattle.ss_trace.specs.declared.attribute.Kept.TheVariants.{First, Last, Number, Predecessor, Successor, Membership}
 use Rattle.ss_trace.specs.declared.question.Question.{Question}

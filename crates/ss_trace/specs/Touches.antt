@@ -15,9 +15,9 @@ use Rattle.ss_program.specs.declared.place.Place.TheVariants as places
 use Rattle.ss_program.specs.declared.place.Spot.{Spot}
 use Rattle.ss_program.specs.declared.target.Target.{Target}
 use Rattle.ss_program.specs.declared.target.Target.TheVariants as targets
-use Rattle.ss_machine.specs.State.{State}
-use Rattle.ss_machine.specs.Statements.Assigning.{target_of}
-use Rattle.ss_machine.specs.Run.{Input, run}
+use Rattle.ss_state.specs.State.{State}
+use Rattle.ss_state.specs.Statements.Assigning.{target_of}
+use Rattle.ss_state.specs.Run.{Input, run}
 use Rattle.ss_debug.specs.declared.commands.Question.TheVariants as shown
 use Rattle.ss_trace.specs.declared.question.Question.{Question}
 use Rattle.ss_trace.specs.declared.question.Question.TheVariants.{Shown}

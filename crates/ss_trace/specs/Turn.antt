@@ -1,6 +1,6 @@
 -- What a movement does to the state of the debugger, and what it answers.
 use Rattle.std.specs.Prelude.{ℕ, Bool, List, codes, if◌then◌else◌, nat_eq, ◌≡◌, ◌≤◌}
-use Rattle.ss_machine.specs.Run.{Input}
+use Rattle.ss_state.specs.Run.{Input}
 use Rattle.ss_debug.specs.declared.limits.TheConstants.{GREATEST_BOUND}
 use Rattle.ss_debug.specs.Move.{is_ready_at, is_on_break, search_back_end}
 use Rattle.ss_debug.specs.Answer.{movement_text, earliest_word, search_back_word}

@@ -1,7 +1,7 @@
 -- Where a debugger stands behind a movement, and what a movement looks for.
 use Rattle.std.specs.Prelude.{ℕ, ◌≡◌, ◌≤◌, ◌<◌, Bool, true}
 use Rattle.ss_machine.specs.Moment.{position}
-use Rattle.ss_machine.specs.Run.{Input}
+use Rattle.ss_state.specs.Run.{Input}
 use Rattle.ss_debug.specs.Move.{is_ready_at}
 use Rattle.ss_debug.specs.View.{DebuggerView}
 use Rattle.ss_trace.specs.declared.sought.Sought.{Sought}

@@ -7,7 +7,7 @@ ghost use Rattle.ss_trace.specs.View.{IsAt, IsBetween, sought_test};
 use crate::sought::{Sought, is_at_stop, step_once};
 use ss_debug::Debugger;
 use ss_links::SetBoard;
-use ss_machine::LAST_POSITION;
+use ss_state::LAST_POSITION;
 use std::alloc::AllocError;
 
 /// Steps to the least later position that is what is looked for, or on a break line, or whose

@@ -11,7 +11,7 @@ use crate::reading::Reading;
 use crate::sought::{is_ready_now, step_once};
 use ss_debug::Debugger;
 use ss_links::SetBoard;
-use ss_machine::LAST_POSITION;
+use ss_state::LAST_POSITION;
 use std::alloc::{AllocError, Global};
 
 /// Whether a movement from position `from` stops where the machine stands, where it is known

@@ -2,7 +2,7 @@
 ghost use Rattle.std.specs.Prelude.{◌≡◌};
 ghost use Rattle.ss_trace.specs.Sight.{is_same_number, is_same_count, is_same_entry, is_same_glance};
 
-use ss_machine::Entry;
+use ss_state::Entry;
 
 /// What is read of a state in place of the answer to a question.
 #[derive(Clone, Copy)]

@@ -2,7 +2,7 @@
 ghost use Rattle.std.specs.Prelude.{◌≡◌, ◌++◌, ◌∷◌, ◌+◌, ◌<◌, ◌≤◌, [], OnOk, OnErr, IfOk, MatchOption, ℕ, true};
 ghost use Rattle.std.specs.Prelude.{take, length};
 ghost use Rattle.ss_machine.specs.Moment.{position};
-ghost use Rattle.ss_machine.specs.declared.limits.TheConstants.{LAST_POSITION};
+ghost use Rattle.ss_state.specs.declared.limits.TheConstants.{LAST_POSITION};
 ghost use Rattle.ss_debug.specs.Move.{is_ready_at};
 ghost use Rattle.ss_debug.specs.View.{debugger_state_of};
 ghost use Rattle.ss_trace.specs.Question.{answer_at};

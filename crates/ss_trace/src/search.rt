@@ -1,6 +1,6 @@
 //! What each movement does.
 ghost use Rattle.std.specs.Prelude.{◌≡◌, ◌++◌, OnOk, OnErr, ℕ, List, codes};
-ghost use Rattle.ss_machine.specs.Run.{Input};
+ghost use Rattle.ss_state.specs.Run.{Input};
 ghost use Rattle.ss_debug.specs.Move.{search_back, shape_of as standing_shape};
 ghost use Rattle.ss_debug.specs.Turn.{debugger_state_after_movement, movement_answer};
 ghost use Rattle.ss_debug.specs.AfterRefusal.{IsStateAfterRefusedMovement};
@@ -22,7 +22,7 @@ use crate::sought::{Sought, is_found};
 use crate::text::{backward_word, forward_word};
 use ss_debug::{Command, Debugger, GREATEST_BOUND, Movement as Standing, obey};
 use ss_links::SetBoard;
-use ss_machine::LAST_POSITION;
+use ss_state::LAST_POSITION;
 use std::alloc::AllocError;
 
 /// A movement of the debugger, and its answer.

@@ -2,14 +2,14 @@
 //! for proofs alone.
 ghost use Rattle.std.specs.Prelude.{◌≡◌, ◌+◌, ◌<◌, OnOk, OnErr, true};
 ghost use Rattle.ss_machine.specs.Moment.{position};
-ghost use Rattle.ss_machine.specs.declared.limits.TheConstants.{LAST_POSITION};
+ghost use Rattle.ss_state.specs.declared.limits.TheConstants.{LAST_POSITION};
 ghost use Rattle.ss_debug.specs.Move.{is_ready_at, is_stop};
 ghost use Rattle.ss_trace.specs.Movements.{ahead_condition};
 ghost use Rattle.ss_trace.specs.View.{IsAt, sought_test};
 
 use ss_debug::Debugger;
 use ss_links::SetBoard;
-use ss_machine::Status;
+use ss_state::Status;
 use std::alloc::AllocError;
 
 /// What a movement looks for, at another position than where it begins.

@@ -1,1 +1,4 @@
 pub mod Factors
+pub mod Options
+pub mod LoweredValue
+pub mod LoweredSound

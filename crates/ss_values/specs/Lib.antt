@@ -2,3 +2,4 @@ pub mod Faults
 pub mod Values
 pub mod Conditions
 pub mod Seen
+pub mod Running

@@ -1,7 +1,6 @@
 -- What a view shows: the readings of values, and what the places of a program may name there. Public contracts cite it.
 use Rattle.std.specs.Prelude.{length, map}
 use Rattle.ss_program.specs.ProgramSound.{Scope}
-use Rattle.ss_store.specs.Value.{StoreValue}
 use Rattle.ss_values.specs.declared.view.View.{View}
 use Rattle.ss_values.specs.Values.{Readings}
 

@@ -8,6 +8,7 @@ ghost use Rattle.ss_values.specs.Values.{result_in_range, with_sign, sum_or_diff
 ghost use Rattle.ss_values.specs.Values as terms;
 ghost use Rattle.ss_values.specs.Seen.{view_readings, InView};
 
+use crate::fast::{entity_or_none, value_or_none};
 use crate::view::View;
 use ss_links::SetBoard;
 use ss_program::{
@@ -106,7 +107,7 @@ fn number_or_none(member: Option<u32>) -> i64
 }
 
 /// `F.s`, `L.s` or `N.s` of a set for the owner that a value names.
-fn owner_kept<S: SetBoard>(
+pub(crate) fn owner_kept<S: SetBoard>(
     view: &View<'_, S>,
     kept: OwnerKept,
     set: usize,
@@ -123,7 +124,7 @@ fn owner_kept<S: SetBoard>(
 }
 
 /// `P.s`, `S.s` or `M.s` of a set for the member that a value names.
-fn member_kept<S: SetBoard>(
+pub(crate) fn member_kept<S: SetBoard>(
     view: &View<'_, S>,
     kept: MemberKept,
     set: usize,
@@ -150,7 +151,7 @@ pub fn variable_value<S: SetBoard>(view: View<'_, S>, variable: Variable) -> i64
 
 /// The same of a view that is lent.
 #[inline(always)]
-fn variable_seen<S: SetBoard>(view: &View<'_, S>, variable: Variable) -> i64
+pub(crate) fn variable_seen<S: SetBoard>(view: &View<'_, S>, variable: Variable) -> i64
     requires { InView view.now IsSoundVariable variable }
     ensures { result ≡ terms.variable_value (view_readings view.now) variable }
 {
@@ -170,13 +171,26 @@ pub fn value<S: SetBoard>(view: View<'_, S>, e: &Expr) -> Result<i64, RunFault>
     value_seen(&view, e)
 }
 
-/// The same of a view that is lent. A number or a variable alone is read without a further call.
+/// The same of a view that is lent.
 #[inline(always)]
 pub fn value_seen<S: SetBoard>(view: &View<'_, S>, e: &Expr) -> Result<i64, RunFault>
     requires { InView view.now IsSoundExpr e.now }
     ensures { result ≡ value_of (view_readings view.now) e.now }
 {
-    sum_seen(view, &e.sum)
+    match value_or_none(view, e) {
+        Some(x) => Ok(x),
+        None => value_or_fault(view, e),
+    }
+}
+
+/// The same from the tree, which finds a fault too.
+#[cold]
+#[inline(never)]
+fn value_or_fault<S: SetBoard>(view: &View<'_, S>, e: &Expr) -> Result<i64, RunFault>
+    requires { InView view.now IsSoundExpr e.now }
+    ensures { result ≡ value_of (view_readings view.now) e.now }
+{
+    sum_seen(view, e.sum())
 }
 
 /// The value of a sum. One factor alone is read as such.
@@ -326,7 +340,10 @@ pub fn subscript_seen<S: SetBoard>(view: &View<'_, S>, index: &Index) -> Result<
     requires { InView view.now IsSoundSubscript index.now }
     ensures { result ≡ terms.subscript_value (view_readings view.now) index.now }
 {
-    entity_named(view, &index.subscript)
+    match entity_or_none(view, &index.subscript) {
+        Some(x) => Ok(x),
+        None => entity_named(view, &index.subscript),
+    }
 }
 
 /// What a target holds.

@@ -3,6 +3,8 @@
 
 mod conditions;
 mod evaluation;
+mod fast;
+mod running;
 mod view;
 
 pub use conditions::holds;

@@ -1,7 +1,7 @@
 -- Launch, and turns of an editor.
 use Rattle.std.proofs.Common.{◌≡◌, ◌≢◌, ℕ, List, [], codes, refl, ◌∙◌, sym, ap, Option, Some, None, Result, Ok, Err}
 use Rattle.std.specs.Prelude.{MatchOption, option_map, IfOk}
-use Rattle.ss_machine.specs.Run.{Input, input_with}
+use Rattle.ss_state.specs.Run.{Input, input_with}
 use Rattle.ss_debug.specs.Turn.{DebuggerState, initial_debugger_state}
 use Rattle.ss_debug.specs.View.{DebuggerView, debugger_state_of}
 use Rattle.ss_session.specs.Load.{IsLoadFault}

@@ -1,7 +1,7 @@
 -- What answers the requests of an editor: before a run is launched, and about that run.
 use Rattle.std.specs.Prelude.{ℕ, ◌≡◌, ◌≢◌, Bool, true, false, List, [], ◌∷◌, codes, Option, Some, None, Result}
 use Rattle.ss_program.specs.Program.{ProgramTable}
-use Rattle.ss_machine.specs.Run.{input_with}
+use Rattle.ss_state.specs.Run.{input_with}
 use Rattle.ss_debug.specs.Turn.{initial_debugger_state}
 use Rattle.ss_session.specs.Model.{accepted, IsOutcome}
 use Rattle.ss_session.specs.Load.{IsLoadFault}

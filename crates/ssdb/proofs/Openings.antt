@@ -2,7 +2,7 @@
 use Rattle.std.proofs.Common.{◌≡◌, ℕ, Bool, List, [], refl, inl, inr, Option}
 use Rattle.ss_console.specs.Event.{Event, Adds, write_events}
 use Rattle.ss_console.specs.declared.cut.Cut.TheVariants.{Read, Write, Count}
-use Rattle.ss_machine.specs.Run.{Input, input_with, run}
+use Rattle.ss_state.specs.Run.{Input, input_with, run}
 use Rattle.ss_debug.specs.Turn.{DebuggerState, initial_debugger_state}
 use Rattle.ss_debug.specs.View.{DebuggerView, debugger_state_of}
 use Rattle.ss_session.specs.Model.{IsOutcome, accepted}

@@ -1,9 +1,9 @@
 -- A whole dialogue over a model and its data: how it begins, and how it ends.
 use Rattle.std.specs.Prelude.{ℕ, ◌≡◌, ◌⊎◌, Bool, List, [], Option, if◌then◌else◌}
 use Rattle.ss_program.specs.Program.{ProgramTable}
-use Rattle.ss_machine.specs.State.{is_faulted}
-use Rattle.ss_machine.specs.Run.{input_with, run}
-use Rattle.ss_machine.specs.declared.status.Status.{Status}
+use Rattle.ss_state.specs.State.{is_faulted}
+use Rattle.ss_state.specs.Run.{input_with, run}
+use Rattle.ss_state.specs.declared.status.Status.{Status}
 use Rattle.ss_debug.specs.Turn.{initial_debugger_state}
 use Rattle.ss_console.specs.Event.{Event, Adds, write_events}
 use Rattle.ss_console.specs.Puts.{AddsPart}

@@ -3,7 +3,7 @@ ghost use Rattle.std.specs.Prelude.{◌≡◌, ◌-◌, ◌^◌, ◌<◌, OnOk, 
 ghost use Rattle.std.specs.Vec.{vec_capacity};
 ghost use Rattle.ss_console.specs.declared.lines.TheConstants.{LONGEST_LINE};
 ghost use Rattle.ss_console.specs.Event.{Adds, write_events};
-ghost use Rattle.ss_machine.specs.Run.{run};
+ghost use Rattle.ss_state.specs.Run.{run};
 ghost use Rattle.ss_prompt.specs.PromptState.{greeting};
 ghost use Rattle.ssdb.specs.Opening.{greeting_at, end_of_status, EndsWell, HoldFails, GreetingFails};
 ghost use Rattle.ssdb.specs.Opening.{HoldsFrom, StopsFrom, IsHeld, IsStopped};
@@ -13,9 +13,9 @@ use crate::end::{PromptEnd, PromptFault};
 use crate::refused::refuse;
 use ss_console::{Console, Cut, LONGEST_LINE, converse, put_all};
 use ss_links::SetBoard;
-use ss_machine::Status;
 use ss_prompt::{Prompt, source_lines};
 use ss_session::open_debugger;
+use ss_state::Status;
 use std::alloc::Global;
 
 fn end(status: Status) -> PromptEnd

@@ -1,1 +1,2 @@
-autocmd BufRead,BufNewFile *.sim setfiletype simscript2
+" Vim takes *.sim for Simula: `setfiletype` would leave it so.
+autocmd BufRead,BufNewFile *.sim set filetype=simscript2

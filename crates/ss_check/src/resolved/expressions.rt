@@ -26,7 +26,7 @@ pub(crate) fn resolve_expr(scope: Scope<'_>, e: &ss_routines::Expr) -> Result<Ex
     ensures { IfOk result (λ x. x ≡ in_scope scope.entry resolved.resolved_expr (expr_view e.now)) }
 {
     let sum = resolve_sum(scope, e)?;
-    Ok(Expr { sum })
+    Expr::new(scope.alloc, sum)
 }
 
 /// Two expressions with the numbers of their names.

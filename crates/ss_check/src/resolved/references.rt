@@ -19,8 +19,8 @@ use ss_words::Several;
 use std::alloc::{AllocError, Global};
 
 /// A factor alone as an expression.
-fn alone(alloc: Global, factor: Factor) -> Expr
-    ensures { result ≡ resolved.alone (factor_of factor) }
+fn alone(alloc: Global, factor: Factor) -> Result<Expr, AllocError>
+    ensures { IfOk result (λ e. e ≡ resolved.alone (factor_of factor)) }
 {
     let first = Term {
         first: factor,
@@ -31,7 +31,7 @@ fn alone(alloc: Global, factor: Factor) -> Expr
         first,
         more: Vec::new(alloc),
     };
-    Expr { sum }
+    Expr::new(alloc, sum)
 }
 
 /// A name of this kind with a subscript or none, as a value.
@@ -61,7 +61,7 @@ pub(crate) fn resolve_value(scope: Scope<'_>, r: &Reference) -> Result<Expr, All
     let subscript = resolve_subscript(scope, &r.subscript)?;
     let name = r.name.bytes();
     let factor = value_factor(scope, kind(scope, name), name, subscript)?;
-    Ok(alone(scope.alloc, factor))
+    alone(scope.alloc, factor)
 }
 
 /// A subscript in a block of its own.
@@ -209,7 +209,7 @@ pub(crate) fn called_value(
         Some(r) => resolve_value(scope, r),
         None => {
             let factor = Factor::Variable(class_variable(scope, class));
-            Ok(alone(scope.alloc, factor))
+            alone(scope.alloc, factor)
         }
     }
 }

@@ -14,7 +14,7 @@ use crate::movement::stands_on_break;
 use crate::set_text::set_text;
 use crate::text::{clock_text, movement_text, report_text, taken_text, var_text, where_text};
 use ss_links::SetBoard;
-use ss_machine::Stepped;
+use ss_state::Stepped;
 use std::alloc::AllocError;
 
 impl<S: SetBoard> Debugger<S> {

@@ -2,12 +2,11 @@ ghost use Rattle.std.specs.Prelude.{◌≡◌, ◌≤◌, ◌∷◌};
 ghost use Rattle.ss_machine.specs.History as pure;
 ghost use Rattle.ss_machine.specs.History.{IsTaken, value_numbers, set_numbers, entry_numbers, HasKept, AreValues};
 ghost use Rattle.ss_machine.specs.History.{IsRead, IsNoticeRead};
-ghost use Rattle.ss_machine.specs.Change as changes;
+ghost use Rattle.ss_state.specs.Change as changes;
 ghost use Rattle.ss_machine.specs.ChangeView.{as_change};
 ghost use Rattle.ss_machine.specs.declared.history.tape.Owned.TheVariants as owned;
 ghost use Rattle.ss_machine.specs.declared.history.kinds.ChangeKind.TheVariants as kinds;
 
-use crate::entry::Entry;
 use crate::history::kinds::{
     ChangeKind, ControlChangeKind, EntityChangeKind, EntryChangeKind, LoopChangeKind,
     SetChangeKind, TextChangeKind, TimeChangeKind, ValueChangeKind,
@@ -18,6 +17,7 @@ use crate::state::change::Change;
 use ss_byte_journal::SparseJournal;
 use ss_events::{AgendaChange, PendingNotice};
 use ss_program::Owner;
+use ss_state::Entry;
 use ss_store::StoreChange;
 
 /// A change of what a variable, FIND or COMPUTE holds.

@@ -16,8 +16,8 @@ use crate::history::numbers::Numbers;
 use crate::state::change::Change;
 use crate::state::frame::FrameBox;
 use crate::state::loops::ClosedLoop;
-use crate::status::Status;
 use ss_byte_journal::SparseJournal;
+use ss_state::Status;
 
 /// What of a change is kept as it is, beside the numbers that tell the rest: what owns memory, and
 /// a status.

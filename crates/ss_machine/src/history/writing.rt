@@ -1,11 +1,10 @@
 ghost use Rattle.std.specs.Prelude.{◌<◌};
 ghost use Rattle.ss_machine.specs.History.{IsNoted};
-ghost use Rattle.ss_machine.specs.Change as changes;
+ghost use Rattle.ss_state.specs.Change as changes;
 ghost use Rattle.ss_machine.specs.ChangeView.{as_change};
 ghost use Rattle.ss_store.specs.declared.change.StoreChange.TheVariants as stores;
 ghost use Rattle.ss_events.specs.declared.agenda.AgendaChange.TheVariants as notices;
 
-use crate::entry::Entry;
 use crate::history::folding::{flag, fold, owner_numbers, widen};
 use crate::history::kinds::{
     ChangeKind, ControlChangeKind, EntityChangeKind, EntryChangeKind, LoopChangeKind,
@@ -15,6 +14,7 @@ use crate::history::tape::{Owned, Tape};
 use crate::state::change::Change;
 use ss_events::{AgendaChange, PendingNotice};
 use ss_program::Owner;
+use ss_state::Entry;
 use ss_store::StoreChange;
 
 impl Tape {

@@ -1,6 +1,6 @@
 //! The frames of a machine's state, for who shows them.
 ghost use Rattle.std.specs.Prelude.{◌≡◌};
-ghost use Rattle.ss_machine.specs.Frames.{frame_place, frame_local};
+ghost use Rattle.ss_state.specs.Frames.{frame_place, frame_local};
 
 use crate::machine::Machine;
 use ss_links::SetBoard;

@@ -1,6 +1,5 @@
 use crate::state::frame::FrameBox;
 use crate::state::loops::ClosedLoop;
-use crate::{entry, status};
 use ss_events::AgendaChange;
 use ss_store::StoreChange;
 
@@ -30,9 +29,9 @@ pub enum Change {
     /// The report was lengthened; its old length.
     Report(usize),
     /// The entry of an external event changed; the old one.
-    Entry(entry::Entry),
+    Entry(ss_state::Entry),
     /// The status was changed; the old one.
-    Status(status::Status),
+    Status(ss_state::Status),
     /// A loop was opened in the last frame.
     LoopOpened,
     /// The innermost loop went to its next candidate; the old one.

@@ -2,12 +2,12 @@
 ghost use Rattle.std.specs.Prelude.{◌≡◌, ◌+◌, ◌<◌, ◌≤◌, ◌^◌, length, slice_get, Some, OnOk, IfOk, IfErr, OnErr, Ok};
 ghost use Rattle.std.specs.Prelude.{Err, replicate, nat_lt, None};
 ghost use Rattle.ss_report.specs.Pictures.{field_count, picture_text};
-ghost use Rattle.ss_machine.specs.Change.{Fits, unapply};
+ghost use Rattle.ss_state.specs.Change.{Fits, unapply};
 ghost use Rattle.ss_values.specs.Values.{FaultIs};
-ghost use Rattle.ss_machine.specs.Statements.Reading.{value_taken, values_taken};
-ghost use Rattle.ss_machine.specs.Statements.Timing.{external_class, arrival_asked};
-ghost use Rattle.ss_machine.specs.Statements.Printing.{longer_report};
-ghost use Rattle.ss_machine.specs.Statements.{state_with_taken};
+ghost use Rattle.ss_state.specs.Statements.Reading.{value_taken, values_taken};
+ghost use Rattle.ss_state.specs.Statements.Timing.{external_class, arrival_asked};
+ghost use Rattle.ss_state.specs.Statements.Printing.{longer_report};
+ghost use Rattle.ss_state.specs.Statements.{state_with_taken};
 ghost use Rattle.ss_machine.specs.ChangeView.{as_change};
 ghost use Rattle.ss_words.specs.declared.fault.RunFault.TheVariants as RunFault;
 ghost use Rattle.ss_data.specs.Items.{with_taken, value_or_fault};

@@ -6,8 +6,8 @@ ghost use Rattle.ss_store.specs.Store as entities;
 ghost use Rattle.ss_store.specs.Store.{number_of};
 ghost use Rattle.ss_store.specs.Filing.{after_filing, after_removing};
 ghost use Rattle.std.specs.List.{range_with_len};
-ghost use Rattle.ss_machine.specs.Statements.{entity_named};
-ghost use Rattle.ss_machine.specs.Statements.Timing.{attributes_now};
+ghost use Rattle.ss_state.specs.Statements.{entity_named};
+ghost use Rattle.ss_state.specs.Statements.Timing.{attributes_now};
 ghost use Rattle.ss_machine.specs.Storing.{IsStoring, IsRemoving, IsCreating, IsMakingAll};
 
 use crate::state::State;

@@ -1,7 +1,7 @@
 //! The external classes of a program, and the data that name them.
 ghost use Rattle.std.specs.Prelude.{◌≡◌, slice_get};
 ghost use Rattle.ss_program.specs.Program as programs;
-ghost use Rattle.ss_machine.specs.Statements.Timing as steps;
+ghost use Rattle.ss_state.specs.Statements.Timing as steps;
 
 use ss_data::Feed;
 use ss_program::Program;

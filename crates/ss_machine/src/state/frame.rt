@@ -1,6 +1,6 @@
 ghost use Rattle.std.specs.Prelude.{◌≡◌, ◌<◌, ◌≤◌, length, slice_get, slice_set, IfOk};
 ghost use Rattle.ss_program.specs.Program.{locals_of};
-ghost use Rattle.ss_machine.specs.State.{new_frame};
+ghost use Rattle.ss_state.specs.State.{new_frame};
 
 use crate::state::loops::Loops;
 use crate::state::statistics::{Statistics, no_statistics};
@@ -22,7 +22,7 @@ pub struct Frame {
 }
 
 impl Model for Frame {
-    ghost use Rattle.ss_machine.specs.State.{FrameState};
+    ghost use Rattle.ss_state.specs.State.{FrameState};
 
     ghost Value = { FrameState };
 
@@ -43,7 +43,7 @@ pub struct FrameBox {
 }
 
 impl Model for FrameBox {
-    ghost use Rattle.ss_machine.specs.State.{FrameState};
+    ghost use Rattle.ss_state.specs.State.{FrameState};
 
     ghost Value = { FrameState };
 

@@ -1,19 +1,19 @@
 //! The frames of a state: where the last one stands, its loops, and those below it.
 ghost use Rattle.std.specs.Prelude.{◌≡◌, ◌<◌, ◌≤◌, ◌∷◌, [], length, drop, OnOk, IfOk, OnErr, ◌++◌, MatchOption};
-ghost use Rattle.ss_machine.specs.Change.{Fits, unapply};
+ghost use Rattle.ss_state.specs.Change.{Fits, unapply};
 ghost use Rattle.ss_machine.specs.Dropping.{HasDropped};
-ghost use Rattle.ss_machine.specs.Loops.{innermost, loops_with_candidate, loop_of_phrase};
-ghost use Rattle.ss_machine.specs.Statements.{state_at_place};
-ghost use Rattle.ss_machine.specs.Statements.Looping.{state_with_loops, state_with_found, state_with_statistics};
+ghost use Rattle.ss_state.specs.Loops.{innermost, loops_with_candidate, loop_of_phrase};
+ghost use Rattle.ss_state.specs.Statements.{state_at_place};
+ghost use Rattle.ss_state.specs.Statements.Looping.{state_with_loops, state_with_found, state_with_statistics};
 ghost use Rattle.ss_machine.specs.ChangeView.{as_change};
 
-use crate::limits::MOST_BELOW;
 use crate::state::State;
 use crate::state::change::Change;
 use crate::state::frame::FrameBox;
 use crate::state::loops::OpenLoop;
 use crate::state::statistics::Statistics;
 use ss_links::SetBoard;
+use ss_state::MOST_BELOW;
 use std::alloc::{AllocError, Global};
 use std::mem;
 

@@ -1,5 +1,5 @@
 ghost use Rattle.std.specs.Prelude.{◌≡◌, ◌∷◌, [], MatchOption, OnOk, OnErr, IfOk};
-ghost use Rattle.ss_machine.specs.Loops.{innermost, loops_with_candidate};
+ghost use Rattle.ss_state.specs.Loops.{innermost, loops_with_candidate};
 
 use ss_program::Direction;
 use std::alloc::{AllocError, Global};
@@ -34,7 +34,7 @@ pub struct OpenLoop {
 impl Model for OpenLoop {
     ghost use Rattle.std.proofs.Common.{ap};
     ghost use Rattle.ss_machine.specs.declared.state.loops.Walk.{Walk};
-    ghost use Rattle.ss_machine.specs.Loops.{OpenLoop};
+    ghost use Rattle.ss_state.specs.Loops.{OpenLoop};
     ghost use Rattle.ss_machine.specs.View.{as_walk, code_walk, code_walk_is};
 
     ghost Value = { OpenLoop };
@@ -69,7 +69,7 @@ struct Node {
 
 impl Model for Loops {
     ghost use Rattle.std.specs.Prelude.{List};
-    ghost use Rattle.ss_machine.specs.Loops.{OpenLoop};
+    ghost use Rattle.ss_state.specs.Loops.{OpenLoop};
     ghost use Rattle.ss_machine.specs.Nodes.{chain_loops};
 
     ghost Value = { List OpenLoop };
@@ -84,7 +84,7 @@ pub struct ClosedLoop {
 }
 
 impl Model for ClosedLoop {
-    ghost use Rattle.ss_machine.specs.Loops.{OpenLoop};
+    ghost use Rattle.ss_state.specs.Loops.{OpenLoop};
     ghost use Rattle.ss_machine.specs.Nodes.{node_loop};
 
     ghost Value = { OpenLoop };

@@ -4,15 +4,15 @@ ghost use Rattle.ss_events.specs.Agenda.{is_pending, least, agenda_after_taking}
 ghost use Rattle.ss_events.specs.Rules.{rule_at, is_event_class};
 ghost use Rattle.ss_events.specs.Slots.{slot_of};
 ghost use Rattle.std.specs.Option.{option_map};
-ghost use Rattle.ss_machine.specs.Statements.Timing.{state_with_agenda, state_with_notice, agenda_without};
+ghost use Rattle.ss_state.specs.Statements.Timing.{state_with_agenda, state_with_notice, agenda_without};
 ghost use Rattle.ss_machine.specs.Storing.{LeavesState, IsScheduling, IsCancelling};
-ghost use Rattle.ss_machine.specs.State.{waits_for, entry_at_start};
+ghost use Rattle.ss_state.specs.State.{waits_for, entry_at_start};
 
-use crate::entry::Entry;
 use crate::state::State;
 use crate::state::change::Change;
 use ss_events::{Agenda, Slot};
 use ss_links::SetBoard;
+use ss_state::Entry;
 use ss_words::limits::MOST_REFERENCES;
 use ss_words::{RunFault, StepFault};
 

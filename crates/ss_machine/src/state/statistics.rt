@@ -1,6 +1,6 @@
 ghost use Rattle.std.specs.Prelude.{◌≡◌};
-ghost use Rattle.ss_machine.specs.Statements.Looping as steps;
-ghost use Rattle.ss_machine.specs.State as states;
+ghost use Rattle.ss_state.specs.Statements.Looping as steps;
+ghost use Rattle.ss_state.specs.State as states;
 
 use ss_program::Statistic;
 use ss_values::sum;
@@ -18,7 +18,7 @@ pub struct Statistics {
 }
 
 impl Model for Statistics {
-    ghost use Rattle.ss_machine.specs.State.{Statistics};
+    ghost use Rattle.ss_state.specs.State.{Statistics};
 
     ghost Value = { Statistics };
 

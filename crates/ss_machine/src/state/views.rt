@@ -1,14 +1,14 @@
 //! The frames of a state, by how many others stand on them.
 ghost use Rattle.std.specs.Prelude.{◌≡◌, ◌≤◌, ◌-◌, ◌<◌, length, reverse, slice_get};
 ghost use Rattle.std.specs.Option.{option_map};
-ghost use Rattle.ss_machine.specs.Frames.{frame_at, frame_place, frame_local};
+ghost use Rattle.ss_state.specs.Frames.{frame_at, frame_place, frame_local};
 
 use crate::state::State;
 use crate::state::frame::{Frame, FrameBox};
 use ss_links::SetBoard;
 
 /// The frame at this place from the end of some frames, the last of which is at place 1.
-#[tactic(auto, using(crate::proofs::Frames::from_end))]
+#[tactic(auto, using(ss_state::proofs::Frames::from_end))]
 fn from_end(frames: &[FrameBox], place: usize) -> Option<&FrameBox>
     requires { 0 < place }
     ensures { option_map (λ f. f.now) result ≡ slice_get (reverse frames.now) (place - 1) }
@@ -21,7 +21,7 @@ fn from_end(frames: &[FrameBox], place: usize) -> Option<&FrameBox>
 
 impl<S: SetBoard> State<S> {
     /// The frame on which so many others stand.
-    #[tactic(auto, using(crate::proofs::Frames::below_last))]
+    #[tactic(auto, using(ss_state::proofs::Frames::below_last))]
     fn frame_at(&self, depth: usize) -> Option<&Frame>
         ensures { option_map (λ f. f.now) result ≡ frame_at self.now.state depth }
     {

@@ -5,7 +5,7 @@ ghost use Rattle.ss_machine.specs.Executor.{state, tables};
 ghost use Rattle.ss_machine.specs.Noting.{Notes};
 ghost use Rattle.ss_machine.specs.Outcome.{LeadsTo};
 ghost use Rattle.ss_machine.specs.Seen.{InHeld};
-ghost use Rattle.ss_machine.specs.Statements.Assigning.{target_of, state_after_assign, step_assign};
+ghost use Rattle.ss_state.specs.Statements.Assigning.{target_of, state_after_assign, step_assign};
 
 use crate::executor::Executor;
 use ss_links::SetBoard;

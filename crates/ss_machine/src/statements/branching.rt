@@ -4,12 +4,12 @@ ghost use Rattle.ss_program.specs.ProgramSound.{IsSoundQuestion, IsSoundBranch};
 ghost use Rattle.ss_machine.specs.Executor.{state, tables};
 ghost use Rattle.ss_machine.specs.Noting.{Notes};
 ghost use Rattle.ss_machine.specs.Seen.{InHeld};
-ghost use Rattle.ss_machine.specs.Statements.Branching.{step_branch, question_answer};
+ghost use Rattle.ss_state.specs.Statements.Branching.{step_branch, question_answer};
 
 use crate::executor::Executor;
-use crate::status::Status;
 use ss_links::SetBoard;
 use ss_program::{Branch, Question, Ways};
+use ss_state::Status;
 use ss_values::holds;
 use ss_words::RunFault;
 

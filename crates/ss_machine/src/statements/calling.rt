@@ -7,22 +7,20 @@ ghost use Rattle.ss_store.specs.Tables.{tables_of};
 ghost use Rattle.ss_machine.specs.Executor.{state, tables};
 ghost use Rattle.ss_machine.specs.Noting.{Notes};
 ghost use Rattle.ss_machine.specs.Outcome.{LeadsTo};
-ghost use Rattle.ss_machine.specs.Moment.{place_targets, yield_count};
-ghost use Rattle.ss_machine.specs.Moment as changes;
+ghost use Rattle.ss_state.specs.ChangeCounts.{place_targets, yield_count};
+ghost use Rattle.ss_state.specs.ChangeCounts as changes;
 ghost use Rattle.ss_machine.specs.Dropping.{HasDropped};
 ghost use Rattle.ss_machine.specs.Seen.{InHeld};
-ghost use Rattle.ss_machine.specs.Statements.Calling.{step_control, step_call, state_behind_call, state_behind_place};
-ghost use Rattle.ss_machine.specs.Statements.Calling.{state_after_return, state_without_entry, state_after_event};
-ghost use Rattle.ss_machine.specs.Statements.Calling.{state_after_section};
-ghost use Rattle.ss_machine.specs.Well.{IsInBounds, IsWellFrame};
+ghost use Rattle.ss_state.specs.Statements.Calling.{step_control, step_call, state_behind_call, state_behind_place};
+ghost use Rattle.ss_state.specs.Statements.Calling.{state_after_return, state_without_entry, state_after_event};
+ghost use Rattle.ss_state.specs.Statements.Calling.{state_after_section};
+ghost use Rattle.ss_state.specs.Well.{IsInBounds, IsWellFrame};
 
-use crate::entry::Entry;
 use crate::executor::{Executor, ways_at};
-use crate::limits::MOST_BELOW;
 use crate::state::frame::FrameBox;
-use crate::status::Status;
 use ss_links::SetBoard;
 use ss_program::{Call, Control, Place, Program, Section, SectionKind};
+use ss_state::{Entry, MOST_BELOW, Status};
 use ss_values::{value, values};
 use ss_words::{RunFault, StepFault};
 use std::alloc::AllocError;
@@ -199,7 +197,7 @@ impl<S: SetBoard> Executor<S> {
         }
     }
 
-    #[tactic(auto, using(crate::proofs::Sounds::section_found, crate::proofs::Sounds::few_parameters))]
+    #[tactic(auto, using(ss_state::proofs::Sounds::section_found, ss_state::proofs::Sounds::few_parameters))]
     fn end_section(&mut self, program: &Program) -> Result<(), AllocError>
         requires well { IsInBounds program.now (state self.old) }
         requires tables { tables self.old ≡ tables_of program.now }

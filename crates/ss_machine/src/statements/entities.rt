@@ -5,11 +5,11 @@ ghost use Rattle.ss_machine.specs.Executor.{state, tables};
 ghost use Rattle.ss_machine.specs.Noting.{Notes};
 ghost use Rattle.ss_machine.specs.Outcome.{LeadsTo, LeadsToOrRefuses};
 ghost use Rattle.ss_machine.specs.Seen.{InHeld};
-ghost use Rattle.ss_machine.specs.Statements.Entities.{step_making, state_after_create, state_after_making};
-ghost use Rattle.ss_machine.specs.Statements.Entities.{state_after_destroy};
+ghost use Rattle.ss_state.specs.Statements.Entities.{step_making, state_after_create, state_after_making};
+ghost use Rattle.ss_state.specs.Statements.Entities.{state_after_destroy};
 ghost use Rattle.ss_program.specs.declared.making.Making.TheVariants as making;
 ghost use Rattle.ss_store.specs.Tables.{class_of};
-ghost use Rattle.ss_machine.specs.Statements.Entities as steps;
+ghost use Rattle.ss_state.specs.Statements.Entities as steps;
 ghost use Rattle.ss_values.specs.Seen.{view_readings, InView};
 
 use crate::executor::Executor;

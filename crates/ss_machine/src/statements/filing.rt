@@ -5,9 +5,9 @@ ghost use Rattle.ss_machine.specs.Executor.{state, tables};
 ghost use Rattle.ss_machine.specs.Noting.{Notes};
 ghost use Rattle.ss_machine.specs.Outcome.{LeadsTo};
 ghost use Rattle.ss_machine.specs.Seen.{InHeld};
-ghost use Rattle.ss_machine.specs.Statements.Filing.{step_filing, state_after_file, state_after_remove_end};
-ghost use Rattle.ss_machine.specs.Statements.Filing.{state_after_remove, state_after_filing};
-ghost use Rattle.ss_machine.specs.Statements.Filing as steps;
+ghost use Rattle.ss_state.specs.Statements.Filing.{step_filing, state_after_file, state_after_remove_end};
+ghost use Rattle.ss_state.specs.Statements.Filing.{state_after_remove, state_after_filing};
+ghost use Rattle.ss_state.specs.Statements.Filing as steps;
 ghost use Rattle.ss_values.specs.Seen.{view_readings, InView};
 ghost use Rattle.ss_values.specs.Values as evaluated;
 

@@ -8,27 +8,26 @@ ghost use Rattle.ss_program.specs.ProgramSound.{IsSoundPhrase, AreSoundQualifier
 ghost use Rattle.ss_machine.specs.Executor.{state, tables};
 ghost use Rattle.ss_machine.specs.Noting.{Notes};
 ghost use Rattle.ss_machine.specs.Outcome.{LeadsTo, Gives};
-ghost use Rattle.ss_machine.specs.Moment as changes;
+ghost use Rattle.ss_state.specs.ChangeCounts as changes;
 ghost use Rattle.ss_machine.specs.Seen.{InHeld};
-ghost use Rattle.ss_machine.specs.Loops.{loops_with_candidate, IsSoundWalk, AreSoundWalks};
-ghost use Rattle.ss_machine.specs.Statements.{state_after_result, state_at_place};
-ghost use Rattle.ss_machine.specs.Statements.Looping.{step_looping, step_phrase, state_with_loops, state_with_found};
-ghost use Rattle.ss_machine.specs.Statements.Looping.{state_with_statistics, state_after_reset, state_after_entry};
-ghost use Rattle.ss_machine.specs.Statements.Looping.{state_after_closing, candidate_tried, state_after_turn};
-ghost use Rattle.ss_machine.specs.Statements.Looping.{state_after_telling, statistics_after};
+ghost use Rattle.ss_state.specs.Loops.{loops_with_candidate, IsSoundWalk, AreSoundWalks};
+ghost use Rattle.ss_state.specs.Statements.{state_after_result, state_at_place};
+ghost use Rattle.ss_state.specs.Statements.Looping.{step_looping, step_phrase, state_with_loops, state_with_found};
+ghost use Rattle.ss_state.specs.Statements.Looping.{state_with_statistics, state_after_reset, state_after_entry};
+ghost use Rattle.ss_state.specs.Statements.Looping.{state_after_closing, candidate_tried, state_after_turn};
+ghost use Rattle.ss_state.specs.Statements.Looping.{state_after_telling, statistics_after};
 ghost use Rattle.ss_machine.specs.View.{as_verdict};
 
 use crate::executor::Executor;
-use crate::limits::MOST_STEP_CHANGES;
 use crate::state::loops::OpenLoop;
 use crate::state::statistics::{Statistics, no_statistics, statistic_value, statistics_with};
 use crate::statements::looping::candidates::{
     loop_at_entry, loop_variable, next_candidate, verdict,
 };
 use crate::statements::looping::verdict::Verdict;
-use crate::status::Status;
 use ss_links::SetBoard;
 use ss_program::{ForPhrase, Looping, Resets, Tellings, Ways};
+use ss_state::{MOST_STEP_CHANGES, Status};
 use ss_values::value;
 use ss_words::RunFault;
 use std::alloc::AllocError;
@@ -201,7 +200,7 @@ impl<S: SetBoard> Executor<S> {
         }
     }
 
-    #[tactic(auto, using(crate::proofs::Parts::drop_one_more))]
+    #[tactic(auto, using(ss_state::proofs::Parts::drop_one_more))]
     fn find(&mut self, ways: Ways)
         requires few { ways.chain ≤ MOST_PHRASES }
         requires room { 1 + ways.chain < self.old.journal.notes }

@@ -5,16 +5,15 @@ ghost use Rattle.ss_program.specs.ProgramSound.{IsSoundExpr, IsSoundOutput, AreS
 ghost use Rattle.ss_machine.specs.Executor.{state, tables};
 ghost use Rattle.ss_machine.specs.Noting.{Notes};
 ghost use Rattle.ss_machine.specs.Seen.{InHeld};
-ghost use Rattle.ss_machine.specs.Statements.Printing.{state_after_print, state_after_skip, step_output};
-ghost use Rattle.ss_machine.specs.Statements.Printing as steps;
+ghost use Rattle.ss_state.specs.Statements.Printing.{state_after_print, state_after_skip, step_output};
+ghost use Rattle.ss_state.specs.Statements.Printing as steps;
 ghost use Rattle.ss_values.specs.Seen.{view_readings, InView};
 
 use crate::executor::Executor;
-use crate::limits::MOST_SKIPPED_LINES;
-use crate::status::Status;
 use ss_links::SetBoard;
 use ss_program::{Expr, Output, Values};
 use ss_report::Picture;
+use ss_state::{MOST_SKIPPED_LINES, Status};
 use ss_values::{View, value, values};
 use ss_words::{RunFault, StepFault};
 use std::alloc::AllocError;

@@ -6,13 +6,13 @@ ghost use Rattle.ss_machine.specs.Executor.{state, tables};
 ghost use Rattle.ss_machine.specs.Noting.{Notes};
 ghost use Rattle.ss_machine.specs.Outcome.{LeadsToOrRefuses};
 ghost use Rattle.ss_machine.specs.Seen.{InHeld};
-ghost use Rattle.ss_machine.specs.Statements.Reading.{step_read, state_after_read};
+ghost use Rattle.ss_state.specs.Statements.Reading.{step_read, state_after_read};
 
-use crate::entry::Entry;
 use crate::executor::Executor;
 use crate::state::external::has_external;
 use ss_links::SetBoard;
 use ss_program::{Program, Targets};
+use ss_state::Entry;
 use ss_values::values;
 use ss_words::{RunFault, StepFault};
 use std::alloc::AllocError;

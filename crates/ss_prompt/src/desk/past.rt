@@ -1,7 +1,7 @@
 //! What the history tells of a fault where a movement stops.
 ghost use Rattle.std.specs.Prelude.{◌≡◌, ◌⊎◌, ◌++◌, IfOk, OnErr, OnOk, is_some};
 ghost use Rattle.ss_machine.specs.Moment.{position};
-ghost use Rattle.ss_machine.specs.Run.{run};
+ghost use Rattle.ss_state.specs.Run.{run};
 ghost use Rattle.ss_trace.specs.History.{newest_change, why_head};
 ghost use Rattle.ss_faults.specs.Asked.{state_asked};
 ghost use Rattle.ss_prompt.specs.Histories.{HasLookedBack};

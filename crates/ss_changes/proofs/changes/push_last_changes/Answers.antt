@@ -1,6 +1,6 @@
 use Rattle.std.proofs.Common.{◌≡◌, List, [], ◌∷◌, ◌++◌, ap, ◌∙◌, length, append_assoc}
 use Rattle.ss_program.specs.Program.{ProgramTable}
-use Rattle.ss_machine.specs.State.{State}
+use Rattle.ss_state.specs.State.{State}
 use Rattle.ss_changes.specs.declared.part.Part.{Part}
 use Rattle.ss_changes.specs.declared.part.Part.TheVariants.{Taken, Entry, Clock, Report}
 use Rattle.ss_changes.specs.Parts.{below_of, global_part, local_parts, attribute_parts, entity_parts, list_parts}

@@ -5,7 +5,14 @@ pub returns-clause-past : goal.returns-clause-past
 returns-clause-past c = λ b. refl
 
 pub returns-clause-back : goal.returns-clause-back
-returns-clause-back c = λ b. record { input = refl; past = refl; position = refl; forgotten = refl; steps = (_, refl) }
+returns-clause-back c = λ b. record {
+  input = refl;
+  past = refl;
+  position = refl;
+  forgotten = refl;
+  ready = refl;
+  steps = (_, refl);
+}
 
 pub returns-clause-earliest : goal.returns-clause-earliest
 returns-clause-earliest c = λ b. refl

@@ -1,6 +1,6 @@
 use Rattle.std.specs.Prelude.{slice_get}
 use Rattle.ss_program.specs.Program.{places_of}
-use Rattle.ss_machine.proofs.Sounds.{ways_found}
+use Rattle.ss_state.proofs.Sounds.{ways_found}
 use Rattle.ss_machine.proofs.executor.ways_at.Goals as goal
 
 pub returns : goal.returns

@@ -4,7 +4,7 @@ ghost use Rattle.ss_program.specs.ProgramSound.{AreSoundQualifiers};
 ghost use Rattle.ss_values.specs.Faults.{◌>>=◌ as and_then};
 ghost use Rattle.ss_values.specs.Values.{value_of, subscript_value};
 ghost use Rattle.ss_values.specs.Seen.{view_readings, InView};
-ghost use Rattle.ss_machine.specs.Loops as loops;
+ghost use Rattle.ss_state.specs.Loops as loops;
 ghost use Rattle.ss_machine.specs.View.{as_walk, as_verdict};
 ghost use Rattle.ss_machine.specs.Outcome.{Gives};
 

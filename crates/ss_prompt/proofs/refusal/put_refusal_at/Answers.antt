@@ -1,7 +1,7 @@
 use Rattle.std.proofs.Common.{◌≡◌, ◌++◌, ◌∙◌, sym, ap}
 use Rattle.ss_machine.specs.Moment.{position}
-use Rattle.ss_machine.specs.State.{State}
-use Rattle.ss_machine.specs.Run.{run}
+use Rattle.ss_state.specs.State.{State}
+use Rattle.ss_state.specs.Run.{run}
 use Rattle.ss_debug.specs.Answer.{status_text}
 use Rattle.ss_prompt.proofs.Refusals.{told_with}
 use Rattle.ss_prompt.proofs.refusal.put_refusal_at.Goals as goal

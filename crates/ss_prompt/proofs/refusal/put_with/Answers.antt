@@ -1,7 +1,7 @@
 use Rattle.std.proofs.Common.{◌≡◌, rules, decimal}
 use Rattle.std.specs.Fmt.{signed_decimal}
 use Rattle.ss_machine.specs.Moment.{position}
-use Rattle.ss_machine.specs.Run.{run}
+use Rattle.ss_state.specs.Run.{run}
 use Rattle.ss_debug.specs.Answer.{section_at}
 use Rattle.ss_debug.specs.Move.{line_at}
 use Rattle.ss_prompt.proofs.refusal.put_with.Goals as goal

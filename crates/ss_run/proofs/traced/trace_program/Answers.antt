@@ -1,5 +1,5 @@
 use Rattle.std.proofs.Common.{◌≡◌, Err, refl, inr, rules}
-use Rattle.ss_machine.specs.Run.{input_with}
+use Rattle.ss_state.specs.Run.{input_with}
 use Rattle.ss_session.specs.Texts.{OutletState}
 use Rattle.ss_session.proofs.Pieces.{appends_none}
 use Rattle.ss_run.specs.declared.whole_run.RunCut.TheVariants.{Memory}

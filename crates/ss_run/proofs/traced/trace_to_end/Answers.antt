@@ -1,5 +1,5 @@
 use Rattle.std.proofs.Common.{◌≡◌, Err, rules}
-use Rattle.ss_machine.specs.declared.stepped.Stepped.TheVariants.{Moved}
+use Rattle.ss_state.specs.declared.stepped.Stepped.TheVariants.{Moved}
 use Rattle.ss_session.specs.Texts.{OutletState}
 use Rattle.ss_run.specs.declared.whole_run.RunCut.TheVariants.{Memory}
 use Rattle.ss_run.specs.Advance.{HasAdvanced}

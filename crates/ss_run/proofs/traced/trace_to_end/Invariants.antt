@@ -1,6 +1,6 @@
 use Rattle.std.proofs.Common.{◌-◌}
-use Rattle.ss_machine.specs.declared.limits.TheConstants.{LAST_POSITION}
-use Rattle.ss_machine.specs.declared.stepped.Stepped.TheVariants.{Moved}
+use Rattle.ss_state.specs.declared.limits.TheConstants.{LAST_POSITION}
+use Rattle.ss_state.specs.declared.stepped.Stepped.TheVariants.{Moved}
 use Rattle.ss_machine.specs.Moment.{position}
 use Rattle.ss_run.specs.Advance.{HasAdvanced}
 use Rattle.ss_run.specs.Tracing.{AreAnswers, HasTraced}

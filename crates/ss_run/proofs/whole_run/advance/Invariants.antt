@@ -1,4 +1,4 @@
-use Rattle.ss_machine.specs.declared.stepped.Stepped.TheVariants.{Moved}
+use Rattle.ss_state.specs.declared.stepped.Stepped.TheVariants.{Moved}
 use Rattle.ss_run.specs.Advance.{HasAdvanced}
 use Rattle.ss_run.proofs.whole_run.advance.Given as goal
 

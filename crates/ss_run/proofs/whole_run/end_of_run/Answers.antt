@@ -1,7 +1,7 @@
 use Rattle.std.proofs.Common.{◌≡◌, ap, refl, true}
-use Rattle.ss_machine.specs.State.{is_faulted}
+use Rattle.ss_state.specs.State.{is_faulted}
 use Rattle.ss_machine.specs.Moment.{position}
-use Rattle.ss_machine.specs.Run.{run}
+use Rattle.ss_state.specs.Run.{run}
 use Rattle.ss_debug.specs.Turn.{debugger_state_after}
 use Rattle.ss_debug.specs.AfterRefusal.{IsStateAfterRefusal}
 use Rattle.ss_run.proofs.Advances.{where_said}

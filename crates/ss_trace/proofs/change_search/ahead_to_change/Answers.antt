@@ -1,6 +1,6 @@
 use Rattle.std.proofs.Common.{◌≡◌, ◌+◌, ◌-◌, ℕ, min, true, false, sym, ap, ◌∙◌, arith, rules}
 use borrow.Author.Count.{below_more}
-use Rattle.ss_machine.specs.declared.limits.TheConstants.{LAST_POSITION}
+use Rattle.ss_state.specs.declared.limits.TheConstants.{LAST_POSITION}
 use Rattle.ss_machine.specs.Moment.{position}
 use Rattle.ss_debug.specs.Move.{StopCondition, stops}
 use Rattle.ss_debug.proofs.Moves.{least_is, least_at_least}

@@ -1,6 +1,6 @@
 use Rattle.std.proofs.Common.{◌≡◌, ◌++◌, ◌∷◌, ◌+◌, ◌-◌, ℕ, List, take, length, suc, ap, ◌∙◌, arith}
 use Rattle.ss_machine.specs.Moment.{position}
-use Rattle.ss_machine.specs.Run.{run}
+use Rattle.ss_state.specs.Run.{run}
 use Rattle.ss_trace.specs.Question.{answer_at}
 use Rattle.ss_trace.specs.History.{history, step_row, step_rows}
 use Rattle.ss_trace.proofs.Histories.{row_more, count_more, row_told, rows_on, history_moved}

@@ -3,10 +3,10 @@ use Rattle.std.proofs.Common.{FitsSigned, to_z, of_z}
 use Rattle.std.proofs.lemmas.Int.{to_z-of_z}
 use Rattle.ss_words.specs.declared.fault.RunFault.{RunFault}
 use Rattle.ss_machine.specs.Seen.{scope_held}
-use Rattle.ss_machine.specs.Statements.{state_with_values}
-use Rattle.ss_machine.proofs.Parts.{drop_at, drop_past}
+use Rattle.ss_state.specs.Statements.{state_with_values}
+use Rattle.ss_state.proofs.Parts.{drop_at, drop_past}
 use Rattle.ss_machine.proofs.Notings.{notes_both, notes_within, notes_none}
-use Rattle.ss_machine.proofs.Repeats.{targets_sound, targets_first, targets_more, targets_fail}
+use Rattle.ss_state.proofs.Repeats.{targets_sound, targets_first, targets_more, targets_fail}
 use Rattle.ss_machine.proofs.executor.Executor.assign_kept.Goals as goal
 
 pub loop-target-init : goal.loop-target-init

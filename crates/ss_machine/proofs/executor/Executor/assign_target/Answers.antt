@@ -3,7 +3,7 @@ use Rattle.std.proofs.lemmas.Int.{to_z-of_z}
 use Rattle.ss_words.specs.declared.fault.RunFault.{RunFault}
 use Rattle.ss_program.specs.declared.target.Target.TheVariants.{Attribute}
 use Rattle.ss_values.specs.Values.{subscript_value}
-use Rattle.ss_machine.specs.Readings.{readings}
+use Rattle.ss_state.specs.Readings.{readings}
 use Rattle.ss_machine.proofs.Storings.{refusal_is, storing_is}
 use Rattle.ss_machine.proofs.Executing.{attribute_fails, attribute_ends}
 use Rattle.ss_machine.proofs.executor.Executor.assign_target.Goals as goal

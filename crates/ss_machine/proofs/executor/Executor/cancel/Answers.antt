@@ -2,8 +2,8 @@ use Rattle.std.proofs.Common.{◌≡◌, rules, sym, w64, FitsSigned, to_z, of_z
 use Rattle.std.proofs.lemmas.Int.{to_z-of_z}
 use Rattle.ss_words.specs.declared.fault.RunFault.{RunFault}
 use Rattle.ss_values.specs.Values.{value_of}
-use Rattle.ss_machine.specs.Readings.{readings}
-use Rattle.ss_machine.specs.Statements.{entity_named}
+use Rattle.ss_state.specs.Readings.{readings}
+use Rattle.ss_state.specs.Statements.{entity_named}
 use Rattle.ss_machine.proofs.Notings.{notes_none}
 use Rattle.ss_machine.proofs.Executing.{cancel_refused, cancelling_is, cancel_fails, cancel_ends}
 use Rattle.ss_machine.proofs.executor.Executor.cancel.Goals as goal

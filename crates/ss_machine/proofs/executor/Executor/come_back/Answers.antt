@@ -1,5 +1,5 @@
 use Rattle.ss_machine.proofs.Scopes.{sound_with}
-use Rattle.ss_machine.proofs.Sounds.{few_targets}
+use Rattle.ss_state.proofs.Sounds.{few_targets}
 use Rattle.ss_machine.proofs.executor.Executor.come_back.Goals as goal
 
 pub behind_call-requires-clause-sound : goal.behind_call-requires-clause-sound

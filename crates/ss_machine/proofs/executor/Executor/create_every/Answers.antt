@@ -1,8 +1,8 @@
 use Rattle.std.proofs.Common.{◌≡◌, rules, w64, FitsSigned, to_z, of_z, Ok, Err}
 use Rattle.std.proofs.lemmas.Int.{to_z-of_z}
 use Rattle.ss_words.specs.declared.fault.StepFault.{StepFault}
-use Rattle.ss_machine.specs.Readings.{readings}
-use Rattle.ss_machine.specs.Statements.Entities.{number_asked}
+use Rattle.ss_state.specs.Readings.{readings}
+use Rattle.ss_state.specs.Statements.Entities.{number_asked}
 use Rattle.ss_machine.proofs.Notings.{notes_none}
 use Rattle.ss_machine.proofs.Executing.{refused_is, making_all_is, create_every_fails, create_every_ends}
 use Rattle.ss_machine.proofs.executor.Executor.create_every.Goals as goal

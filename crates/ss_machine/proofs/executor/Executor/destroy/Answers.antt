@@ -3,8 +3,8 @@ use Rattle.std.proofs.lemmas.Int.{to_z-of_z}
 use Rattle.ss_words.specs.declared.fault.RunFault.{RunFault}
 use Rattle.ss_values.specs.Values.{value_of}
 use Rattle.ss_events.specs.Agenda.{is_pending}
-use Rattle.ss_machine.specs.Readings.{readings}
-use Rattle.ss_machine.specs.Statements.{entity_named}
+use Rattle.ss_state.specs.Readings.{readings}
+use Rattle.ss_state.specs.Statements.{entity_named}
 use Rattle.ss_machine.proofs.Notings.{notes_none}
 use Rattle.ss_machine.proofs.Storings.{refusal_is, storing_is}
 use Rattle.ss_machine.proofs.Executing.{destroy_fails, destroy_ends}

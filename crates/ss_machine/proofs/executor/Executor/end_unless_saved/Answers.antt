@@ -1,8 +1,8 @@
 use Rattle.std.proofs.Common.{◌≡◌, rules, ap, sym, ◌∙◌, w64, FitsSigned, to_z, of_z, false, Ok, Err}
 use Rattle.std.proofs.lemmas.Int.{to_z-of_z}
 use Rattle.ss_words.specs.declared.fault.RunFault.{RunFault}
-use Rattle.ss_machine.specs.State.{State}
-use Rattle.ss_machine.specs.Held.{Held}
+use Rattle.ss_state.specs.State.{State}
+use Rattle.ss_state.specs.Held.{Held}
 use Rattle.ss_machine.proofs.Notings.{notes_none}
 use Rattle.ss_machine.proofs.Storings.{refusal_is, storing_is}
 use Rattle.ss_machine.proofs.Executing.{unsaved, stored_alone}

@@ -2,7 +2,7 @@ use Rattle.std.proofs.Common.{◌≡◌, rules, ap, sym, ◌∙◌, w64, FitsSig
 use Rattle.std.proofs.lemmas.Int.{to_z-of_z}
 use Rattle.ss_words.specs.declared.fault.RunFault.{RunFault}
 use Rattle.ss_values.specs.Values.{subscript_value}
-use Rattle.ss_machine.specs.Readings.{readings}
+use Rattle.ss_state.specs.Readings.{readings}
 use Rattle.ss_machine.proofs.Notings.{notes_none}
 use Rattle.ss_machine.proofs.Storings.{refusal_is, storing_is, file_fails, file_ends}
 use Rattle.ss_machine.proofs.executor.Executor.file.Goals as goal

@@ -2,8 +2,8 @@ use Rattle.std.proofs.Common.{◌≡◌, arith, rules, refl, w64, FitsSigned, to
 use Rattle.std.proofs.lemmas.Int.{to_z-of_z}
 use Rattle.ss_words.specs.declared.fault.RunFault.{RunFault}
 use Rattle.ss_values.specs.Values.{value_of}
-use Rattle.ss_machine.specs.Readings.{readings}
-use Rattle.ss_machine.specs.Statements.Filing.{how_asked}
+use Rattle.ss_state.specs.Readings.{readings}
+use Rattle.ss_state.specs.Statements.Filing.{how_asked}
 use Rattle.ss_machine.proofs.Notings.{notes_within, notes_none}
 use Rattle.ss_machine.proofs.executor.Executor.file_or_remove.Goals as goal
 

@@ -1,6 +1,6 @@
 use Rattle.std.proofs.Common.{◌≡◌, ◌+◌, drop, true}
 use Rattle.ss_machine.specs.Noting.{Notes}
-use Rattle.ss_machine.specs.Statements.Looping.{state_with_found, state_with_loops}
+use Rattle.ss_state.specs.Statements.Looping.{state_with_found, state_with_loops}
 use Rattle.ss_machine.proofs.executor.Executor.find.Given as goal
 
 -- so many loops are closed

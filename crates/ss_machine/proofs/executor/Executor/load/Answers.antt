@@ -1,4 +1,4 @@
-use Rattle.ss_machine.proofs.Starts.{arrival_event, class_shaped, event_shaped}
+use Rattle.ss_state.proofs.Starts.{arrival_event, class_shaped, event_shaped}
 use Rattle.ss_machine.proofs.executor.Executor.load.Goals as goal
 
 pub await_arrival-requires-clause-event : goal.await_arrival-requires-clause-event

@@ -1,6 +1,6 @@
 use Rattle.std.proofs.Common.{◌≡◌, ◌+◌, length, arith, rules}
 use Rattle.ss_journal.specs.Undoing.{unapply_all}
-use Rattle.ss_machine.specs.Change.{unapply}
+use Rattle.ss_state.specs.Change.{unapply}
 use Rattle.ss_machine.proofs.Notings.{notes_both}
 use Rattle.ss_machine.proofs.Storings.{settled_as}
 use Rattle.ss_machine.proofs.executor.Executor.read.Goals as goal

@@ -2,7 +2,7 @@ use Rattle.std.proofs.Common.{◌≡◌, rules, w64, FitsSigned, to_z, of_z, Ok,
 use Rattle.std.proofs.lemmas.Int.{to_z-of_z}
 use Rattle.ss_words.specs.declared.fault.RunFault.{RunFault}
 use Rattle.ss_values.specs.Values.{subscript_value}
-use Rattle.ss_machine.specs.Readings.{readings}
+use Rattle.ss_state.specs.Readings.{readings}
 use Rattle.ss_machine.proofs.Notings.{notes_none}
 use Rattle.ss_machine.proofs.Storings.{removal_refused, remove_fails}
 use Rattle.ss_machine.proofs.executor.Executor.remove.Goals as goal

@@ -1,6 +1,6 @@
 use Rattle.std.proofs.Common.{◌≡◌, ◌≤◌, length}
 use Rattle.ss_journal.specs.Undoing.{unapply_all, FitsAll}
-use Rattle.ss_machine.specs.Change.{Fits, unapply}
+use Rattle.ss_state.specs.Change.{Fits, unapply}
 use Rattle.ss_machine.proofs.executor.Executor.roll_back.Given as goal
 
 -- what is left to take back fits, and leads to the same state

@@ -1,5 +1,5 @@
 use Rattle.ss_machine.proofs.Scopes.{sound_here}
-use Rattle.ss_machine.proofs.Sounds.{spot_linked, spot_timed, chain_at}
+use Rattle.ss_state.proofs.Sounds.{spot_linked, spot_timed, chain_at}
 use Rattle.ss_machine.proofs.executor.Executor.run.Goals as goal
 
 pub make_room-requires-clause-timed : goal.make_room-requires-clause-timed

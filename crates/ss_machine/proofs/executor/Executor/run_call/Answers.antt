@@ -1,7 +1,7 @@
 use Rattle.std.proofs.Common.{arith}
 use Rattle.ss_values.specs.Seen.{view_readings}
-use Rattle.ss_machine.proofs.ValueCounts.{values_length}
-use Rattle.ss_machine.proofs.Sounds.{called_there, called_few}
+use Rattle.ss_state.proofs.ValueCounts.{values_length}
+use Rattle.ss_state.proofs.Sounds.{called_there, called_few}
 use Rattle.ss_machine.proofs.executor.Executor.run_call.Goals as goal
 
 pub new-requires-clause-section : goal.new-requires-clause-section

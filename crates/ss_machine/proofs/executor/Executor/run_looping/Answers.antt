@@ -1,7 +1,7 @@
 use Rattle.std.proofs.Common.{◌≡◌, ◌+◌, length, arith, rules}
 use Rattle.ss_journal.specs.Undoing.{unapply_all}
-use Rattle.ss_machine.specs.Change.{unapply}
-use Rattle.ss_machine.specs.Statements.Looping.{state_after_telling}
+use Rattle.ss_state.specs.Change.{unapply}
+use Rattle.ss_state.specs.Statements.Looping.{state_after_telling}
 use Rattle.ss_machine.proofs.Notings.{notes_both}
 use Rattle.ss_machine.proofs.Executing.{settled_by}
 use Rattle.ss_machine.proofs.executor.Executor.run_looping.Goals as goal

@@ -4,9 +4,10 @@ use Rattle.std.proofs.lemmas.Int.{to_z-of_z}
 use Rattle.ss_words.specs.declared.fault.RunFault.{RunFault}
 use Rattle.ss_words.specs.declared.fault.StepFault.TheVariants.{Fault}
 use Rattle.ss_values.specs.Seen.{view_readings}
-use Rattle.ss_machine.specs.Readings.{readings}
-use Rattle.ss_machine.specs.Statements.Timing.{arguments_asked, time_asked}
-use Rattle.ss_machine.proofs.Starts.{arguments_count, noted_same}
+use Rattle.ss_state.specs.Readings.{readings}
+use Rattle.ss_state.specs.Statements.Timing.{arguments_asked, time_asked}
+use Rattle.ss_machine.proofs.Starts.{noted_same}
+use Rattle.ss_state.proofs.Starts.{arguments_count}
 use Rattle.ss_machine.proofs.Executing.{schedule_goes_on, schedule_untimed}
 use Rattle.ss_machine.proofs.executor.Executor.schedule.Goals as goal
 

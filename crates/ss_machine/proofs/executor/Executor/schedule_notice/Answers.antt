@@ -4,9 +4,10 @@ use Rattle.std.proofs.lemmas.Int.{to_z-of_z}
 use Rattle.ss_words.specs.declared.fault.StepFault.{StepFault}
 use Rattle.ss_program.specs.Program.{event_of}
 use Rattle.ss_values.specs.Values.{FaultIs}
-use Rattle.ss_machine.specs.Held.{Held}
-use Rattle.ss_machine.specs.Statements.Timing.{attributes_now, tie_attributes}
-use Rattle.ss_machine.proofs.Starts.{class_shaped, event_ruled, keys_count, noted_same, not_scheduled}
+use Rattle.ss_state.specs.Held.{Held}
+use Rattle.ss_state.specs.Statements.Timing.{attributes_now, tie_attributes}
+use Rattle.ss_machine.proofs.Starts.{noted_same, not_scheduled}
+use Rattle.ss_state.proofs.Starts.{class_shaped, event_ruled, keys_count}
 use Rattle.ss_machine.proofs.Executing.{scheduling_refused, scheduling_is, keys_fail, notice_fails, notice_ends}
 use Rattle.ss_machine.proofs.executor.Executor.schedule_notice.Goals as goal
 

@@ -3,16 +3,16 @@ use Rattle.std.proofs.Common.{w64, FitsSigned, to_z, of_z}
 use Rattle.std.proofs.lemmas.Int.{to_z-of_z}
 use Rattle.ss_words.specs.declared.fault.RunFault.{RunFault}
 use Rattle.ss_values.specs.Seen.{scope_of}
-use Rattle.ss_machine.specs.Held.{Held}
+use Rattle.ss_state.specs.Held.{Held}
 use Rattle.ss_machine.specs.ChangeView.{as_change}
-use Rattle.ss_machine.specs.Readings.{readings}
+use Rattle.ss_state.specs.Readings.{readings}
 use Rattle.ss_machine.specs.Seen.{scope_held}
-use Rattle.ss_machine.specs.Statements.Timing.{state_with_attributes}
-use Rattle.ss_machine.proofs.Parts.{drop_at, drop_past}
+use Rattle.ss_state.specs.Statements.Timing.{state_with_attributes}
+use Rattle.ss_state.proofs.Parts.{drop_at, drop_past}
 use Rattle.ss_machine.proofs.Notings.{notes_none, notes_within, noted_one, noted_more}
 use Rattle.ss_machine.proofs.Storings.{refusal_is, storing_is}
 use Rattle.ss_machine.proofs.Starts.{noted_same}
-use Rattle.ss_machine.proofs.Repeats.{attribute_more, attribute_missing}
+use Rattle.ss_state.proofs.Repeats.{attribute_more, attribute_missing}
 use Rattle.ss_machine.proofs.executor.Executor.set_attributes.Goals as goal
 
 pub loop-number-init : goal.loop-number-init

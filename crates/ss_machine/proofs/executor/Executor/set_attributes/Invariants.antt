@@ -1,7 +1,7 @@
 use Rattle.std.proofs.Common.{◌≡◌, drop}
 use Rattle.ss_machine.specs.Noting.{Notes}
 use Rattle.ss_machine.specs.Seen.{scope_held}
-use Rattle.ss_machine.specs.Statements.Timing.{state_with_attributes}
+use Rattle.ss_state.specs.Statements.Timing.{state_with_attributes}
 use Rattle.ss_machine.proofs.executor.Executor.set_attributes.Given as goal
 
 -- the values that are left bring the state to the result

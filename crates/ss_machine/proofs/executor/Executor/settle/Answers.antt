@@ -1,6 +1,6 @@
 use Rattle.std.proofs.Common.{ap, ◌∙◌}
-use Rattle.ss_machine.specs.declared.status.Status.TheVariants.{Faulted}
-use Rattle.ss_machine.specs.Held.{Held}
+use Rattle.ss_state.specs.declared.status.Status.TheVariants.{Faulted}
+use Rattle.ss_state.specs.Held.{Held}
 use Rattle.ss_machine.proofs.Notings.{noted_anew}
 use Rattle.ss_machine.proofs.executor.Executor.settle.Goals as goal
 

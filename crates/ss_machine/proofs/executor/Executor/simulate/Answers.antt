@@ -5,8 +5,8 @@ use Rattle.ss_events.specs.Rules.{rules_of}
 use Rattle.ss_events.specs.Agenda.{least}
 use Rattle.ss_events.specs.Slots.{slot_of}
 use Rattle.ss_events.specs.declared.agenda.Slot.{Slot}
-use Rattle.ss_machine.proofs.Starts.{least_is, least_event, least_positive, least_pending}
-use Rattle.ss_machine.proofs.Wells.Simulating.{main_alone}
+use Rattle.ss_state.proofs.Starts.{least_is, least_event, least_positive, least_pending}
+use Rattle.ss_state.proofs.Wells.Simulating.{main_alone}
 use Rattle.ss_machine.proofs.executor.Executor.simulate.Goals as goal
 
 pub start_event-requires-clause-event : goal.start_event-requires-clause-event

@@ -6,12 +6,12 @@ use Rattle.std.proofs.lemmas.List.FromFn.{length-range_with_len}
 use Rattle.ss_program.specs.Program.{class_of, section_of}
 use Rattle.ss_program.specs.declared.variable.Variable.TheVariants.{Global}
 use Rattle.ss_store.specs.Tables.{tables_of}
-use Rattle.ss_machine.specs.State.{State}
-use Rattle.ss_machine.proofs.Sounds.{section_found}
-use Rattle.ss_machine.specs.Statements.{state_with_frame, state_after_assignment}
-use Rattle.ss_machine.specs.Statements.Timing.{attributes_now, event_section, store_at_start, state_at_time}
+use Rattle.ss_state.specs.State.{State}
+use Rattle.ss_state.proofs.Sounds.{section_found}
+use Rattle.ss_state.specs.Statements.{state_with_frame, state_after_assignment}
+use Rattle.ss_state.specs.Statements.Timing.{attributes_now, event_section, store_at_start, state_at_time}
 use Rattle.ss_machine.proofs.Storings.{counted_small}
-use Rattle.ss_machine.proofs.Starts.{class_shaped, event_shaped, attributes_count, start_done, start_left}
+use Rattle.ss_state.proofs.Starts.{class_shaped, event_shaped, attributes_count, start_done, start_left}
 use Rattle.ss_machine.proofs.executor.Executor.start_event.Goals as goal
 
 pub end_unless_saved-requires-clause-class : goal.end_unless_saved-requires-clause-class

@@ -3,10 +3,10 @@ use Rattle.std.proofs.Common.{FitsSigned, to_z, of_z}
 use Rattle.std.proofs.lemmas.Int.{to_z-of_z}
 use Rattle.ss_words.specs.declared.fault.RunFault.{RunFault}
 use Rattle.ss_machine.specs.Seen.{scope_held}
-use Rattle.ss_machine.specs.Statements.Looping.{state_after_telling}
-use Rattle.ss_machine.proofs.Parts.{drop_at, drop_past}
+use Rattle.ss_state.specs.Statements.Looping.{state_after_telling}
+use Rattle.ss_state.proofs.Parts.{drop_at, drop_past}
 use Rattle.ss_machine.proofs.Notings.{notes_both, notes_within, notes_none}
-use Rattle.ss_machine.proofs.Repeats.{telling_sound, telling_target, telling_more, telling_fails}
+use Rattle.ss_state.proofs.Repeats.{telling_sound, telling_target, telling_more, telling_fails}
 use Rattle.ss_machine.proofs.executor.Executor.tell.Goals as goal
 
 pub loop-telling-init : goal.loop-telling-init

@@ -2,7 +2,7 @@ use Rattle.std.proofs.Common.{◌≡◌, drop}
 use Rattle.ss_program.specs.ProgramSound.{AreSoundTellings}
 use Rattle.ss_machine.specs.Noting.{Notes}
 use Rattle.ss_machine.specs.Seen.{scope_held}
-use Rattle.ss_machine.specs.Statements.Looping.{state_after_telling}
+use Rattle.ss_state.specs.Statements.Looping.{state_after_telling}
 use Rattle.ss_machine.proofs.executor.Executor.tell.Given as goal
 
 -- the targets that are left bring the state to the result

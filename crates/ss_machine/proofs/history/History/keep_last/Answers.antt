@@ -1,6 +1,6 @@
 use Rattle.std.proofs.Common.{◌≡◌, ◌∙◌, [], ap, refl, arith}
 use Rattle.ss_journal.specs.Log.{Log}
-use Rattle.ss_machine.specs.Change.{Change}
+use Rattle.ss_state.specs.Change.{Change}
 use Rattle.ss_machine.proofs.Histories.{no_numbers, none_kept, steps_of-newest}
 use Rattle.ss_machine.proofs.Histories.{newest_written}
 use Rattle.ss_machine.proofs.history.History.keep_last.Goals as goal

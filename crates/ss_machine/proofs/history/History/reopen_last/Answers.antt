@@ -1,6 +1,6 @@
 use Rattle.std.proofs.Common.{◌≡◌, [], ◌∙◌, ap, refl}
 use Rattle.ss_journal.specs.Log.{Log}
-use Rattle.ss_machine.specs.Change.{Change}
+use Rattle.ss_state.specs.Change.{Change}
 use Rattle.ss_machine.proofs.Histories.{no_numbers, none_kept}
 use Rattle.ss_machine.proofs.history.History.reopen_last.Goals as goal
 

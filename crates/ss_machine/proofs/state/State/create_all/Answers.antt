@@ -8,7 +8,7 @@ use Rattle.ss_store.specs.Value.{StoreValue}
 use Rattle.ss_store.specs.Change.{IsMaking}
 use Rattle.ss_machine.specs.declared.state.change.Change.{Change}
 use Rattle.ss_machine.specs.declared.state.change.Change.TheVariants as change
-use Rattle.ss_machine.specs.Held.{Held, store_of, with_store}
+use Rattle.ss_state.specs.Held.{Held, store_of, with_store}
 use Rattle.ss_machine.specs.Storing.{IsMakingAll}
 use Rattle.ss_machine.proofs.Storings.{making_all, not_making_all}
 use Rattle.ss_machine.proofs.state.State.create_all.Goals as goal

@@ -8,9 +8,9 @@ use Rattle.ss_store.specs.Tables.{Tables}
 use Rattle.ss_store.specs.Store.{Entity, Store, exists, number_of, made_of, of_class}
 use Rattle.ss_store.specs.WellStore.{IsWellStore}
 use Rattle.ss_words.specs.declared.limits.TheConstants.{MOST_REFERENCES}
-use Rattle.ss_machine.specs.Held.{Held}
-use Rattle.ss_machine.specs.Statements.{entity_named}
-use Rattle.ss_machine.proofs.Staying.{named_positive}
+use Rattle.ss_state.specs.Held.{Held}
+use Rattle.ss_state.specs.Statements.{entity_named}
+use Rattle.ss_state.proofs.Staying.{named_positive}
 use Rattle.ss_machine.proofs.state.State.entity_named.Goals as goal
 
 named_small : (t : Tables) (st : Store) (c k : ℕ) → IsWellStore t st → exists st c k ≡ true → k ≤ MOST_REFERENCES

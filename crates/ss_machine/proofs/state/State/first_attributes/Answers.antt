@@ -1,4 +1,4 @@
-use Rattle.std.proofs.Common.{◌≡◌, ◌<◌, ◌+◌, [], ◌∷◌, ◌++◌, pos, Ok, Err, rules, sym, w64, FitsSigned, to_z}
+use Rattle.std.proofs.Common.{◌≡◌, ◌<◌, [], ◌∷◌, ◌++◌, pos, Ok, Err, rules, sym, w64, FitsSigned, to_z}
 use Rattle.std.proofs.Common.{of_z, ◌∙◌}
 use Rattle.std.specs.List.{range_with_len}
 use Rattle.std.proofs.lemmas.Int.{to_z-of_z}
@@ -6,7 +6,7 @@ use Rattle.std.proofs.lemmas.List.FromFn.{length-range_with_len}
 use Rattle.ss_words.specs.declared.fault.RunFault.{RunFault}
 use Rattle.ss_words.specs.declared.fault.StepFault.TheVariants.{Fault}
 use Rattle.ss_store.specs.Store.{attribute_of}
-use Rattle.ss_machine.proofs.Attributes.{attributes_more, attributes_fail, attributes_all, ranged_at}
+use Rattle.ss_state.proofs.Attributes.{attributes_more, attributes_fail, attributes_all, ranged_at}
 use Rattle.ss_machine.proofs.state.State.first_attributes.Goals as goal
 
 pub returns-in_err-value-clause-err : goal.returns-in_err-value-clause-err

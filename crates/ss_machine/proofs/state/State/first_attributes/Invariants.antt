@@ -1,7 +1,7 @@
 use Rattle.std.proofs.Common.{◌≡◌, ◌++◌, drop, Ok}
 use Rattle.std.specs.List.{range_with_len}
 use Rattle.ss_values.specs.Faults.{◌>>=◌}
-use Rattle.ss_machine.specs.Statements.Timing.{attributes_now}
+use Rattle.ss_state.specs.Statements.Timing.{attributes_now}
 use Rattle.ss_machine.proofs.state.State.first_attributes.Given as goal
 
 -- the values read so far, and behind them those of the attributes that are left, are the values of all

@@ -8,7 +8,7 @@ use Rattle.ss_words.specs.declared.fault.StepFault.TheVariants.{Fault}
 use Rattle.ss_program.specs.declared.keys.Key.{Key}
 use Rattle.ss_words.specs.declared.terms.Rank.TheVariants.{High}
 use Rattle.ss_store.specs.Store.{attribute_of}
-use Rattle.ss_machine.proofs.Attributes.{attributes_more, attributes_fail, mapped_at}
+use Rattle.ss_state.proofs.Attributes.{attributes_more, attributes_fail, mapped_at}
 use Rattle.ss_machine.proofs.state.State.keys.Goals as goal
 
 pub returns-in_err-value-clause-err : goal.returns-in_err-value-clause-err

@@ -1,7 +1,7 @@
 use Rattle.std.proofs.Common.{◌≡◌, ◌++◌, drop, Ok}
 use Rattle.std.specs.Prelude.{map}
 use Rattle.ss_values.specs.Faults.{◌>>=◌}
-use Rattle.ss_machine.specs.Statements.Timing.{attributes_now}
+use Rattle.ss_state.specs.Statements.Timing.{attributes_now}
 use Rattle.ss_machine.proofs.state.State.keys.Given as goal
 
 -- the values read so far, and behind them those of the keys that are left, are the values of all

@@ -2,7 +2,7 @@ use Rattle.std.proofs.Common.{◌≡◌, Some, None, rules}
 use Rattle.std.specs.Option.{option_map}
 use Rattle.ss_events.specs.Agenda.{pending_at, least}
 use Rattle.ss_events.specs.Slots.{slot_of}
-use Rattle.ss_machine.proofs.Dues.{least_number, least_has_slot, least_told}
+use Rattle.ss_state.proofs.Dues.{least_number, least_has_slot, least_told}
 use Rattle.ss_machine.proofs.state.State.next_notice.Goals as goal
 
 pub slot-requires : goal.slot-requires

@@ -1,7 +1,7 @@
 use Rattle.std.proofs.Common.{◌≡◌, rules, w64, FitsSigned, to_z, of_z}
 use Rattle.std.specs.Prelude.{reverse}
 use Rattle.std.proofs.lemmas.Int.{to_z-of_z}
-use Rattle.ss_machine.specs.Held.{Held}
+use Rattle.ss_state.specs.Held.{Held}
 use Rattle.ss_machine.proofs.Storings.{noticed, scheduling_both}
 use Rattle.ss_machine.proofs.state.State.schedule.Goals as goal
 

@@ -7,8 +7,8 @@ use Rattle.ss_words.specs.declared.fault.RunFault.TheVariants.{ReportFull}
 use Rattle.ss_words.specs.declared.fault.StepFault.{StepFault}
 use Rattle.ss_words.specs.declared.fault.StepFault.TheVariants.{Fault}
 use Rattle.ss_report.specs.declared.limits.TheConstants.{LONGEST_REPORT}
-use Rattle.ss_machine.specs.Held.{Held}
-use Rattle.ss_machine.specs.Statements.Printing.{longer_report}
+use Rattle.ss_state.specs.Held.{Held}
+use Rattle.ss_state.specs.Statements.Printing.{longer_report}
 use Rattle.ss_machine.proofs.state.State.skip.Goals as goal
 
 -- the line feeds that are appended

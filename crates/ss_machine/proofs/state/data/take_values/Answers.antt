@@ -2,8 +2,8 @@ use Rattle.std.proofs.Common.{◌≡◌, ◌<◌, ◌+◌, [], ◌∷◌, ◌++�
 use Rattle.ss_words.specs.declared.fault.StepFault.TheVariants.{Fault}
 use Rattle.std.specs.Prelude.{slice_get}
 use Rattle.ss_data.specs.Items.{with_taken}
-use Rattle.ss_machine.specs.Statements.Reading.{value_taken}
-use Rattle.ss_machine.proofs.Takes.{take_more, take_none}
+use Rattle.ss_state.specs.Statements.Reading.{value_taken}
+use Rattle.ss_state.proofs.Takes.{take_more, take_none}
 use Rattle.ss_machine.proofs.state.data.take_values.Goals as goal
 
 pub returns-in_err-value-clause-fault : goal.returns-in_err-value-clause-fault

@@ -1,6 +1,6 @@
 use Rattle.std.proofs.Common.{◌≡◌, ◌+◌, ◌++◌, drop, Ok}
 use Rattle.ss_values.specs.Faults.{◌>>=◌}
-use Rattle.ss_machine.specs.Statements.Reading.{values_taken}
+use Rattle.ss_state.specs.Statements.Reading.{values_taken}
 use Rattle.ss_machine.proofs.state.data.take_values.Given as goal
 
 -- the values taken so far, and behind them those for the targets that are left, are the values of all

@@ -1,6 +1,6 @@
 use Rattle.std.proofs.Common.{rules, w64, FitsSigned, to_z, of_z}
 use Rattle.std.proofs.lemmas.Int.{to_z-of_z}
-use Rattle.ss_machine.proofs.Sets.{set_back}
+use Rattle.ss_state.proofs.Sets.{set_back}
 use Rattle.ss_machine.proofs.state.frame.Frame.assign.Goals as goal
 
 pub returns-clause-back : goal.returns-clause-back

@@ -1,6 +1,6 @@
 use Rattle.std.proofs.Common.{◌≡◌, drop}
 use Rattle.ss_program.specs.ProgramSound.{AreSoundQualifiers}
-use Rattle.ss_machine.specs.Loops.{verdict_of}
+use Rattle.ss_state.specs.Loops.{verdict_of}
 use Rattle.ss_values.specs.Seen.{view_readings, InView}
 use Rattle.ss_machine.proofs.statements.looping.candidates.verdict.Given as goal
 

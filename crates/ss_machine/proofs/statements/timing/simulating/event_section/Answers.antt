@@ -1,6 +1,6 @@
 use Rattle.std.proofs.Common.{◌≡◌, rules}
 use Rattle.ss_program.specs.Program.{event_of}
-use Rattle.ss_machine.proofs.Sounds.{event_there, given_few}
+use Rattle.ss_state.proofs.Sounds.{event_there, given_few}
 use Rattle.ss_machine.proofs.statements.timing.simulating.event_section.Goals as goal
 
 pub returns-clause-few : goal.returns-clause-few

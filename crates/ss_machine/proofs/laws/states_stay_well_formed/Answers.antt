@@ -1,5 +1,0 @@
-use Rattle.ss_machine.proofs.LawsHold.{states_well}
-use Rattle.ss_machine.proofs.laws.states_stay_well_formed.Goals as goal
-
-pub returns : goal.returns
-returns c = states_well

@@ -1,5 +1,0 @@
-use Rattle.ss_machine.proofs.SameItems.{step_items}
-use Rattle.ss_machine.proofs.laws.steps_keep_items.Goals as goal
-
-pub returns : goal.returns
-returns c = step_items

@@ -1,5 +1,0 @@
-use Rattle.ss_machine.proofs.LawsHold.{few_changes}
-use Rattle.ss_machine.proofs.laws.steps_note_few_changes.Goals as goal
-
-pub returns : goal.returns
-returns c = few_changes
