@@ -91,8 +91,7 @@ impl Channel for MemoryChannel<'_> {
     }
 
     // The trait's clauses, and when writing fails.
-    #[tactic(auto, using(ss_console::proofs::Parts::adds_part,
-        ss_console::proofs::EntryLaws::entry_events_written))]
+    #[tactic(auto, using(ss_console::proofs::Parts::adds_part, ss_console::proofs::EntryLaws::entry_events_written))]
     fn send(&mut self, bytes: &[u8]) -> Result<(), SendFault>
         ensures ok { OnOk result (Adds (Some (channel_events self.old.entries.items))
             (Some (channel_events self.new.entries.items)) (write_events bytes.now)) }
