@@ -7,10 +7,11 @@ import os
 import pathlib
 import shutil
 import signal
-import subprocess
 import sys
 import tempfile
 import time
+
+from measures.sources import sums
 
 TOP = os.path.dirname(os.path.dirname(os.path.realpath(__file__)))
 
@@ -35,7 +36,7 @@ class Place:
 
     def sums(self):
         """Returns the sums of the sources: of code and definitions, and of proofs."""
-        return subprocess.check_output([f"{TOP}/tools/sources", self.name], text=True)
+        return sums(self.name)
 
     def has(self, sums):
         """Whether the program stands there, built from these."""

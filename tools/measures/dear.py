@@ -1,9 +1,8 @@
-#!/usr/bin/env -S python3 -B
 """Tells where the time of a crate's proof goes: checks the crate from nothing with one job, its
 tests too if it has any, over the libraries that `rt check` has built of those below it, and prints
 the functions, types and files of lemmas that took longest, in seconds, with their dearest parts.
 
-usage: tools/dear CRATE [COUNT]
+usage: tools/measure dear CRATE [COUNT]
 
 A check writes a file for each part as it ends with it, so what a part took is the time since the
 file before. `Lts` is the derivation of what a body borrows and drops, `Proof` are its goals,
@@ -43,8 +42,10 @@ def tell(folder, count):
         print(f"{seconds:8.1f} {name}", *[f"({', '.join(parts)})"] * bool(parts))
 
 
-def main(name, count=COUNT):
+def main(name="--help", count=COUNT):
     """Checks the crate and says what its parts took; returns the exit status."""
+    if name == "--help":
+        return __doc__
     rt = script("dear", DEAR)
     crate = rt and crate_of(rt, TOP, name)
     if not crate:
@@ -55,7 +56,3 @@ def main(name, count=COUNT):
         print(text if status else "", end="")
         tell(folder, int(count))
     return status
-
-
-if __name__ == "__main__":
-    sys.exit(main(*sys.argv[1:]) if len(sys.argv) in (2, 3) else __doc__)

@@ -1,8 +1,7 @@
-#!/usr/bin/env -S python3 -B
 """Measures how fast the program steps and how much it holds, and prints tables, all or some of
 them: docs/MEASUREMENTS.md has the last ones.
 
-usage: tools/speeds [PROGRAM [instructions|steps|whole ...]]
+usage: tools/measure speeds [PROGRAM [instructions|steps|whole ...]]
 
 It builds nothing. The program is run as an analyst runs it, over a model, its data and commands:
 RUN to the end, BACK to the start, and RUN to the end again. What a way takes is the processor time
@@ -19,7 +18,7 @@ import resource
 import subprocess
 import sys
 
-sys.path.insert(0, f"{os.path.dirname(os.path.realpath(__file__))}/../tests")
+sys.path.insert(0, f"{os.path.dirname(os.path.realpath(__file__))}/../../tests")
 from programs import ROOM, TOP, built, own, read, rows
 
 RUNS = int(os.environ.get("RUNS", "3"))
@@ -111,6 +110,8 @@ TABLES = {
 
 def main(program=built("simscript2"), *tables):
     """Prints these tables, or all."""
+    if program == "--help" or not {*tables} <= {*TABLES}:
+        return __doc__
     for table in tables or TABLES:
         what, head, tell = TABLES[table]
         print(f"\n{what}:\n\n| {' | '.join(head)} |\n|{'---|' * len(head)}")
@@ -118,8 +119,4 @@ def main(program=built("simscript2"), *tables):
             if name == table:
                 for cells in tell(Case(os.path.abspath(program), *columns)):
                     print(f"| {' | '.join(map(str, cells))} |", flush=True)
-
-
-if __name__ == "__main__":
-    is_known = {*sys.argv[2:]} <= {*TABLES} and "--help" not in sys.argv
-    sys.exit(main(*sys.argv[1:]) if is_known else __doc__)
+    return 0
