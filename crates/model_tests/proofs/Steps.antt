@@ -1,15 +1,12 @@
 -- What the calls leave.
-use Rattle.std.proofs.Common.{◌≡◌, ℕ, ℤ, List, [], ◌∷◌, refl, ap, sym, subst, ◌∙◌}
+use Rattle.std.proofs.Common.{◌≡◌, List, [], ◌∷◌, refl, ap, sym, subst, ◌∙◌}
 use Rattle.std.specs.Prelude.{Result, Ok, Err}
 use Rattle.ss_words.specs.declared.fault.RunFault.{RunFault}
-use Rattle.ss_words.specs.declared.fault.StepFault.{StepFault}
-use Rattle.ss_words.specs.declared.fault.StepFault.TheVariants.{Fault, Memory}
 use Rattle.ss_journal.specs.Undoing.{unapply_all}
 use Rattle.ss_store.specs.declared.change.StoreChange.{StoreChange}
 use Rattle.ss_store.specs.Store.{Store}
 use Rattle.ss_store.specs.Value.{StoreValue}
-use Rattle.ss_store.specs.Change.{FitsStore, unapply_store, IsOutcome, IsRemoval, IsCreation}
-use Rattle.ss_words.specs.Outcomes.{RefusesAs}
+use Rattle.ss_store.specs.Change.{unapply_store, IsOutcome}
 use Rattle.model_tests.specs.Ground.{IsGround, IsMade, with_number}
 
 pub outcome_made : (r : Result StoreChange RunFault) (s : Result Store RunFault) (old new : StoreValue)
@@ -18,20 +15,6 @@ outcome_made (Ok c) (Ok s) old new d = (d.fits, d.back)
 outcome_made (Err e) (Err f) old new d = d.1
 outcome_made (Ok c) (Err f) old new d = absurd d
 outcome_made (Err e) (Ok s) old new d = absurd d
-
-refused : (e : StepFault) (s : Result Store RunFault) (old new : StoreValue) → RefusesAs e s old new → new ≡ old
-refused (Fault e) (Err f) old new d = d.1
-refused Memory (Ok s) old new d = d
-refused (Fault e) (Ok s) old new d = absurd d
-refused Memory (Err f) old new d = absurd d
-
-created : (r : Result (ℕ × StoreChange) StepFault) (s : Result Store RunFault) (old new : StoreValue) (n : ℕ)
-    (c : StoreChange) → IsCreation r s old new → r ≡ Ok (n, c) → FitsStore c new × (unapply_store c new ≡ old)
-created (Ok r) (Ok s) old new n c d e =
-    let is : r ≡ (n, c) = cc in
-    subst (λ (z : ℕ × StoreChange). FitsStore z.1 new × (unapply_store z.1 new ≡ old)) is (d.1.fits, d.1.back)
-created (Ok r) (Err f) old new n c d e = absurd d
-created (Err f) s old new n c d e = cc
 
 undone_tables : (cs : List StoreChange) (v : StoreValue) → (unapply_all unapply_store cs v).tables ≡ v.tables
 undone_tables [] v = refl
