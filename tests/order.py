@@ -1,4 +1,4 @@
-"""In which order tests/edits tries edits, and when no further check begins: what tests/tried claims,
+"""In which order tests/edits tries edits, and when no further check begins: what tests/tried says,
 sums of what may have changed since, a rotating fifth of the crates, a sample, and the clock."""
 import collections
 import functools
@@ -28,9 +28,9 @@ SAMPLE, OF_CRATE, CHEAP = 20, 10, 250
 USE = r"^ *(?:ghost )?use Rattle\.(\w+)\.specs\.([\w.]+?)(?:\.\{(.*)\})?(?: as (\w+))?;?$"
 TRIED = f"{TOP}/tests/tried"
 HEAD = """\
-# What a run of ./test --all has tried and found refused. It decides in which order edits are tried.
-# all AT BY: the commit, and a sum of what tries them. CRATE SUM ..: of each edit eight digits of the
-# edit, its function and its proof, and eight of the definitions that its contract reaches.
+# What a run of ./test --all has tried, all refused: it decides in which order edits are tried.
+# all AT BY: the commit, and a sum of what tries them. CRATE SUM ..: of each edit eight digits of
+# the edit, its function and its proof, and eight of the definitions that its contract reaches.
 """
 
 
@@ -127,13 +127,13 @@ class Tried:
 
     def at(self):
         """Says when all edits were last tried."""
-        return f"last tried at {', '.join(self.commits)}" if self.commits else "never tried all"
+        return f"all last tried at {', '.join(self.commits) or 'no commit'}"
 
 
 def keep(sums, commit, maker):
     """Writes that all edits were tried: of each crate the pairs of sums of its edits."""
     lines = [f"all {commit} {maker}"]
-    lines += [" ".join((name, *sorted(map("".join, found)))) for name, found in sorted(sums.items())]
+    lines += [" ".join((name, *sorted(found))) for name, found in sorted(sums.items())]
     write(TRIED, HEAD + "\n".join(lines) + "\n")
 
 
@@ -164,7 +164,7 @@ class Costs:
         return first + (whole - first) * number / max(1, every) if number else 0
 
     def fifths(self):
-        """Returns the number of each crate's fifth, from 0: they take about as long as each other."""
+        """Returns the number of each crate's fifth, from 0: all take about as long."""
         sums, found = [0] * 5, {}
         for name in sorted(self.counts, key=lambda it: (-self.edits(it, self.counts[it]), it)):
             found[name] = sums.index(min(sums))
@@ -172,8 +172,8 @@ class Costs:
         return found
 
     def sample(self, edits, seed):
-        """Returns which edits `rt must-fail` tries too, of these edits of each crate, by the crate's
-        name: of a few crates, and others by each seed."""
+        """Returns which edits `rt must-fail` tries too, of these of each crate, by its name: of a
+        few crates, others by each seed."""
         found, room = {}, SAMPLE
         for name in in_order(seed, edits):
             if room and (not found or self.proof.get(name, 0) <= CHEAP):

@@ -1,7 +1,7 @@
 ;;; session.el --- a session of dap-mode in batch -*- lexical-binding: t -*-
 
-;; tests/editors.py runs it over x.sim, the model of the bank. It does what a user does, by the keys of editors/emacs.el,
-;; and writes a line for each thing that is seen to the file `said`.
+;; tests/editors.py runs it over x.sim, the model of the bank. It does what a user does, by the keys of
+;; editors/emacs.el, and writes a line for each thing that is seen to the file `said`.
 
 (defvar stops 0 "How many times a frame was shown.")
 

@@ -33,21 +33,6 @@ created (Ok r) (Ok s) old new n c d e =
 created (Ok r) (Err f) old new n c d e = absurd d
 created (Err f) s old new n c d e = cc
 
-pub removed_ok : (r : Result (ℕ × StoreChange) RunFault) (s : Result (ℕ × Store) RunFault) (old new : StoreValue)
-    (n : ℕ)
-    (c : StoreChange) (z : ℤ) → IsRemoval r s old new → r ≡ Ok (n, c) → IsMade (Ok (z, c)) old new
-removed_ok (Ok r) (Ok s) old new n c z d e =
-    let is : r ≡ (n, c) = cc in
-    subst (λ (q : ℕ × StoreChange). FitsStore q.1 new × (unapply_store q.1 new ≡ old)) is (d.1.fits, d.1.back)
-removed_ok (Ok r) (Err f) old new n c z d e = absurd d
-removed_ok (Err f) s old new n c z d e = cc
-
-pub removed_err : (r : Result (ℕ × StoreChange) RunFault) (s : Result (ℕ × Store) RunFault) (old new : StoreValue)
-    (f : RunFault) → IsRemoval r s old new → r ≡ Err f → new ≡ old
-removed_err (Ok r) s old new f d e = cc
-removed_err (Err g) (Err h) old new f d e = d.1
-removed_err (Err g) (Ok s) old new f d e = absurd d
-
 undone_tables : (cs : List StoreChange) (v : StoreValue) → (unapply_all unapply_store cs v).tables ≡ v.tables
 undone_tables [] v = refl
 undone_tables (c ∷ cs) v = undone_tables cs (unapply_store c v)
@@ -56,14 +41,3 @@ pub ground_undone : (cs : List StoreChange) (old new : StoreValue) → new ≡ u
     → IsGround old.tables → IsGround new.tables
 ground_undone cs old new e g =
     subst IsGround (sym (ap (λ (z : StoreValue). z.tables) e ∙ undone_tables cs old)) g
-
--- a creation leaves the tables
-created_tables : (r : Result (ℕ × StoreChange) StepFault) (s : Result Store RunFault) (old new : StoreValue)
-    → IsCreation r s old new → new.tables ≡ old.tables
-created_tables (Ok r) (Ok s) old new d = ap (λ (z : StoreValue). z.tables) d.1.back
-created_tables (Ok r) (Err f) old new d = absurd d
-created_tables (Err f) s old new d = ap (λ (z : StoreValue). z.tables) (refused f s old new d)
-
-pub created_ground : (r : Result (ℕ × StoreChange) StepFault) (s : Result Store RunFault) (old new : StoreValue)
-    → IsCreation r s old new → IsGround old.tables → IsGround new.tables
-created_ground r s old new d g = subst IsGround (sym (created_tables r s old new d)) g

@@ -10,15 +10,15 @@ fn put_read(text: &mut Vec<u8>, bytes: &[u8]) -> Result<(), AllocError> {
     text.extend_from_slice(b">")
 }
 
-fn put_entry(text: &mut Vec<u8>, entry: &Entry) -> Result<(), AllocError> {
+fn put_entry(text: &mut Vec<u8>, entry: &Entry<'_>) -> Result<(), AllocError> {
     match entry {
         Entry::Read(bytes) => put_read(text, bytes),
-        Entry::Wrote(bytes) => text.extend_from_slice(bytes),
+        Entry::Wrote(byte) => text.extend_from_slice(&[*byte]),
     }
 }
 
 /// Compares what happened with a text: what was read in angle brackets, and bytes that were written.
-pub fn tell(rt: &impl Abort, alloc: Global, entries: &[Entry], wanted: &[u8]) {
+pub fn tell(rt: &impl Abort, alloc: Global, entries: &[Entry<'_>], wanted: &[u8]) {
     let mut text = Vec::new(alloc);
     for entry in entries {
         put_entry(&mut text, entry).expect(rt, "room");

@@ -1,6 +1,6 @@
-//! Random calls on an agenda beside a plain list, and calls that are refused memory.
+//! Calls on an agenda that are refused memory, and what no answer shows: filing numbers and heads. Calls
+//! as by chance are cases: tests/answers/chance.tsv.
 mod agree;
-mod mixture;
 mod plain;
 mod rules;
 mod steps;
@@ -8,18 +8,15 @@ mod steps;
 ghost use Rattle.std.specs.Prelude.{◌≡◌, ◌<◌, []};
 ghost use Rattle.ss_journal.specs.Undoing.{FitsSteps};
 ghost use Rattle.ss_events.specs.Changes.{Fits, unapply};
-ghost use Rattle.ss_links.specs.Board.{empty_board};
 
 use crate::compare::same;
 use crate::events::agree::{behind_seat, first_seat, stand_so};
-use crate::events::mixture::mixture_of;
 use crate::events::plain::with_key;
-use crate::events::rules::{linked_again, of_two_event_classes, started};
-use crate::events::steps::{back, schedule, schedule_all, schedules, take};
-use crate::model::checked;
+use crate::events::rules::{linked_again, of_two_event_classes};
+use crate::events::steps::{back, schedule, schedule_all, schedules};
 use ss_events::{Agenda, AgendaChange};
 use ss_journal::Journal;
-use ss_links::{LinkedSets, PlainSets, SetBoard};
+use ss_links::SetBoard;
 use std::alloc::Global;
 use std::process::Abort;
 
@@ -106,24 +103,6 @@ fn there_and_back<S: SetBoard>(
     all_back(rt, agenda, journal);
 }
 
-// Schedules a notice whose attributes then change: nothing moves, and later notices are compared
-// with the old keys.
-fn keeps_keys<S: SetBoard>(
-    rt: &impl Abort,
-    agenda: &mut Agenda<S>,
-    journal: &mut Journal<AgendaChange>,
-)
-    requires closed { journal.old.current ≡ [] }
-    requires fits { FitsSteps Fits unapply journal.old.steps agenda.old }
-{
-    let mut first = with_key(1, 5, 1, 3);
-    schedules(rt, agenda, journal, &first, 0);
-    first.keys = [9, 9];
-    schedule_all(rt, agenda, journal, &[(2, 1, 7), (3, 1, 2)]);
-    stand_so(rt, agenda, &[2, 1, 3]);
-    same(rt, first.keys[0], 9);
-}
-
 // Compares a change with one that took off notice 9, behind notice 7 and of the second filing.
 fn took_second_filing(rt: &impl Abort, change: &AgendaChange) {
     match change {
@@ -163,24 +142,6 @@ fn gives_a_filing_number_again<S: SetBoard>(
     takes_second_filing(rt, agenda);
 }
 
-// Takes each of five notices that tie off in turn, and back: it stands again where it stood.
-fn out_and_in<S: SetBoard>(
-    rt: &impl Abort,
-    agenda: &mut Agenda<S>,
-    journal: &mut Journal<AgendaChange>,
-)
-    requires closed { journal.old.current ≡ [] }
-    requires fits { FitsSteps Fits unapply journal.old.steps agenda.old }
-{
-    let ties = [(4, 0, 0), (2, 0, 0), (5, 0, 0), (1, 0, 0), (3, 0, 0)];
-    schedule_all(rt, agenda, journal, &ties);
-    for number in [5, 4, 3, 2, 1] {
-        take(rt, agenda, journal, number);
-        same(rt, back(agenda, journal), true);
-        stand_so(rt, agenda, &[4, 2, 5, 1, 3]);
-    }
-}
-
 // Only an event class counts keys.
 fn counts_keys<S: SetBoard>(rt: &impl Abort, agenda: &Agenda<S>) {
     same(rt, agenda.key_count(0), None);
@@ -208,18 +169,14 @@ fn stand_at_heads<S: SetBoard>(
 // What a test does on an agenda at its start.
 #[derive(Clone, Copy)]
 enum Scene {
-    Mixture { count: usize },
     ThereAndBack,
-    KeptKeys,
     FilingNumber,
-    OutAndIn,
     Heads,
 }
 
 // Plays a scene on an agenda at its start, with an empty journal.
 fn acts<S: SetBoard>(
     rt: &impl Abort,
-    alloc: Global,
     agenda: &mut Agenda<S>,
     journal: &mut Journal<AgendaChange>,
     scene: Scene,
@@ -228,14 +185,11 @@ fn acts<S: SetBoard>(
     requires fits { FitsSteps Fits unapply journal.old.steps agenda.old }
 {
     match scene {
-        Scene::Mixture { count } => mixture_of(rt, alloc, agenda, journal, count),
         Scene::ThereAndBack => {
             there_and_back(rt, agenda, journal);
             there_and_back(rt, agenda, journal);
         }
-        Scene::KeptKeys => keeps_keys(rt, agenda, journal),
         Scene::FilingNumber => gives_a_filing_number_again(rt, agenda, journal),
-        Scene::OutAndIn => out_and_in(rt, agenda, journal),
         Scene::Heads => stand_at_heads(rt, agenda, journal),
     }
 }
@@ -244,23 +198,9 @@ fn acts<S: SetBoard>(
 fn plays<S: SetBoard>(rt: &impl Abort, alloc: Global, agenda: Agenda<S>, scene: Scene) {
     let mut agenda = agenda;
     let mut journal = Journal::new(alloc);
-    acts(rt, alloc, &mut agenda, &mut journal, scene);
+    acts(rt, &mut agenda, &mut journal, scene);
     drop(journal);
     drop(agenda);
-}
-
-// The same on a new agenda of four classes.
-fn plays_over<S: SetBoard>(rt: &impl Abort, alloc: Global, board: S, scene: Scene)
-    requires { S.board board ≡ empty_board }
-{
-    let agenda = started(alloc, board).expect(rt, "an agenda");
-    plays(rt, alloc, agenda, scene);
-}
-
-// The same on linked sets, and another scene on plain ones.
-fn plays_over_both(rt: &impl Abort, alloc: Global, linked: Scene, plain: Scene) {
-    plays_over(rt, alloc, LinkedSets::new(alloc), linked);
-    plays_over(rt, alloc, PlainSets::new(alloc), plain);
 }
 
 // The same on linked sets, made again where memory was refused.
@@ -269,20 +209,8 @@ fn plays_again(rt: &impl Abort, alloc: Global, scene: Scene) {
 }
 
 #[test]
-fn every_call_agrees_with_a_plain_list(rt: HostRuntime) {
-    let many = Scene::Mixture { count: 200 };
-    let some = Scene::Mixture { count: 40 };
-    plays_over_both(&rt, rt.alloc(), many, some);
-}
-
-#[test]
 fn a_refused_growth_changes_nothing(rt: HostRuntime) {
     plays_again(&rt, rt.alloc(), Scene::ThereAndBack);
-}
-
-#[test]
-fn keys_are_those_of_the_scheduling(rt: HostRuntime) {
-    plays_again(&rt, rt.alloc(), Scene::KeptKeys);
 }
 
 #[test]
@@ -291,24 +219,8 @@ fn a_filing_number_comes_back(rt: HostRuntime) {
 }
 
 #[test]
-fn what_is_taken_off_comes_back_among_its_ties(rt: HostRuntime) {
-    plays_over_both(&rt, rt.alloc(), Scene::OutAndIn, Scene::OutAndIn);
-}
-
-#[test]
 fn each_event_class_has_a_head(rt: HostRuntime) {
     let alloc = rt.alloc();
     let agenda = of_two_event_classes(alloc).expect(&rt, "an agenda");
     plays(&rt, alloc, agenda, Scene::Heads);
-}
-
-#[test]
-fn a_program_without_events_has_none(rt: HostRuntime) {
-    let alloc = rt.alloc();
-    let program = checked(alloc, b"MAIN\nSTOP\nEND\n").expect(&rt, "a program");
-    let agenda = Agenda::new(alloc, &program, PlainSets::new(alloc));
-    program.end();
-    let agenda = agenda.expect(&rt, "an agenda");
-    same(&rt, agenda.next(), None);
-    drop(agenda);
 }

@@ -10,8 +10,6 @@ mod console;
 #[cfg(test)]
 mod data;
 #[cfg(test)]
-mod dice;
-#[cfg(test)]
 mod entries;
 #[cfg(test)]
 mod events;

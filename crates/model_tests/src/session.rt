@@ -8,34 +8,6 @@ use std::process::Abort;
 
 const FIVE: &str = "MAIN\nLET X = 5\nPRINT 1 LINE WITH X THUS\nX = ***\nSTOP\nEND\n";
 
-/// Takes at most `piece` bytes a call, and after `room` bytes either fails or takes none.
-#[derive(Drop)]
-struct Narrow {
-    bytes: Vec<u8>,
-    piece: usize,
-    room: usize,
-    fails: bool,
-    failures: u64,
-}
-
-impl Outlet for Narrow {
-    ghost use Rattle.std.specs.Prelude.{None};
-
-    ghost taken = { λ s. None };
-
-    ghost failures = { λ s. s.failures };
-
-    fn put(&mut self, piece: &[u8]) -> Result<usize, PutFault> {
-        let count = piece.len().min(self.piece).min(self.room);
-        if count == 0 || self.bytes.extend_from_slice(&piece[..count]).is_err() {
-            self.failures += 1;
-            return if self.fails { Err(PutFault) } else { Ok(0) };
-        }
-        self.room -= count;
-        Ok(count)
-    }
-}
-
 const SOME: &str = "STEP 2\nSHOW VAR X";
 
 const SOME_ANSWERS: &str = "DONE: STATE 2 CLOCK 0 READY IN MAIN LINE 5\nX = 5\nREPORT\nX =   5\n";
@@ -75,48 +47,6 @@ const OF_REFUSED: Session = (REFUSED, REFUSAL, Err(SessionFault::Text));
 const OF_UNFIT: Session = (UNFIT, UNFIT_ANSWER, Err(SessionFault::Check));
 
 const OF_FAULTED: Session = (FAULTED, FAULTED_ANSWERS, Ok(End::RunFault));
-
-/// Runs a session over an outlet, and compares what it took: all where there is room for it, else
-/// the first bytes, and the session ends with Write after one failure.
-fn cut(rt: &impl Abort, alloc: Global, out: &mut Narrow, of: Session)
-    requires { out.old.failures ≡ 0 }
-{
-    let (model, whole, wanted) = of;
-    let count = out.room.min(whole.len());
-    let ended = if count < whole.len() {
-        (Err(SessionFault::Write), 1)
-    } else {
-        (wanted, 0)
-    };
-    let end = run(alloc, model, SOME, out);
-    same(rt, out.bytes.as_slice(), &whole.as_bytes()[..count]);
-    same(rt, (end, out.failures), ended);
-}
-
-/// The same with an outlet of each number of bytes up to all.
-fn cut_everywhere(rt: &impl Abort, alloc: Global, of: Session, piece: usize, fails: bool) {
-    for room in 0..of.1.len() + 1 {
-        let mut out = Narrow {
-            bytes: Vec::new(alloc),
-            piece,
-            room,
-            fails,
-            failures: 0,
-        };
-        cut(rt, alloc, &mut out, of);
-        drop(out);
-    }
-}
-
-#[test]
-fn a_write_that_fails_leaves_a_prefix(rt: HostRuntime) {
-    for piece in [1, 7, 512] {
-        for fails in [true, false] {
-            cut_everywhere(&rt, rt.alloc(), DONE, piece, fails);
-            cut_everywhere(&rt, rt.alloc(), OF_REFUSED, piece, fails);
-        }
-    }
-}
 
 /// Takes every piece whole but the one of the call `fails_at`, counted from 0, and keeps how many
 /// calls there were.
@@ -225,23 +155,23 @@ fn count_whole(bytes: &[u8], answers: &[&str]) -> Option<usize> {
     }
 }
 
-/// An outlet that has its room from the start, so that the session alone takes memory.
-fn roomy(rt: &impl Abort, alloc: Global) -> Narrow {
+/// An outlet that takes all, and has its room from the start, so that the session alone takes
+/// memory.
+fn roomy(rt: &impl Abort, alloc: Global) -> FailsOnce {
     let mut bytes = Vec::new(alloc);
     if bytes.try_reserve(512).is_err() {
         same(rt, bytes.try_reserve(512).is_ok(), true);
     }
-    Narrow {
+    FailsOnce {
         bytes,
-        piece: 512,
-        room: 1024,
-        fails: true,
+        calls: 0,
+        fails_at: u64::MAX,
         failures: 0,
     }
 }
 
 /// Runs the session whose answers and report grow.
-fn grow(alloc: Global, out: &mut Narrow) -> Result<End, SessionFault> {
+fn grow(alloc: Global, out: &mut FailsOnce) -> Result<End, SessionFault> {
     out.failures = 0;
     run(alloc, FIVE, GROWING, out)
 }
@@ -251,7 +181,7 @@ fn grow(alloc: Global, out: &mut Narrow) -> Result<End, SessionFault> {
 fn grow_again(
     rt: &impl Abort,
     alloc: Global,
-    out: &mut Narrow,
+    out: &mut FailsOnce,
     end: Result<End, SessionFault>,
 ) -> Result<End, SessionFault> {
     if end != Err(SessionFault::Memory) {

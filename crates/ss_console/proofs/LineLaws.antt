@@ -1,9 +1,11 @@
 -- A line is read byte by byte.
-use Rattle.std.proofs.Common.{◌≡◌, ℕ, ◌<◌, ◌≤◌, Bool, true, false, cond, nat_le, ◌==◌, not, List, [], ◌∷◌, ◌++◌}
+use Rattle.std.proofs.Common.{◌≡◌, ℕ, ◌+◌, ◌<◌, ◌≤◌, Bool, true, false, cond, nat_le, ◌==◌, not, List, [], ◌∷◌, ◌++◌}
 use Rattle.std.proofs.Common.{length, refl, ◌∙◌, sym, ap, append_assoc, append-nil, arith, length-append, Option}
 use Rattle.std.proofs.Common.{Some, None}
 use Rattle.std.specs.Prelude.{if◌then◌else◌, fold, slice_index, slice_set}
 use Rattle.std.specs.Io.KnownBytes.{Consumes, IsAtEnd as IsAtEndOfBytes}
+use Rattle.std.proofs.Common.{get_or, take, drop, take-append-drop}
+use Rattle.std.proofs.lemmas.List.{take_more, drop_more}
 use Rattle.std.proofs.lemmas.List.Sums.{fold_push}
 use Rattle.std.proofs.lemmas.Bool.Decides.{nat_tests}
 use Rattle.std.proofs.Math.ListN.{length-set}
@@ -73,6 +75,44 @@ last_line b (c ∷ line) h =
 lines_none : lines [] ≡ []
 unfolding lines
 lines_none = refl
+
+-- ---- the first line of a text
+
+-- a line feed is the first
+pub feed_at : (text : List ℕ) (at : ℕ) → at < length text → get_or text at 0 ≡ LINE_FEED →
+    has_feed (take at text) ≡ false → lines text ≡ take at text ∷ lines (drop (at + 1) text)
+feed_at text at within e one =
+    let split : text ≡ take at text ++ LINE_FEED ∷ drop (at + 1) text =
+    sym (take-append-drop at text)
+    ∙ ap (λ (rest : List ℕ). take at text ++ rest) (drop_more text at 0 within)
+    ∙ ap (λ (b : ℕ). take at text ++ b ∷ drop (at + 1) text) e in
+    ap lines split ∙ lines_behind (take at text) (drop (at + 1) text) one
+
+-- there is none
+pub no_feed : (text : List ℕ) → has_feed text ≡ false → 0 < length text → lines text ≡ text ∷ lines []
+no_feed [] one some = absurd (omega (arith, some))
+no_feed (b ∷ bs) one some = last_line b bs one ∙ ap (λ (ls : List (List ℕ)). (b ∷ bs) ∷ ls) (sym lines_none)
+
+-- another byte is none, and is kept
+pub no_feed_more : (text : List ℕ) (at : ℕ) → at < length text → (get_or text at 0 == LINE_FEED) ≡ false →
+    has_feed (take at text) ≡ false → has_feed (take (at + 1) text) ≡ false
+no_feed_more text at within e one =
+    rw (take_more text at 0 within) (any_push (take at text) (get_or text at 0) one e)
+
+pub kept_more : (text line : List ℕ) (at : ℕ) → at < length text → line ≡ kept_part (take at text) →
+    keep line (get_or text at 0) ≡ kept_part (take (at + 1) text)
+kept_more text line at within e =
+    rw (take_more text at 0 within, e) (sym (fold_push keep [] (take at text) (get_or text at 0)))
+
+-- a text gives its first line
+pub first_given : (text bytes rest line : List ℕ) → lines text ≡ bytes ∷ lines rest → line ≡ kept_part bytes →
+    Gives (known_lines (Some text)) (known_lines (Some rest)) (line ∷ [])
+first_given text bytes rest line e kept = rw (e, kept) refl
+
+-- an empty text has none
+pub none_given : (text : List ℕ) → text ≡ [] →
+    Gives (known_lines (Some text)) (known_lines (Some text)) [] × IsAtEnd (known_lines (Some text))
+none_given text e = (refl, rw (e, lines_none) refl)
 
 -- ---- a reading
 

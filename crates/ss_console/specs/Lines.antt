@@ -44,6 +44,12 @@ abbrev pub IsAtEnd : Option (List (List ℕ)) → Type 0
 IsAtEnd None = ⊤
 IsAtEnd (Some xs) = xs ≡ []
 
+-- a first line was taken from a text: its bytes and those after its line feed, and what is kept of it; or the text is
+-- empty
+abbrev pub IsTaken : List ℕ → Option (List ℕ × List ℕ) → List ℕ → Type 0
+IsTaken text None line = text ≡ []
+IsTaken text (Some (bytes, rest)) line = (lines text ≡ bytes ∷ lines rest) × (line ≡ kept_part bytes)
+
 -- a reader gave a byte, or was at its end
 abbrev pub ByteGiven : Option ℕ → Option (List ℕ) → Option (List ℕ) → Type 0
 ByteGiven None old new = Consumes old new [] × IsAtEndOfBytes new

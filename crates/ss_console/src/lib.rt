@@ -18,7 +18,7 @@ pub use answerer::{Answerer, Go};
 pub use console::{Console, PutFault, ReadFault};
 pub use cut::Cut;
 pub use dialogue::converse;
-pub use entry::Entry;
+pub use entry::{Entry, note_written};
 pub use laws::{answers_come_first, dialogue_writes_the_batch, kept_lines_tell_enough};
 pub use lines::LONGEST_LINE;
 pub use memory::MemoryConsole;

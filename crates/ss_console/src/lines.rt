@@ -1,6 +1,6 @@
-ghost use Rattle.std.specs.Prelude.{◌≡◌, ◌<◌, IfOk, Ok, false};
+ghost use Rattle.std.specs.Prelude.{◌≡◌, ◌<◌, IfOk, Ok, false, option_map};
 ghost use Rattle.std.specs.Vec.{vec_capacity};
-ghost use Rattle.ss_console.specs.Lines.{Gives, IsAtEnd, is_stop, keep, known_lines, ByteGiven};
+ghost use Rattle.ss_console.specs.Lines.{Gives, IsAtEnd, is_stop, keep, known_lines, ByteGiven, IsTaken};
 ghost use Rattle.ss_console.specs.Faults.{lines_read};
 
 use crate::console::ReadFault;
@@ -70,4 +70,25 @@ pub(crate) fn next_line<R: Read>(reader: &mut R, line: &mut Vec<u8>) -> Result<b
         }
     }
     Err(ReadFault)
+}
+
+/// The next line of a text, and what stands after its line feed; a last line needs none. What is
+/// kept of it is left in `line`. `None` at the end.
+pub(crate) fn take_line<'a>(text: &'a [u8], line: &mut Vec<u8>) -> Option<(&'a [u8], &'a [u8])>
+    requires { LONGEST_LINE < vec_capacity line.old }
+    ensures taken { IsTaken text.now
+        (option_map (λ parts. (parts.0.now, parts.1.now)) result) line.new.items }
+    ensures room { LONGEST_LINE < vec_capacity line.new }
+{
+    line.clear();
+    for at in 0..text.len() {
+        if text[at] == LINE_FEED {
+            return Some((&text[..at], &text[at + 1..]));
+        }
+        keep(line, text[at]);
+    }
+    if text.is_empty() {
+        return None;
+    }
+    Some((text, &[]))
 }

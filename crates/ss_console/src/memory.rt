@@ -1,25 +1,29 @@
-ghost use Rattle.std.specs.Prelude.{◌≡◌, [], ◌∷◌, ◌++◌, Some, OnOk, OnErr};
-ghost use Rattle.ss_console.specs.Event.{read, write_events};
-ghost use Rattle.ss_console.specs.Lines.{known_lines};
-ghost use Rattle.ss_console.specs.Faults.{faults_of};
+ghost use Rattle.std.specs.Prelude.{◌≡◌, ◌⊎◌, ◌+◌, ◌-◌, ◌^◌, ◌<◌, ◌≤◌, [], length, take, min, Ok, false, Some};
+ghost use Rattle.std.specs.Prelude.{IfOk, OnErr};
+ghost use Rattle.std.specs.Vec.{vec_capacity};
+ghost use Rattle.ss_console.specs.Event.{Adds, write_events};
+ghost use Rattle.ss_console.specs.Lines.{known_lines, kept_part, Gives, IsAtEnd};
+ghost use Rattle.ss_console.specs.Faults.{faults_of, count_taken, lines_read, read_events, faults_after_read};
+ghost use Rattle.ss_console.specs.Faults.{faults_after_put};
 ghost use Rattle.ss_console.specs.Entries.{entry_events};
+ghost use Rattle.ss_console.specs.declared.lines.TheConstants.{LONGEST_LINE};
 
 use crate::console::{Console, PutFault, ReadFault};
-use crate::entry::Entry;
-use crate::lines::next_line;
-use std::alloc::{AllocError, Global};
+use crate::entry::{Entry, note_written};
+use crate::lines::take_line;
+use std::alloc::Global;
 
 /// A console over memory, which tells what happened. Its lines are those of a text; it takes as
-/// many bytes as it has room for, and then none.
+/// many bytes as it has room for, and then none. A call fails only where there is no room, or where
+/// what it tells of the call has none and cannot grow.
 #[derive(Drop)]
 pub struct MemoryConsole<'a> {
     text: &'a [u8],
     room: usize,
-    entries: Vec<Entry>,
+    entries: Vec<Entry<'a>>,
     terminal: bool,
     read_faults: u64,
     put_faults: u64,
-    alloc: Global,
 }
 
 impl<'a> MemoryConsole<'a> {
@@ -39,44 +43,19 @@ impl<'a> MemoryConsole<'a> {
             terminal,
             read_faults: 0,
             put_faults: 0,
-            alloc,
         }
     }
 
     /// What happened, in order.
-    pub fn entries(&self) -> &[Entry]
+    pub fn entries(&self) -> &[Entry<'a>]
         ensures { result.now ≡ self.now.entries.items }
     {
         &self.entries
     }
 }
 
-/// Notes that a line was read.
-#[tactic(auto, using(crate::proofs::EntryLaws::entry_events_push))]
-fn note_read(alloc: Global, entries: &mut Vec<Entry>, line: &[u8]) -> Result<(), AllocError>
-    ensures ok { OnOk result (entry_events entries.new.items
-        ≡ entry_events entries.old.items ++ read line.now ∷ []) }
-    ensures err { OnErr result (entries.new.items ≡ entries.old.items) }
-{
-    let copy = line.to_vec(alloc)?;
-    entries.push(Entry::Read(copy))?;
-    Ok(())
-}
-
-/// Notes that bytes were written.
-#[tactic(auto, using(crate::proofs::EntryLaws::entry_events_push))]
-fn note_written(alloc: Global, entries: &mut Vec<Entry>, bytes: &[u8]) -> Result<(), AllocError>
-    ensures ok { OnOk result (entry_events entries.new.items
-        ≡ entry_events entries.old.items ++ write_events bytes.now) }
-    ensures err { OnErr result (entries.new.items ≡ entries.old.items) }
-{
-    let copy = bytes.to_vec(alloc)?;
-    entries.push(Entry::Wrote(copy))?;
-    Ok(())
-}
-
 impl Console for MemoryConsole<'_> {
-    ghost log = { λ c. Some (entry_events c.entries.items) };
+    ghost log = { λ c. Some (entry_events kept_part c.entries.items) };
 
     ghost left = { λ c. known_lines (Some c.text.now) };
 
@@ -84,31 +63,55 @@ impl Console for MemoryConsole<'_> {
 
     ghost terminal = { λ c. c.terminal };
 
-    fn read_line(&mut self, line: &mut Vec<u8>) -> Result<bool, ReadFault> {
-        let mut rest = self.text;
-        match next_line(&mut rest, line) {
-            Ok(true) => {
-                if note_read(self.alloc, &mut self.entries, line).is_err() {
-                    self.read_faults += 1;
-                    return Err(ReadFault);
-                }
-                self.text = rest;
-                Ok(true)
-            }
-            Ok(false) => {
-                self.text = rest;
-                Ok(false)
-            }
-            Err(fault) => {
-                self.read_faults += 1;
-                Err(fault)
-            }
+    // The trait's clauses, and when it fails.
+    #[tactic(auto, using(crate::proofs::EntryLaws::entry_events_push, crate::proofs::LineLaws::first_given, crate::proofs::LineLaws::none_given))]
+    fn read_line(&mut self, line: &mut Vec<u8>) -> Result<bool, ReadFault>
+        requires room { LONGEST_LINE < vec_capacity line.old }
+        requires count { self.old.read_faults < 2 ^ 64 - 1 }
+        ensures told { Adds (Some (entry_events kept_part self.old.entries.items))
+            (Some (entry_events kept_part self.new.entries.items))
+            (read_events result line.new.items) }
+        ensures lines { IfOk result (λ some. Gives (known_lines (Some self.old.text.now))
+            (known_lines (Some self.new.text.now)) (lines_read some line.new.items)) }
+        ensures end { result ≡ Ok false → IsAtEnd (known_lines (Some self.new.text.now)) }
+        ensures room { LONGEST_LINE < vec_capacity line.new }
+        ensures faults { faults_of self.new.read_faults self.new.put_faults
+            ≡ faults_after_read result (faults_of self.old.read_faults self.old.put_faults) }
+        ensures terminal { self.new.terminal ≡ self.old.terminal }
+        ensures full { OnErr result (vec_capacity self.old.entries
+            ≤ length self.old.entries.items) }
+    {
+        let Some((raw, rest)) = take_line(self.text, line) else {
+            return Ok(false);
+        };
+        if self.entries.push(Entry::Read(raw)).is_err() {
+            self.read_faults += 1;
+            return Err(ReadFault);
         }
+        self.text = rest;
+        Ok(true)
     }
 
-    fn put(&mut self, bytes: &[u8]) -> Result<usize, PutFault> {
+    // The trait's clauses, how much it takes, and when it fails.
+    #[tactic(auto, using(crate::proofs::EntryLaws::entry_events_written))]
+    fn put(&mut self, bytes: &[u8]) -> Result<usize, PutFault>
+        requires some { 0 < length bytes.now }
+        requires count { self.old.put_faults < 2 ^ 64 - 1 }
+        ensures within { count_taken result ≤ length bytes.now }
+        ensures told { Adds (Some (entry_events kept_part self.old.entries.items))
+            (Some (entry_events kept_part self.new.entries.items))
+            (write_events (take (count_taken result) bytes.now)) }
+        ensures lines { known_lines (Some self.new.text.now)
+            ≡ known_lines (Some self.old.text.now) }
+        ensures faults { faults_of self.new.read_faults self.new.put_faults
+            ≡ faults_after_put result (faults_of self.old.read_faults self.old.put_faults) }
+        ensures terminal { self.new.terminal ≡ self.old.terminal }
+        ensures whole { IfOk result (λ n. n ≡ min (length bytes.now) self.old.room) }
+        ensures full { OnErr result ((self.old.room ≡ 0) ⊎ (vec_capacity self.old.entries
+            < length self.old.entries.items + length bytes.now)) }
+    {
         let count = bytes.len().min(self.room);
-        if count == 0 || note_written(self.alloc, &mut self.entries, &bytes[..count]).is_err() {
+        if count == 0 || note_written(&mut self.entries, &bytes[..count]).is_err() {
             self.put_faults += 1;
             return Err(PutFault);
         }

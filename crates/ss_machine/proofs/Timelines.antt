@@ -1,6 +1,6 @@
 -- a machine's steps are those of a run
-use Rattle.std.proofs.Common.{◌≡◌, ◌≢◌, ◌≤◌, ℕ, zero, suc, ◌+◌, ◌-◌, ◌<◌, ◌⊎◌, List, [], ◌∷◌, length, Bool, true, false, refl}
-use Rattle.std.proofs.Common.{ap, sym, subst, arith, ◌∙◌, inl, inr}
+use Rattle.std.proofs.Common.{◌≡◌, ◌≢◌, ◌≤◌, ℕ, zero, suc, ◌+◌, ◌-◌, ◌<◌, ◌⊎◌, List, [], ◌∷◌, length, Bool, true, false}
+use Rattle.std.proofs.Common.{refl, ap, sym, subst, arith, ◌∙◌, inl, inr}
 use Rattle.std.specs.Prelude.{take, ◌&&◌, nat_lt}
 use Rattle.std.proofs.lemmas.Bool.Decides.{nat_tests}
 use Rattle.ss_state.specs.declared.limits.TheConstants.{LAST_POSITION}

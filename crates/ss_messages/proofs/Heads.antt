@@ -1,7 +1,8 @@
 -- A head is read byte by byte.
-use Rattle.std.proofs.Common.{◌≡◌, ℕ, List, [], ◌∷◌, Option, Some, None, refl, ◌∙◌, ap}
+use Rattle.std.proofs.Common.{◌≡◌, ◌<◌, ◌≤◌, ℕ, List, [], ◌∷◌, length, drop, Option, Some, None, refl, ◌∙◌, ap, arith}
+use Rattle.std.proofs.lemmas.List.{drop_all}
 use Rattle.std.specs.Io.KnownBytes.{Consumes}
-use Rattle.ss_messages.specs.Frames.{head, GoesOn, HasLength}
+use Rattle.ss_messages.specs.Frames.{head, first_message, cut, GoesOn, HasLength}
 
 -- where the bytes are told: what is left of them goes on as they began
 abbrev pub IsWithin : Option (List ℕ) → Option (List ℕ) → ℕ → Option ℕ → List ℕ → ℕ → Type 0
@@ -32,3 +33,10 @@ pub head_ends : (old new : Option (List ℕ)) (first : ℕ) (said : Option ℕ) 
 head_ends old new first said line byte n next more w g =
     λ text e. let at = w text e in
     (at.0, at.1, at.2 ∙ g at.0)
+
+-- a text that ends within a head
+pub cut_within : (text : List ℕ) (at : ℕ) (said : Option ℕ) (line : List ℕ) → length text ≤ at → 0 < length text →
+    head None [] text ≡ head said line (drop at text) → first_message text ≡ cut
+unfolding head
+cut_within [] at said line past some e = absurd (omega (arith, some))
+cut_within (b ∷ bytes) at said line past some e = rw (drop_all at (b ∷ bytes) past) at e

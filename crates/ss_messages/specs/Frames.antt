@@ -73,6 +73,11 @@ IsRead (Some bytes) old new =
 abbrev pub IsMalformed : Option (List ℕ) → Type 0
 IsMalformed old = (text : List ℕ) → old ≡ Some text → first_message text ≡ malformed
 
+-- the first message of a text: its body and what stands after it; or the text is empty
+abbrev pub IsSplit : List ℕ → Option (List ℕ × List ℕ) → Type 0
+IsSplit text None = text ≡ []
+IsSplit text (Some (bytes, rest)) = first_message text ≡ message bytes rest
+
 -- a byte was read, or the stream was at its end
 abbrev pub IsByte : Option ℕ → Option (List ℕ) → Option (List ℕ) → Type 0
 IsByte None old new = Consumes old new [] × IsAtEnd new

@@ -3,8 +3,8 @@ ghost use Rattle.std.specs.Prelude.{◌≡◌, ◌∷◌, [], Err, IfOk, Option,
 ghost use Rattle.std.specs.Io.KnownBytes.{Consumes};
 ghost use Rattle.ss_messages.specs.Frames.{number_in, without_return, length_in, is_blank};
 ghost use Rattle.ss_messages.specs.Frames.{IsRead, IsMalformed, HasLength, HasNoLength, IsByte};
-ghost use Rattle.ss_messages.specs.Frames.{GoesOn, IsNoHead};
-ghost use Rattle.ss_messages.specs.declared.frame.FrameFault.TheVariants.{Malformed};
+ghost use Rattle.ss_messages.specs.Frames.{GoesOn, IsNoHead, IsSplit, first_message, malformed, cut};
+ghost use Rattle.ss_messages.specs.declared.frame.FrameFault.TheVariants.{Malformed, Read as Cut};
 
 use std::alloc::{AllocError, Global};
 use std::io::{ErrorKind, Read};
@@ -129,6 +129,7 @@ impl Head {
             self.new.said self.new.line.items) }
         ensures malformed { result ≡ Err Malformed →
             IsNoHead self.old.said self.old.line.items byte }
+        ensures whole { result ≡ Err Cut → ⊥ }
     {
         if byte == b'\n' {
             if is_blank(&self.line) {
@@ -208,4 +209,33 @@ pub fn read_message<R: Read>(alloc: Global, reader: &mut R) -> Result<Option<Vec
     };
     let length = read_head(alloc, reader, first)?;
     Ok(Some(read_body(alloc, reader, length)?))
+}
+
+/// The body of the first message of a text, and what stands after it; `None` where the text is
+/// empty. `Read` where the text ends within a message.
+pub fn split_message<'a>(
+    alloc: Global,
+    text: &'a [u8],
+) -> Result<Option<(&'a [u8], &'a [u8])>, FrameFault>
+    ensures ok { IfOk result (λ parts. IsSplit text.now
+        (option_map (λ p. (p.0.now, p.1.now)) parts)) }
+    ensures malformed { result ≡ Err Malformed → first_message text.now ≡ malformed }
+    ensures cut { result ≡ Err Cut → first_message text.now ≡ cut }
+{
+    let mut head = Head {
+        said: None,
+        line: Vec::new(alloc),
+    };
+    for at in 0..text.len() {
+        if let Some(length) = head.take(text[at])? {
+            return match text[at + 1..].split_at_checked(length) {
+                Some(parts) => Ok(Some(parts)),
+                None => Err(FrameFault::Read),
+            };
+        }
+    }
+    if text.is_empty() {
+        return Ok(None);
+    }
+    Err(FrameFault::Read)
 }

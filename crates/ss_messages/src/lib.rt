@@ -16,7 +16,7 @@ pub use bodies::{
     set_item, sources_body, stopped_body, unset_item, variable_item, watched_item, without_last,
 };
 pub use escape::{push_quoted, push_quoted_text};
-pub use frame::{FrameFault, LONGEST_MESSAGE, read_message};
+pub use frame::{FrameFault, LONGEST_MESSAGE, read_message, split_message};
 pub use messages::push_number;
 pub use parts::{Lines, Text, Texts};
 pub use post::Post;

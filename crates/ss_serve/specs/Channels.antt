@@ -1,10 +1,16 @@
 -- What happens on a channel, in order: as at a console, where the body of a message is read in place of a line.
 use Rattle.std.specs.Prelude.{ℕ, List, [], ◌∷◌, Option, Some, None, Result, Ok, Err}
 use Rattle.ss_console.specs.Event.{Event, read}
+use Rattle.ss_console.specs.Entries.{entry_events}
+use Rattle.ss_console.specs.declared.entry.Entry.{Entry}
 use Rattle.ss_messages.specs.declared.frame.FrameFault.{FrameFault}
 use Rattle.ss_messages.specs.declared.frame.FrameFault.TheVariants.{Malformed, Read, Memory}
 use Rattle.ss_serve.specs.declared.channel.Side.{Side}
 use Rattle.ss_serve.specs.declared.channel.Side.TheVariants.{Input, Output}
+
+-- what a channel over memory tells: of a message its body, whole
+abbrev pub channel_events : List Entry → List Event
+channel_events entries = entry_events (λ body. body) entries
 
 -- the event of a reading
 abbrev pub read_events : Option (List ℕ) → List Event

@@ -1,21 +1,27 @@
 //! A channel over memory.
-ghost use Rattle.std.specs.Prelude.{◌≡◌, [], ◌∷◌, ◌++◌, None, Some, OnOk, OnErr};
-ghost use Rattle.ss_console.specs.Event.{read, write_events};
-ghost use Rattle.ss_console.specs.Entries.{entry_events};
+ghost use Rattle.std.specs.Prelude.{◌≡◌, ◌⊎◌, ◌+◌, ◌<◌, [], length, min, None, Some, Err, option_map};
+ghost use Rattle.std.specs.Prelude.{IfOk, OnOk, OnErr};
+ghost use Rattle.std.specs.Vec.{vec_capacity};
+ghost use Rattle.ss_console.specs.Event.{Adds, write_events};
+ghost use Rattle.ss_console.specs.Puts.{AddsPart};
+ghost use Rattle.ss_messages.specs.Frames.{IsRead, IsMalformed, first_message, cut};
+ghost use Rattle.ss_messages.specs.declared.frame.FrameFault.TheVariants.{Malformed, Read};
+ghost use Rattle.ss_serve.specs.Channels.{read_events, broken_after_read, broken_after_send, channel_events};
 
 use crate::channel::{Channel, SendFault, Side};
-use ss_console::Entry;
-use ss_messages::{FrameFault, read_message};
-use std::alloc::{AllocError, Global};
+use ss_console::{Entry, note_written};
+use ss_messages::{FrameFault, split_message};
+use std::alloc::Global;
 
 /// A channel over memory, which tells what happened. Its messages are those of a text; it takes as
-/// many bytes as it has room for, and then none.
+/// many bytes as it has room for, and then none. A writing fails only where there is no room, or
+/// where what it tells of the call has none and cannot grow.
 #[derive(Drop)]
 pub struct MemoryChannel<'a> {
     alloc: Global,
     text: &'a [u8],
     room: usize,
-    entries: Vec<Entry>,
+    entries: Vec<Entry<'a>>,
     broken: Option<Side>,
 }
 
@@ -37,56 +43,44 @@ impl<'a> MemoryChannel<'a> {
     }
 
     /// What happened, in order.
-    pub fn entries(&self) -> &[Entry]
+    pub fn entries(&self) -> &[Entry<'a>]
         ensures { result.now ≡ self.now.entries.items }
     {
         &self.entries
     }
 }
 
-/// Notes that a message was read.
-#[tactic(auto, using(ss_console::proofs::EntryLaws::entry_events_push))]
-fn note_read(alloc: Global, entries: &mut Vec<Entry>, body: &[u8]) -> Result<(), AllocError>
-    ensures ok { OnOk result (entry_events entries.new.items
-        ≡ entry_events entries.old.items ++ read body.now ∷ []) }
-    ensures err { OnErr result (entries.new.items ≡ entries.old.items) }
-{
-    let copy = body.to_vec(alloc)?;
-    entries.push(Entry::Read(copy))?;
-    Ok(())
-}
-
-/// Notes that bytes were written.
-#[tactic(auto, using(ss_console::proofs::EntryLaws::entry_events_push))]
-fn note_written(alloc: Global, entries: &mut Vec<Entry>, bytes: &[u8]) -> Result<(), AllocError>
-    ensures ok { OnOk result (entry_events entries.new.items
-        ≡ entry_events entries.old.items ++ write_events bytes.now) }
-    ensures err { OnErr result (entries.new.items ≡ entries.old.items) }
-{
-    let copy = bytes.to_vec(alloc)?;
-    entries.push(Entry::Wrote(copy))?;
-    Ok(())
-}
-
 impl Channel for MemoryChannel<'_> {
-    ghost log = { λ c. Some (entry_events c.entries.items) };
+    ghost log = { λ c. Some (channel_events c.entries.items) };
 
     ghost left = { λ c. Some c.text.now };
 
     ghost broken = { λ c. c.broken };
 
-    fn receive(&mut self) -> Result<Option<Vec<u8>>, FrameFault> {
-        let mut rest = self.text;
-        match read_message(self.alloc, &mut rest) {
-            Ok(Some(body)) => {
-                note_read(self.alloc, &mut self.entries, &body)?;
+    // The trait's clauses, and when reading fails.
+    #[tactic(auto, using(ss_console::proofs::EntryLaws::entry_events_push))]
+    fn receive(&mut self) -> Result<Option<Vec<u8>>, FrameFault>
+        ensures read { IfOk result (λ body. IsRead (option_map (λ b. b.items) body)
+            (Some self.old.text.now) (Some self.new.text.now)) }
+        ensures malformed { result ≡ Err Malformed → IsMalformed (Some self.old.text.now) }
+        ensures told { IfOk result (λ body. Adds (Some (channel_events self.old.entries.items))
+            (Some (channel_events self.new.entries.items))
+            (read_events (option_map (λ b. b.items) body))) }
+        ensures err { OnErr result (Adds (Some (channel_events self.old.entries.items))
+            (Some (channel_events self.new.entries.items)) []) }
+        ensures broken { self.new.broken ≡ broken_after_read result self.old.broken }
+        ensures cut { result ≡ Err Read → first_message self.old.text.now ≡ cut }
+    {
+        match split_message(self.alloc, self.text) {
+            Ok(Some((body, rest))) => {
+                let copy = body.to_vec(self.alloc)?;
+                if self.entries.push(Entry::Read(body)).is_err() {
+                    return Err(FrameFault::Memory);
+                }
                 self.text = rest;
-                Ok(Some(body))
+                Ok(Some(copy))
             }
-            Ok(None) => {
-                self.text = rest;
-                Ok(None)
-            }
+            Ok(None) => Ok(None),
             Err(fault) => {
                 if fault == FrameFault::Read {
                     self.broken = Some(Side::Input);
@@ -96,10 +90,22 @@ impl Channel for MemoryChannel<'_> {
         }
     }
 
-    #[tactic(auto, using(ss_console::proofs::Parts::adds_part))]
-    fn send(&mut self, bytes: &[u8]) -> Result<(), SendFault> {
+    // The trait's clauses, and when writing fails.
+    #[tactic(auto, using(ss_console::proofs::Parts::adds_part, ss_console::proofs::EntryLaws::entry_events_written))]
+    fn send(&mut self, bytes: &[u8]) -> Result<(), SendFault>
+        ensures ok { OnOk result (Adds (Some (channel_events self.old.entries.items))
+            (Some (channel_events self.new.entries.items)) (write_events bytes.now)) }
+        ensures err { OnErr result (AddsPart bytes.now
+            (Some (channel_events self.old.entries.items))
+            (Some (channel_events self.new.entries.items))) }
+        ensures left { self.new.text.now ≡ self.old.text.now }
+        ensures broken { self.new.broken ≡ broken_after_send result self.old.broken }
+        ensures full { OnErr result ((self.old.room < length bytes.now)
+            ⊎ (vec_capacity self.old.entries
+            < length self.old.entries.items + length bytes.now)) }
+    {
         let count = bytes.len().min(self.room);
-        if note_written(self.alloc, &mut self.entries, &bytes[..count]).is_err() {
+        if note_written(&mut self.entries, &bytes[..count]).is_err() {
             self.broken = Some(Side::Output);
             return Err(SendFault);
         }

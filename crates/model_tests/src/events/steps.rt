@@ -56,50 +56,6 @@ pub fn schedules<S: SetBoard>(
     schedule(rt, agenda, journal, notice, clock).expect(rt, "a step")
 }
 
-/// One step that takes a pending notice off.
-pub fn take<S: SetBoard>(
-    rt: &impl Abort,
-    agenda: &mut Agenda<S>,
-    journal: &mut Journal<AgendaChange>,
-    notice: u32,
-)
-    requires closed { journal.old.current ≡ [] }
-    requires fits { FitsSteps Fits unapply journal.old.steps agenda.old }
-    ensures closed { journal.new.current ≡ [] }
-    ensures fits { FitsSteps Fits unapply journal.new.steps agenda.new }
-{
-    journal.reserve(1).expect(rt, "room");
-    assert!(rt; notice > 0);
-    assert!(rt; agenda.slot(notice).is_some());
-    let change = agenda.take(notice);
-    journal.note(change);
-    journal.close();
-}
-
-/// One step that cancels a notice, or the fault where it isn't pending.
-pub fn cancel<S: SetBoard>(
-    rt: &impl Abort,
-    agenda: &mut Agenda<S>,
-    journal: &mut Journal<AgendaChange>,
-    notice: u32,
-) -> Option<RunFault>
-    requires closed { journal.old.current ≡ [] }
-    requires fits { FitsSteps Fits unapply journal.old.steps agenda.old }
-    ensures closed { journal.new.current ≡ [] }
-    ensures fits { FitsSteps Fits unapply journal.new.steps agenda.new }
-{
-    journal.reserve(1).expect(rt, "room");
-    assert!(rt; notice > 0);
-    match agenda.cancel(notice) {
-        Ok(change) => {
-            journal.note(change);
-            journal.close();
-            None
-        }
-        Err(fault) => Some(fault),
-    }
-}
-
 /// One step back; false where there is none.
 pub fn back<S: SetBoard>(agenda: &mut Agenda<S>, journal: &mut Journal<AgendaChange>) -> bool
     requires closed { journal.old.current ≡ [] }

@@ -8,9 +8,6 @@ use ss_program::{Discipline, Key, Keys, Owner, Rank};
 use ss_store::{ClassShape, SetShape, Store};
 use std::alloc::{AllocError, Global};
 
-/// The number of classes.
-pub const CLASSES: usize = 3;
-
 /// The number of sets.
 pub const SETS: usize = 6;
 
@@ -22,19 +19,6 @@ pub const JOB: usize = 1;
 
 /// The class of parts.
 pub const PART: usize = 2;
-
-/// The class that owns each set, or none where the system does, and the class of its members.
-pub const ENDS: [(Option<usize>, usize); 6] = [
-    (None, JOB),
-    (Some(MACHINE), JOB),
-    (Some(JOB), PART),
-    (Some(PART), JOB),
-    (None, MACHINE),
-    (Some(JOB), JOB),
-];
-
-/// The number of attributes of each class.
-pub const ATTRIBUTES: [usize; 3] = [2, 2, 1];
 
 fn class(attributes: usize, owned: u32, joined: u32, permanent: bool) -> ClassShape
     ensures { result ≡ ground_class attributes owned joined permanent }

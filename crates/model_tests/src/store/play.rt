@@ -7,7 +7,7 @@ ghost use Rattle.model_tests.specs.Ground.{IsGround, IsMade, with_number};
 use crate::store::ground::{MACHINE, SETS};
 use ss_journal::{Journal, roll_back};
 use ss_links::SetBoard;
-use ss_store::{How, Store, StoreChange, Which};
+use ss_store::{How, Store, StoreChange};
 use ss_words::{RunFault, StepFault};
 use std::alloc::AllocError;
 use std::process::Abort;
@@ -25,22 +25,11 @@ pub enum Call {
         class: usize,
         x: i64,
     },
-    Set {
-        class: usize,
-        attribute: usize,
-        x: i64,
-        value: i64,
-    },
     File {
         set: usize,
         owner: i64,
         x: i64,
         how: How,
-    },
-    Remove {
-        set: usize,
-        owner: i64,
-        which: Which,
     },
 }
 
@@ -72,15 +61,6 @@ fn on_entity<S: SetBoard>(rt: &impl Abort, store: &mut Store<S>, call: Call) -> 
             assert!(rt; class > 0 && class < 3);
             fallible(store.destroy(class, x))
         }
-        Call::Set {
-            class,
-            attribute,
-            x,
-            value,
-        } => {
-            assert!(rt; class < 3);
-            fallible(store.set(class, attribute, x, value))
-        }
         _ => Err(StepFault::Memory),
     }
 }
@@ -97,13 +77,6 @@ fn make<S: SetBoard>(rt: &impl Abort, store: &mut Store<S>, call: Call) -> Made
         Call::File { set, owner, x, how } => {
             assert!(rt; set < SETS);
             fallible(store.file(set, owner, x, how))
-        }
-        Call::Remove { set, owner, which } => {
-            assert!(rt; set < SETS);
-            match store.remove(set, owner, which) {
-                Ok((number, change)) => Ok((i64::from(number), change)),
-                Err(fault) => Err(StepFault::Fault(fault)),
-            }
         }
         other => on_entity(rt, store, other),
     }
