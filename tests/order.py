@@ -24,8 +24,8 @@ BEFORE, EACH, TESTS, CHAIN = 10, 6, 300, 64 * 60
 # How many edits `rt must-fail` tries too, how many of a crate at most, and how many seconds the
 # proof of any crate but the first takes at most: it begins with a check of each.
 SAMPLE, OF_CRATE, CHEAP = 20, 10, 250
-# What a file uses of definitions: the crate, the module, the names, or the one for all of them.
-USE = r"^ *(?:ghost )?use Rattle\.(\w+)\.specs\.([\w.]+?)(?:\.\{(.*)\})?(?: as (\w+))?;?$"
+# What a file uses of definitions: the crate, and the module, or the name of one of it.
+USE = r"^ *(?:ghost )?use Rattle\.(\w+)\.specs\.([\w.]+\w)"
 TRIED = f"{TOP}/tests/tried"
 HEAD = """\
 # What a run of ./test --all has tried, all refused: it decides in which order edits are tried.
@@ -69,37 +69,45 @@ def definitions(crate, module):
 
 
 @functools.lru_cache(maxsize=None)
-def uses(path):
-    """Returns what a file uses of definitions: files, each with the names that it gives there."""
-    found = []
-    for crate, module, names, alias in re.findall(USE, read(path).decode(), re.M):
-        file = definitions(crate, module)
-        given = re.split(r",\s*|\s+as\s+", names) if names else [alias or module.split(".")[-1]]
-        found += [(file, given)] if file else []
+def reached(path):
+    """Returns the files of definitions that a file reaches by what it uses, and these use."""
+    found, left = set(), [path]
+    while left:
+        used = re.findall(USE, read(left.pop()).decode(), re.M)
+        new = {definitions(*it) for it in used} - {None} - found
+        found |= new
+        left += new
     return found
 
 
 @functools.lru_cache(maxsize=None)
-def closed(path):
-    """Returns a file of definitions with all that it reaches by what it uses."""
-    found, left = set(), [path]
-    while left:
-        if (it := left.pop()) not in found:
-            found.add(it)
-            left += [file for file, _ in uses(it)]
+def traits():
+    """Returns the files that declare traits, by the trait's name."""
+    found = collections.defaultdict(set)
+    for path in glob.glob(f"{TOP}/crates/*/src/**/*.rt", recursive=True):
+        for name in re.findall(r"\btrait (\w+)", read(path).decode()):
+            found[name].add(path)
     return found
 
 
+def contracts(text, function):
+    """Returns the files that have a function's contract: its own, and those of its trait."""
+    lines = text.lines[function.file]
+    blocks = (it for it in reversed(lines[: function.head]) if re.match(r" *(unsafe )?impl\b", it))
+    indent = lambda line: len(line) - len(line.lstrip())
+    block = next((it for it in blocks if indent(it) < indent(lines[function.head])), "")
+    names = re.findall(r"\b(\w+)(?:<[^{]*>)? for ", block)
+    return {f"{text.crate.folder}/{function.file}"}, {it for one in names for it in traits()[one]}
+
+
 def defined_sum(text, edit):
-    """Returns a sum of the definitions that the functions of an edit reach: by the names that they
-    have of what their file uses."""
-    reached = set()
+    """Returns a sum of the definitions that contracts of the functions of an edit reach by what
+    their files use; where it is a trait's contract, of the files that declare the trait, too."""
+    found = set()
     for it in edit.functions:
-        words = {*re.findall(r"\w+", "\n".join(text.lines[it.file][it.first : it.last + 1]))}
-        for file, names in uses(f"{text.crate.folder}/{it.file}"):
-            if not all(re.fullmatch(r"\w+", one) and one not in words for one in names):
-                reached |= closed(file)
-    return sum_of(part for it in sorted(reached) for part in (os.path.relpath(it, TOP), read(it)))
+        own, declared = contracts(text, it)
+        found |= declared.union(*map(reached, own | declared))
+    return sum_of(part for it in sorted(found) for part in (os.path.relpath(it, TOP), read(it)))
 
 
 class Tried:

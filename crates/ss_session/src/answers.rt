@@ -81,6 +81,7 @@ pub(crate) fn write_transcript<S: SetBoard, W: Outlet>(
     let mut bytes = Vec::new(alloc);
     let ended = write_answers(&mut debugger, &mut bytes, commands, out);
     drop(bytes);
-    debugger.end();
+    // The program ends here: its memory is not given back piece by piece.
+    std::mem::forget(debugger);
     ended
 }

@@ -3,3 +3,4 @@ pub mod Refused
 pub mod Completion
 pub mod Opening
 pub mod Stops
+pub mod Failures

@@ -1,6 +1,7 @@
 //! The words for who completes words.
-ghost use Rattle.std.specs.Prelude.{◌-◌, ◌^◌, ◌<◌, IfErr, IfOk};
+ghost use Rattle.std.specs.Prelude.{◌≡◌, ◌-◌, ◌^◌, ◌<◌, IfErr, IfOk};
 ghost use Rattle.ssdb.specs.Completion.{TellsWords, IsWordsCut};
+ghost use Rattle.ssdb.specs.Failures.{faults_after_end};
 ghost use Rattle.ssdb.specs.Seen.{seen_of};
 
 use crate::end::{PromptEnd, PromptFault};
@@ -24,6 +25,9 @@ pub fn tell_words<C: Console>(
         (C.left console.old) (C.left console.new) (C.log console.old) (C.log console.new)) end) }
     ensures err { IfErr result (λ fault. IsWordsCut model.now (seen_of (C.terminal console.old)
         (C.left console.old) (C.left console.new) (C.log console.old) (C.log console.new)) fault) }
+
+    // It is cut short by exactly the one call that failed.
+    ensures faults { C.faults console.new ≡ faults_after_end result (C.faults console.old) }
 {
     let lines = source_lines(alloc, model)?;
     match load_program(alloc, model) {

@@ -7,6 +7,7 @@ ghost use Rattle.ss_state.specs.Run.{run};
 ghost use Rattle.ss_prompt.specs.PromptState.{greeting};
 ghost use Rattle.ssdb.specs.Opening.{greeting_at, end_of_status, EndsWell, HoldFails, GreetingFails};
 ghost use Rattle.ssdb.specs.Opening.{HoldsFrom, StopsFrom, IsHeld, IsStopped};
+ghost use Rattle.ssdb.specs.Failures.{faults_after_end};
 ghost use Rattle.ssdb.specs.Seen.{seen_of};
 
 use crate::end::{PromptEnd, PromptFault};
@@ -39,6 +40,7 @@ fn put_greeting<S: SetBoard, C: Console>(
         (write_events (greeting prompt.now)) × (C.faults console.new ≡ C.faults console.old)) }
     ensures err { IfErr result (λ fault. GreetingFails (greeting prompt.now)
         (C.log console.old) (C.log console.new) fault) }
+    ensures faults { C.faults console.new ≡ faults_after_end result (C.faults console.old) }
     ensures lines { C.left console.new ≡ C.left console.old }
     ensures terminal { C.terminal console.new ≡ C.terminal console.old }
 {
@@ -64,6 +66,7 @@ fn greet<S: SetBoard, C: Console>(
     ensures err { IfErr result (λ fault. GreetingFails
         (greeting_at (C.terminal console.old) prompt.now)
         (C.log console.old) (C.log console.new) fault) }
+    ensures faults { C.faults console.new ≡ faults_after_end result (C.faults console.old) }
     ensures lines { C.left console.new ≡ C.left console.old }
     ensures terminal { C.terminal console.new ≡ C.terminal console.old }
 {
@@ -91,6 +94,9 @@ fn hold<S: SetBoard, C: Console>(
     ensures err { IfErr result (λ fault. HoldFails prompt.old prompt.new (C.log console.old)
         (seen_of (C.terminal console.old) (C.left console.old) (C.left console.new)
         (C.log console.old) (C.log console.new)) fault) }
+
+    // It is cut short by exactly the one call that failed.
+    ensures faults { C.faults console.new ≡ faults_after_end result (C.faults console.old) }
 {
     let mut answer = Vec::new(alloc);
     converse(prompt, console, line, &mut answer)?;
@@ -112,6 +118,7 @@ fn greet_and_hold<S: SetBoard, C: Console>(
         (C.left console.old) (C.left console.new) (C.log console.old) (C.log console.new)) end) }
     ensures err { IfErr result (λ fault. StopsFrom prompt.entry (seen_of (C.terminal console.old)
         (C.left console.old) (C.left console.new) (C.log console.old) (C.log console.new)) fault) }
+    ensures faults { C.faults console.new ≡ faults_after_end result (C.faults console.old) }
 {
     let ended = match greet(alloc, &prompt, console) {
         Ok(()) => hold(alloc, &mut prompt, line, console),
@@ -138,6 +145,9 @@ pub fn open_prompt<C: Console>(
     ensures err { IfErr result (λ fault. IsStopped model.now data_text.now
         (seen_of (C.terminal console.old) (C.left console.old) (C.left console.new)
         (C.log console.old) (C.log console.new)) fault) }
+
+    // It is cut short by exactly the one call that failed.
+    ensures faults { C.faults console.new ≡ faults_after_end result (C.faults console.old) }
 {
     let mut line = Vec::with_capacity(alloc, LONGEST_LINE + 1)?;
     let lines = source_lines(alloc, model)?;

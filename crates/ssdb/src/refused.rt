@@ -5,6 +5,7 @@ ghost use Rattle.ss_session.specs.Load.{IsLoadFault};
 ghost use Rattle.ssdb.specs.Refused.{has_blank, rule_line, refused_model_text, IsTextTold, IsTold};
 ghost use Rattle.ssdb.specs.Refused.{IsRefusalWritten};
 ghost use Rattle.ss_prompt.specs.Source.{source_lines};
+ghost use Rattle.ssdb.specs.Failures.{faults_after_fault};
 ghost use Rattle.ssdb.specs.Seen.{seen_of};
 
 use crate::end::PromptFault;
@@ -95,8 +96,9 @@ pub fn refuse<C: Console>(
     requires puts { (C.faults console.old).puts < 2 ^ 64 - 1 }
     requires fault { IsLoadFault fault model.now }
     requires lines { map (λ l. l.now) lines.now ≡ source_lines model.now }
-    ensures { IsRefusalWritten model.now (seen_of (C.terminal console.old) (C.left console.old)
+    ensures told { IsRefusalWritten model.now (seen_of (C.terminal console.old) (C.left console.old)
         (C.left console.new) (C.log console.old) (C.log console.new)) result }
+    ensures faults { C.faults console.new ≡ faults_after_fault result (C.faults console.old) }
 {
     let Ok(text) = told(alloc, model, lines, fault) else {
         return PromptFault::Memory;
