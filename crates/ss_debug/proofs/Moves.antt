@@ -1,4 +1,4 @@
-use Rattle.std.proofs.Common.{◌≡◌, ℕ, ◌+◌, ◌<◌, ◌≤◌, Bool, true, false, zero, suc, refl, sym, arith, cond, nat_lt}
+use Rattle.std.proofs.Common.{◌≡◌, ℕ, ◌+◌, ◌<◌, ◌≤◌, Bool, true, false, zero, suc, refl, sym, ap, arith, cond, nat_lt}
 use Rattle.std.proofs.Common.{nat_le, min, not, ◌||◌, ◌&&◌, ◌-◌, List, subst, ◌⊎◌, inl, inr, rules}
 use borrow.Author.Count.{below_more}
 use borrow.Author.Tests.{ltb-true, ltb-false, leb-true, leb-false}
@@ -6,7 +6,7 @@ use Rattle.ss_state.specs.declared.limits.TheConstants.{LAST_POSITION}
 use Rattle.ss_state.specs.Run.{Input}
 use Rattle.ss_debug.specs.declared.stop_condition.StopCondition.{StopCondition as StopChoice}
 use Rattle.ss_debug.specs.View.{condition_of}
-use Rattle.ss_debug.specs.Move.{StopCondition, least, is_stop, stops, forward_end, is_ready_at, has_come}
+use Rattle.ss_debug.specs.Move.{StopCondition, step_condition, least, is_stop, stops, forward_end, is_ready_at, has_come}
 use Rattle.ss_debug.specs.Move.{is_on_break, EndsAt, stops_back, search_back_end, EndsBackAt}
 
 least_step : (b c : Bool) (m n : ℕ) → nat_lt m n ≡ b → m ≤ n → cond b m (cond c n (suc n)) ≤ suc n
@@ -210,6 +210,36 @@ one_end t condition p n q r a b = end_by_order t condition p n q r _ _ refl refl
 pub stops_here : (t u : Input) (breaks : List ℕ) (choice : StopChoice) (p q k from : ℕ) → u ≡ t → q ≡ p + k →
     from ≡ p → stops t (condition_of t breaks choice) p k ≡ is_stop u (condition_of u breaks choice) from q
 stops_here t u breaks choice p q k from e f g = rw (e, f, g) refl
+
+-- ---- forward where only the status stops
+
+-- tests that say the same have the same least
+least_same : (f g : ℕ → Bool) (n : ℕ) → ((k : ℕ) → f k ≡ g k) → least f n ≡ least g n
+unfolding least
+least_same f g zero same = refl
+least_same f g (suc n) same = rw (least_same f g n same, same n) refl
+
+-- a movement ends where STEP does, if it stops where STEP does
+pub end_of_step : (t : Input) (condition : StopCondition) (p n : ℕ)
+    → ((q : ℕ) → is_stop t condition p q ≡ is_stop t step_condition p q)
+    → forward_end t condition p n ≡ forward_end t step_condition p n
+end_of_step t condition p n same =
+    ap (λ k. p + k) (least_same (stops t condition p) (stops t step_condition p) (min n (LAST_POSITION - p))
+    (λ k. same (p + k)))
+
+not_or_never : (a b : Bool) → (not a || false || (b && false)) ≡ not a
+not_or_never true true = refl
+not_or_never true false = refl
+not_or_never false b = refl
+
+-- STEP stops where the status isn't ready
+step_stops : (t : Input) (p k : ℕ) → stops t step_condition p k ≡ not (is_ready_at t (p + k))
+step_stops t p k = not_or_never (is_ready_at t (p + k)) (nat_lt p (p + k))
+
+-- seen from the machine that stands there
+pub stops_as_seen : (t u : Input) (p q k : ℕ) (ready : Bool) → u ≡ t → q ≡ p + k → ready ≡ is_ready_at u q
+    → stops t step_condition p k ≡ not ready
+stops_as_seen t u p q k ready e f seen = rw (seen, e, f) (step_stops t p k)
 
 -- ---- back to where a test holds
 

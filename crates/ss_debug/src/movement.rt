@@ -1,8 +1,9 @@
 //! Movements: forward, step by step, to where a condition is met, and back.
-ghost use Rattle.std.specs.Prelude.{◌≡◌, ◌+◌, ◌<◌, ◌≤◌, OnOk, OnErr, IfOk, MatchOption, true, ◌&&◌, nat_lt};
+ghost use Rattle.std.specs.Prelude.{◌≡◌, ℕ, ◌+◌, ◌<◌, ◌≤◌, OnOk, OnErr, IfOk, IsTrue, MatchOption, true, ◌&&◌, nat_lt};
 ghost use Rattle.ss_machine.specs.Moment.{position};
 ghost use Rattle.ss_state.specs.declared.limits.TheConstants.{LAST_POSITION};
-ghost use Rattle.ss_debug.specs.Move.{is_ready_at, line_at, is_on_break, has_come, is_stop, forward_end};
+ghost use Rattle.ss_state.specs.Run.{Input};
+ghost use Rattle.ss_debug.specs.Move.{step_condition, is_ready_at, line_at, is_on_break, has_come, is_stop, forward_end};
 ghost use Rattle.ss_debug.specs.Move.{is_behind_start, runs_event, starts_event, back_end, search_back_end};
 ghost use Rattle.ss_debug.specs.Position.{IsAt, frames_before};
 ghost use Rattle.ss_debug.specs.View.{condition_of, target_test};
@@ -114,6 +115,7 @@ fn is_at_stop<S: SetBoard>(
 
 /// One step from a state that is ready and not the last. Tells how many frames stood before it.
 #[tactic(auto, using(crate::proofs::Starts::before_step))]
+#[inline(always)]
 fn step_once<S: SetBoard>(machine: &mut Machine<S>) -> Result<usize, AllocError>
     requires ready { is_ready_at machine.old.input (position machine.old) ≡ true }
     requires before_last { position machine.old < LAST_POSITION }
@@ -125,7 +127,7 @@ fn step_once<S: SetBoard>(machine: &mut Machine<S>) -> Result<usize, AllocError>
 {
     machine.known();
     let frames = machine.frames();
-    machine.step()?;
+    machine.step_ready()?;
     Ok(frames)
 }
 
@@ -134,8 +136,78 @@ fn step_once<S: SetBoard>(machine: &mut Machine<S>) -> Result<usize, AllocError>
 /// step, if there was one.
 ///
 /// `AllocError` where a step was refused memory: the machine stands where the steps before it led.
-#[tactic(auto, using(crate::proofs::Moves::least_steps))]
+#[tactic(auto, using(crate::proofs::Moves::end_of_step))]
 pub fn forward<S: SetBoard>(
+    machine: &mut Machine<S>,
+    breaks: &BreakLines,
+    condition: StopCondition,
+    bound: u64,
+) -> Result<usize, AllocError>
+    ensures ok { OnOk result (IsAt machine.old.input machine.old.forgotten
+        (forward_end machine.old.input (condition_of machine.old.input breaks.now condition)
+        (position machine.old) bound) machine.new) }
+    ensures before { IfOk result (λ before. position machine.old < position machine.new →
+        before ≡ frames_before machine.old.input (position machine.new)) }
+    ensures memory { OnErr result ((machine.new.input ≡ machine.old.input)
+        × (machine.new.forgotten ≡ machine.old.forgotten)
+        × (position machine.old ≤ position machine.new)
+        × (position machine.new ≤ forward_end machine.old.input
+        (condition_of machine.old.input breaks.now condition) (position machine.old) bound)) }
+{
+    if stops_nowhere(breaks, condition) {
+        return forward_on(machine, bound);
+    }
+    forward_to_stop(machine, breaks, condition, bound)
+}
+
+/// Whether nothing but its bound and the status ends a movement: it names no time, and looks for
+/// nothing, or for break lines where there are none.
+fn stops_nowhere(breaks: &BreakLines, condition: StopCondition) -> bool
+    ensures { IsTrue result → (input : Input) → (p q : ℕ) →
+        is_stop input (condition_of input breaks.now condition) p q
+        ≡ is_stop input step_condition p q }
+{
+    let finds_nothing = match condition.target {
+        Target::Nothing => true,
+        Target::BreakLine => breaks.is_empty(),
+        Target::EventStart => false,
+    };
+    condition.time.is_none() && finds_nothing
+}
+
+/// Steps until the status isn't ready, within the bound and not past the last position: as
+/// [`forward`] where its condition stops nowhere.
+#[tactic(auto, using(crate::proofs::Moves::least_steps))]
+fn forward_on<S: SetBoard>(machine: &mut Machine<S>, bound: u64) -> Result<usize, AllocError>
+    ensures ok { OnOk result (IsAt machine.old.input machine.old.forgotten
+        (forward_end machine.old.input step_condition (position machine.old) bound) machine.new) }
+    ensures before { IfOk result (λ before. position machine.old < position machine.new →
+        before ≡ frames_before machine.old.input (position machine.new)) }
+    ensures memory { OnErr result ((machine.new.input ≡ machine.old.input)
+        × (machine.new.forgotten ≡ machine.old.forgotten)
+        × (position machine.old ≤ position machine.new)
+        × (position machine.new
+        ≤ forward_end machine.old.input step_condition (position machine.old) bound)) }
+{
+    machine.known();
+    let from = machine.position();
+    let most = bound.min(LAST_POSITION - from);
+    let mut before = 0;
+    for _k in 0..most {
+        if !is_ready_now(machine) {
+            return Ok(before);
+        }
+        match step_once(machine) {
+            Ok(frames) => before = frames,
+            Err(error) => return Err(error),
+        }
+    }
+    Ok(before)
+}
+
+/// The same with a test of the condition before each step.
+#[tactic(auto, using(crate::proofs::Moves::least_steps))]
+fn forward_to_stop<S: SetBoard>(
     machine: &mut Machine<S>,
     breaks: &BreakLines,
     condition: StopCondition,

@@ -1,6 +1,6 @@
 //! What each step of a run shares: what it writes, what it notes, and how it ends.
 ghost use Rattle.std.specs.Prelude.{◌≡◌, ◌+◌, ◌<◌, ◌≤◌, ◌^◌, [], length, slice_get, slice_index_or, pos, Some, OnOk};
-ghost use Rattle.std.specs.Prelude.{IfOk};
+ghost use Rattle.std.specs.Prelude.{IfOk, MatchOption};
 ghost use Rattle.ss_words.specs.declared.limits.TheConstants.{MOST_PHRASES};
 ghost use Rattle.ss_program.specs.Match.{ways_of};
 ghost use Rattle.ss_program.specs.Program.{places_of, section_of, spot_at};
@@ -10,6 +10,7 @@ ghost use Rattle.ss_links.specs.Board.{empty_board};
 ghost use Rattle.ss_store.specs.Tables.{tables_of};
 ghost use Rattle.ss_events.specs.Rules.{rules_of};
 ghost use Rattle.ss_machine.specs.Executor.{rules, state, state_before, tables};
+ghost use Rattle.ss_state.specs.declared.limits.TheConstants.{MOST_STEP_CHANGES};
 ghost use Rattle.ss_state.specs.Change.{Fits, unapply};
 ghost use Rattle.ss_machine.specs.Noting.{Notes};
 ghost use Rattle.ss_machine.specs.Outcome.{LeadsTo, IsMarked, IsSettled, IsSettledOrRefused};
@@ -302,18 +303,22 @@ impl<S: SetBoard> Executor<S> {
             (most_changes program.now (state self.old) ways place.now ≤ self.new.journal.notes) }
         ensures closes { OnOk result (0 < self.new.journal.closes) }
     {
-        let room = self.room_asked(program, ways, place);
-        self.journal.reserve(room)
+        match self.room_of_targets(program, ways, place) {
+            None => self.journal.reserve(MOST_STEP_CHANGES),
+            Some(room) => self.journal.reserve(room),
+        }
     }
 
-    /// For how many changes a place asks for room; it notes no more. All ask for the same but those
-    /// whose targets may be more.
+    /// For how many changes a place asks for room whose targets may be many; it notes no more. All
+    /// others ask for the same.
     #[inline(always)]
-    fn room_asked(&self, program: &Program, ways: Ways, place: &Place) -> usize
+    fn room_of_targets(&self, program: &Program, ways: Ways, place: &Place) -> Option<usize>
         requires timed { IsTimed program.now
             (section_of program.now (state self.now).frame.section) place.now }
         requires few { ways.chain ≤ MOST_PHRASES }
-        ensures { most_changes program.now (state self.now) ways place.now ≤ result }
+        ensures { MatchOption result
+            (most_changes program.now (state self.now) ways place.now ≤ MOST_STEP_CHANGES)
+            (λ room. most_changes program.now (state self.now) ways place.now ≤ room) }
     {
         program.known();
         match place {
@@ -322,12 +327,12 @@ impl<S: SetBoard> Executor<S> {
             | Place::Filing(_)
             | Place::Output(_)
             | Place::Branch(_)
-            | Place::Call(_) => MOST_STEP_CHANGES,
+            | Place::Call(_) => None,
             // Few values come back from a section, and a notice has few attributes.
-            Place::Control(_) => MOST_STEP_CHANGES,
-            Place::Timing(_) => MOST_STEP_CHANGES,
-            Place::Looping(looping) => looping_room(ways, looping),
-            Place::Read(targets) => 2 + targets.list.len(),
+            Place::Control(_) => None,
+            Place::Timing(_) => None,
+            Place::Looping(looping) => Some(looping_room(ways, looping)),
+            Place::Read(targets) => Some(2 + targets.list.len()),
         }
     }
 

@@ -1,5 +1,6 @@
 -- Values that did not fit their fields.
-use Rattle.std.specs.Prelude.{ℕ, ◌-◌, ◌&&◌, Bool, not, List, length, nat_eq, nat_lt, get_or, count_by}
+use Rattle.std.specs.Prelude.{ℕ, ◌-◌, ◌&&◌, Bool, not, List, length, nat_eq, nat_lt, get_or, count_by, codes}
+use Rattle.std.specs.Prelude.{if◌then◌else◌}
 use Rattle.std.specs.List.{range_with_len}
 
 -- whether an asterisk (42) stands at this place of a text
@@ -14,3 +15,8 @@ begins_run text k = is_asterisk_at text k && not (nat_lt 0 k && is_asterisk_at t
 -- asterisks stands for one
 unfoldable pub unfit_values : List ℕ → ℕ
 unfit_values report = count_by (begins_run report) (range_with_len 0 (length report))
+
+-- what is said of n values that did not fit, behind their number
+abbrev pub unfit_words : ℕ → List ℕ
+unfit_words n =
+    if nat_eq n 1 then codes " VALUE DID NOT FIT ITS FIELD" else codes " VALUES DID NOT FIT THEIR FIELDS"

@@ -6,3 +6,4 @@ pub mod Advance
 pub mod Trace
 pub mod Tracing
 pub mod Warned
+pub mod Watched

@@ -1,6 +1,6 @@
 //! Values that did not fit their fields.
 ghost use Rattle.std.specs.Prelude.{◌≡◌, ◌<◌, length};
-ghost use Rattle.ss_run.specs.Fields.{begins_run, unfit_values};
+ghost use Rattle.ss_run.specs.Fields.{begins_run, unfit_values, unfit_words};
 
 /// Whether a run of asterisks begins at this place.
 fn begins_run(text: &[u8], k: usize) -> bool
@@ -23,4 +23,14 @@ pub fn unfit_values(report: &[u8]) -> usize
         }
     }
     count
+}
+
+/// What is said of so many values that did not fit their fields, behind their number.
+pub fn unfit_words(unfit: usize) -> &'static str
+    ensures { result.now ≡ unfit_words unfit }
+{
+    if unfit == 1 {
+        return " VALUE DID NOT FIT ITS FIELD";
+    }
+    " VALUES DID NOT FIT THEIR FIELDS"
 }

@@ -7,9 +7,11 @@ mod here;
 mod rows;
 mod traced;
 mod warned;
+mod watched;
 mod whole_run;
 
-pub use fields::unfit_values;
+pub use fields::{unfit_values, unfit_words};
 pub use traced::trace_model;
 pub use warned::model_warnings;
+pub use watched::push_question;
 pub use whole_run::{Progress, RunCut, RunEnd, WholeRun, report, run_model, run_status};

@@ -128,6 +128,8 @@ fn session_by_cases<S: SetBoard, W: Outlet>(
 /// faulted, else `Done`. `Text` and `Check` where the model is refused, once its line is written.
 /// `Write` where `out` counted a failure; nothing more is put then. `Memory` where a growth was
 /// refused; what was written are the whole answers of the first lines.
+///
+/// The memory of the run is not given back: it is for a program that then ends.
 pub fn session_over<S: SetBoard, W: Outlet>(
     alloc: Global,
     sets: S,
@@ -156,6 +158,8 @@ pub fn session_over<S: SetBoard, W: Outlet>(
 /// faulted, else `Done`. `Text` and `Check` where the model is refused, once its line is written.
 /// `Write` where `out` counted a failure; nothing more is put then. `Memory` where a growth was
 /// refused; what was written are the whole answers of the first lines.
+///
+/// The memory of the run is not given back: it is for a program that then ends.
 pub fn session<W: Outlet>(
     alloc: Global,
     model: &[u8],

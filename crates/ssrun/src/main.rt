@@ -16,7 +16,9 @@ use clap::error::ErrorKind;
 use meter::Meter;
 use questions::read_questions;
 use ss_host::{Stop, Stream, read_arguments, read_file, read_or, stop_by, tell};
-use ss_run::{RunCut, RunEnd, WholeRun, model_warnings, run_model, run_status, trace_model};
+use ss_run::{
+    RunCut, RunEnd, WholeRun, model_warnings, run_model, run_status, trace_model, unfit_words,
+};
 use ss_trace::Question;
 use std::alloc::Global;
 use std::io::{IsTerminal, Write};
@@ -138,7 +140,8 @@ fn tell_whole(rt: &HostRuntime, whole: &WholeRun) {
     put_lines(rt, &whole.explanation);
     let unfit = whole.unfit;
     if unfit > 0 {
-        let _ = eprintln!(rt; "{unfit} VALUES DID NOT FIT THEIR FIELDS");
+        let words = unfit_words(unfit);
+        let _ = eprintln!(rt; "{unfit}{words}");
     }
 }
 

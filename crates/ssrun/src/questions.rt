@@ -1,6 +1,7 @@
 //! The questions that `--watch` names: what may stand behind SHOW (docs/DEBUGGER.md), `COUNT s [k]`
 //! and `c k a`.
 use ss_debug::{Command, Question as Shown, command};
+use ss_run::push_question;
 use ss_trace::Question;
 use std::alloc::{AllocError, Global};
 
@@ -53,12 +54,12 @@ fn question(alloc: Global, text: &[u8]) -> Result<Option<Question>, AllocError> 
     attribute(alloc, text)
 }
 
-/// The questions that some texts are; none where one of them is no question.
+/// The questions that some texts are, each once; none where one of them is no question.
 pub fn read_questions(alloc: Global, texts: &[&str]) -> Result<Option<Vec<Question>>, AllocError> {
     let mut questions = Vec::new(alloc);
     for text in texts {
         match question(alloc, text.as_bytes())? {
-            Some(question) => questions.push(question)?,
+            Some(question) => push_question(&mut questions, question)?,
             None => return Ok(None),
         }
     }

@@ -166,7 +166,7 @@ impl<S: SetBoard> Executor<S> {
         ensures { result ≡ loads program.now (state self.now) }
     {
         match self.held.entry() {
-            Entry::Absent => self.held.has_piece() && has_external(program),
+            Entry::Absent => has_external(program) && self.held.has_piece(),
             _ => false,
         }
     }

@@ -1,21 +1,23 @@
-use Rattle.std.proofs.Common.{◌≡◌, ◌+◌, ◌-◌, ℕ, min, true, false, sym, arith, rules}
+use Rattle.std.proofs.Common.{◌≡◌, ◌+◌, ◌-◌, ℕ, min, true, false, arith, rules}
 use borrow.Author.Count.{below_more}
 use Rattle.ss_state.specs.declared.limits.TheConstants.{LAST_POSITION}
 use Rattle.ss_machine.specs.Moment.{position}
-use Rattle.ss_debug.specs.Move.{stops}
-use Rattle.ss_debug.specs.View.{condition_of}
-use Rattle.ss_debug.proofs.Moves.{least_is, least_at_least, stops_here}
-use Rattle.ss_debug.proofs.movement.forward.Goals as goal
+use Rattle.ss_debug.specs.Move.{stops, step_condition}
+use Rattle.ss_debug.proofs.Moves.{least_is, least_at_least, stops_as_seen}
+use Rattle.ss_debug.proofs.movement.forward_on.Goals as goal
 
-pub returns-then-is_at_stop-clause-ok : goal.returns-then-is_at_stop-clause-ok
-returns-then-is_at_stop-clause-ok g c =
+pub returns-then-not-is_ready_now-clause-ok : goal.returns-then-not-is_ready_now-clause-ok
+returns-then-not-is_ready_now-clause-ok g c =
     let m = c.args.machine.now in
+    let l = c.loop-k.machine in
     let most : ℕ = min c.args.bound (LAST_POSITION - position m) in
-    let found : stops m.input (condition_of m.input c.args.breaks.now c.args.condition) (position m) c.loop-k._k
-    ≡ true = search rules in
+    let seen =
+    stops_as_seen m.input l.input (position m) (position l) c.loop-k._k _ c.loop-k.invariant.input
+    c.loop-k.invariant.stepped c.is_ready_now.ensures in
+    let found : stops m.input step_condition (position m) c.loop-k._k ≡ true = search rules in
     let e =
-    least_is (stops m.input (condition_of m.input c.args.breaks.now c.args.condition) (position m)) most
-    c.loop-k._k (omega arith) c.loop-k.invariant.went_on (λ _. found) in
+    least_is (stops m.input step_condition (position m)) most c.loop-k._k (omega arith)
+    c.loop-k.invariant.went_on (λ _. found) in
     record {
       input = c.loop-k.invariant.input;
       forgotten = c.loop-k.invariant.forgotten;
@@ -27,8 +29,8 @@ returns-in-Err-clause-memory g c =
     let m = c.args.machine.now in
     let most : ℕ = min c.args.bound (LAST_POSITION - position m) in
     let low =
-    least_at_least (stops m.input (condition_of m.input c.args.breaks.now c.args.condition) (position m)) most
-    c.loop-k._k (omega arith) c.loop-k.invariant.went_on in
+    least_at_least (stops m.input step_condition (position m)) most c.loop-k._k (omega arith)
+    c.loop-k.invariant.went_on in
     let same : c.step_once.new.machine ≡ c.loop-k.machine = search rules in
     rw (same, c.loop-k.invariant.stepped)
     (c.loop-k.invariant.input, c.loop-k.invariant.forgotten, omega arith, omega arith)
@@ -39,11 +41,10 @@ loop-k-preserved g c =
     let l = c.loop-k.machine in
     let held = c.loop-k.invariant in
     let gone = c.in-Ok.ensures.place in
-    let here =
-    stops_here m.input l.input c.args.breaks.now c.args.condition (position m) (position l) c.loop-k._k
-    c.position-from.result held.input held.stepped c.position-from.ensures in
-    let at_k : stops m.input (condition_of m.input c.args.breaks.now c.args.condition) (position m) c.loop-k._k
-    ≡ false = rw here (sym c.if-is_at_stop.ensures) in
+    let seen =
+    stops_as_seen m.input l.input (position m) (position l) c.loop-k._k _ held.input held.stepped
+    c.is_ready_now.ensures in
+    let at_k : stops m.input step_condition (position m) c.loop-k._k ≡ false = search rules in
     let on : position c.step_once.new.machine ≡ position l + 1 = gone.position in
     let before = rw held.input at c.in-Ok.ensures.before in
     record {
@@ -53,6 +54,6 @@ loop-k-preserved g c =
       before = λ h. before;
       went_on = λ j h.
           below_more
-          (λ i. stops m.input (condition_of m.input c.args.breaks.now c.args.condition) (position m) i ≡ false)
+          (λ i. stops m.input step_condition (position m) i ≡ false)
           c.loop-k._k (λ i g. held.went_on i g) at_k j (omega arith);
     }

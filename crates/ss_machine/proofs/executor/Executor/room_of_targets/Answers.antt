@@ -1,5 +1,5 @@
 use Rattle.ss_machine.proofs.Rooms.{control_room, timing_room}
-use Rattle.ss_machine.proofs.executor.Executor.room_asked.Goals as goal
+use Rattle.ss_machine.proofs.executor.Executor.room_of_targets.Goals as goal
 
 pub returns-in-Control : goal.returns-in-Control
 returns-in-Control g c =

@@ -1,9 +1,8 @@
 use Rattle.std.proofs.Common.{◌≡◌, ℕ, ◌+◌, ◌<◌, false}
 use Rattle.ss_machine.specs.Moment.{position}
-use Rattle.ss_debug.specs.Move.{stops}
+use Rattle.ss_debug.specs.Move.{stops, step_condition}
 use Rattle.ss_debug.specs.Position.{frames_before}
-use Rattle.ss_debug.specs.View.{condition_of}
-use Rattle.ss_debug.proofs.movement.forward.Given as goal
+use Rattle.ss_debug.proofs.movement.forward_on.Given as goal
 
 abbrev pub invariant-loop-k : goal.invariant-loop-k
 invariant-loop-k g l = record {
@@ -13,6 +12,5 @@ invariant-loop-k g l = record {
   before : position l.initial.machine < position l.machine →
       l.before ≡ frames_before l.initial.machine.input (position l.machine);
   went_on : (j : ℕ) → j < l._k →
-      stops l.initial.machine.input (condition_of l.initial.machine.input l.breaks l.condition)
-      (position l.initial.machine) j ≡ false;
+      stops l.initial.machine.input step_condition (position l.initial.machine) j ≡ false;
 }
