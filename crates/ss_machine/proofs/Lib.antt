@@ -1,3 +1,4 @@
+pub mod Locals
 pub mod Notings
 pub mod NumberBytes
 pub mod Histories

@@ -1,5 +1,6 @@
 pub mod View
 pub mod Nodes
+pub mod Locals
 pub mod Dropping
 pub mod ChangeView
 pub mod Moment

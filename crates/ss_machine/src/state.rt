@@ -5,6 +5,7 @@ pub mod entities;
 pub mod external;
 pub mod frame;
 pub mod frames;
+pub mod locals;
 pub mod loops;
 pub mod notices;
 pub mod statistics;
@@ -106,7 +107,7 @@ impl<S: SetBoard> State<S> {
         let variables = vec![in alloc; 0; program.globals.len()]?;
         let mut below = Vec::new(alloc);
         below.reserve(MOST_BELOW)?;
-        let frame = FrameBox::new(alloc, program, program.main(), Vec::new(alloc))?;
+        let frame = FrameBox::new(alloc, program, program.main(), &[])?;
         let agenda = Agenda::new(alloc, program, pending)?;
         let store = Store::new(alloc, program, sets)?;
         Ok(State {
@@ -144,8 +145,8 @@ impl<S: SetBoard> State<S> {
         match of {
             Variable::Global(number) => self.variables[number],
             Variable::Local(number) => {
-                let frame = self.last();
-                frame.locals[number]
+                let locals = self.last().locals.as_slice();
+                locals[number]
             }
             Variable::Clock => self.clock,
         }
@@ -323,7 +324,7 @@ impl<S: SetBoard> Undo for State<S> {
             }
             Change::Local { number, old } => {
                 let frame = &mut *self.frame.frame;
-                frame.locals[number] = old;
+                let _ = frame.locals.set(number, old);
             }
             Change::Place(old) => {
                 let frame = &mut *self.frame.frame;

@@ -2,6 +2,7 @@ ghost use Rattle.std.specs.Prelude.{◌≡◌, ◌<◌, ◌≤◌, length, slice
 ghost use Rattle.ss_program.specs.Program.{locals_of};
 ghost use Rattle.ss_state.specs.State.{new_frame};
 
+use crate::state::locals::Locals;
 use crate::state::loops::Loops;
 use crate::state::statistics::{Statistics, no_statistics};
 use ss_program::Program;
@@ -15,7 +16,7 @@ use std::marker::Model;
 pub struct Frame {
     pub section: usize,
     pub place: usize,
-    pub locals: Vec<i64>,
+    pub locals: Locals,
     pub loops: Loops,
     pub found: bool,
     pub statistics: Statistics,
@@ -29,7 +30,7 @@ impl Model for Frame {
     ghost view = { λ a. record {
       section = a.section;
       place = a.place;
-      locals = a.locals.items;
+      locals = a.locals;
       loops = a.loops;
       found = a.found;
       statistics = a.statistics;
@@ -60,9 +61,7 @@ impl Frame {
         ensures back { record self.new { locals = slice_set self.new.locals number result }
             ≡ self.old }
     {
-        let old = self.locals[number];
-        self.locals[number] = value;
-        old
+        self.locals.set(number, value)
     }
 }
 
@@ -72,20 +71,18 @@ impl FrameBox {
         alloc: Global,
         program: &Program,
         section: usize,
-        values: Vec<i64>,
+        values: &[i64],
     ) -> Result<Self, AllocError>
         requires section { section < length program.now.sections }
-        requires few { length values.items
+        requires few { length values.now
             ≤ length (locals_of (slice_get program.now.sections section)) }
-        ensures { IfOk result (λ frame. frame ≡ new_frame program.now section values.items) }
+        ensures { IfOk result (λ frame. frame ≡ new_frame program.now section values.now) }
     {
         let count = program.section(section).locals.len();
-        let mut locals = values;
-        locals.resize(count, 0)?;
         let frame = Frame {
             section,
             place: 0,
-            locals,
+            locals: Locals::new(alloc, values, count)?,
             loops: Loops::new(),
             found: false,
             statistics: no_statistics(),

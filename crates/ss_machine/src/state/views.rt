@@ -46,7 +46,7 @@ impl<S: SetBoard> State<S> {
         ensures { result ≡ frame_local self.now.state depth number }
     {
         let frame = self.frame_at(depth)?;
-        let value = frame.locals.get(number)?;
+        let value = frame.locals.as_slice().get(number)?;
         Some(*value)
     }
 }

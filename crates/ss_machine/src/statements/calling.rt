@@ -37,9 +37,7 @@ impl<S: SetBoard> Executor<S> {
         ensures notes { Notes 1 self.old self.new }
     {
         program.known();
-        let locals = program.section(call.section).locals.len();
-        let mut given = Vec::with_capacity(self.alloc, locals)?;
-        match values(self.held.view(), &call.given, &mut given) {
+        match values(self.held.view(), &call.given, &mut self.values) {
             Ok(()) => {}
             Err(StepFault::Fault(fault)) => {
                 self.mark(Status::Faulted(fault));
@@ -51,6 +49,7 @@ impl<S: SetBoard> Executor<S> {
             self.mark(Status::Faulted(RunFault::TooManyFrames));
             return Ok(());
         }
+        let given = self.values.as_slice();
         let frame = FrameBox::new(self.alloc, program, call.section, given)?;
         let change = self.held.open_frame(frame);
         self.journal.note(change);

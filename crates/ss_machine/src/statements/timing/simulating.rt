@@ -38,6 +38,7 @@ impl<S: SetBoard> Executor<S> {
         ensures state { state self.new
             ≡ state_at_time (state self.old) notice time (state self.old).store }
         ensures tables { tables self.new ≡ tables self.old }
+        ensures values { self.new.values ≡ self.old.values }
         ensures notes { Notes 3 self.old self.new }
     {
         let change = self.held.take_off(notice);
@@ -60,6 +61,7 @@ impl<S: SetBoard> Executor<S> {
             (state self.new).store }
         ensures rest { state self.new ≡ state_with_store (state self.old) (state self.new).store }
         ensures tables { tables self.new ≡ tables self.old }
+        ensures values { self.new.values ≡ self.old.values }
         ensures notes { Notes 1 self.old self.new }
     {
         if !saving {
@@ -87,12 +89,13 @@ impl<S: SetBoard> Executor<S> {
         let variable = class_variable(program, slot.class);
         let number = event_section(program, slot.class);
         let section = program.section(number);
-        let mut parameters = Vec::with_capacity(self.alloc, section.locals.len())?;
+        self.values.clear();
         self.held
-            .first_attributes(slot.class, section.given, notice, &mut parameters)?;
+            .first_attributes(slot.class, section.given, notice, &mut self.values)?;
         self.advance(notice, slot.time);
         self.end_unless_saved(slot.class, notice, section.saving)?;
         self.assign(Variable::Global(variable), i64::from(notice));
+        let parameters = self.values.as_slice();
         let frame = FrameBox::new(self.alloc, program, number, parameters)?;
         let change = self.held.open_frame(frame);
         self.journal.note(change);

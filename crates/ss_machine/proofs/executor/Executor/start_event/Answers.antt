@@ -43,7 +43,9 @@ new-requires-clause-few g c =
     let n : length xs ≡ length (range_with_len 0 given) =
     attributes_count c.args.self.now.held.state.store c.args.slot.class c.args.notice (range_with_len 0 given) xs
     c.in_ok-first_attributes.ensures.ok in
-    omega (arith, n, length-range_with_len 0 given, e, c.event_section-number.ensures.few)
+    let kept : c.as_slice-parameters.result.now ≡ xs = search rules in
+    let m : length c.as_slice-parameters.result.now ≡ length xs = ap length kept in
+    omega (arith, n, m, length-range_with_len 0 given, e, c.event_section-number.ensures.few)
 
 pub returns-clause-outcome : goal.returns-clause-outcome
 returns-clause-outcome g c =
@@ -72,12 +74,13 @@ returns-clause-outcome g c =
     let store : m.state.store ≡ s.store = ap (λ (x : State). x.store) at in
     let b : store_at_start p s.store class k ≡ Ok u.store =
     rw (saving, tables, store) at c.in_ok-end_unless_saved.ensures.outcome in
+    let kept : c.as_slice-parameters.result.now ≡ xs = search rules in
     let left : c.open_frame-change.new.self.state
     ≡ state_with_frame p (state_after_assignment (state_at_time s k c.args.slot.time u.store)
     (Global (class_of p class).variable) (pos k)) (event_section p class) xs =
     start_left p s m.state u w c.open_frame-change.new.self.state c.in_ok-frame.frame k class i
     c.class_variable-variable.result c.args.slot.time c.from.result xs
     u.store at c.end_unless_saved.ensures.rest (rw z at c.assign.ensures.state) c.open_frame-change.ensures.state
-    c.in_ok-frame.ensures
+    (rw kept at c.in_ok-frame.ensures)
     c.from.ensures c.class_variable-variable.ensures.number c.event_section-number.ensures.number in
     start_done p s k class c.args.slot.time xs u.store a b (counted_small k small) ∙ ap Ok (sym left)

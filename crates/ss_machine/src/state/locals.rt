@@ -1,0 +1,109 @@
+//! The values of a frame's locals.
+ghost use Rattle.std.specs.Prelude.{◌≡◌, ◌<◌, ◌≤◌, length, pos, slice_index_or, slice_set, IfOk};
+ghost use Rattle.ss_machine.specs.Locals.{padded, IsPadded};
+
+use std::alloc::{AllocError, Global};
+use std::marker::Model;
+
+/// So many locals lie within their frame; more have memory of their own.
+const MOST_WITHIN: usize = 4;
+
+/// The values of the locals of a frame, in the order of its section's table.
+#[derive(Drop)]
+pub struct Locals {
+    count: usize,
+    // The first of these, where they are few.
+    few: [i64; MOST_WITHIN],
+    // All of them, where they are more than lie within.
+    many: Vec<i64>,
+}
+
+impl Model for Locals {
+    ghost use Rattle.std.specs.Prelude.{List, ℤ};
+    ghost use Rattle.ss_machine.specs.Locals.{values_of};
+
+    ghost Value = { List ℤ };
+
+    ghost view = { λ a. values_of a.count a.few a.many.items };
+}
+
+impl Locals {
+    /// So many locals, the first with the values given, the others 0. Few take no memory.
+    #[inline(always)]
+    pub fn new(alloc: Global, given: &[i64], count: usize) -> Result<Self, AllocError>
+        requires { length given.now ≤ count }
+        ensures { IfOk result (λ locals. locals ≡ padded given.now count) }
+    {
+        let many = many_values(alloc, given, count)?;
+        let few = [
+            value_or_zero(given, 0),
+            value_or_zero(given, 1),
+            value_or_zero(given, 2),
+            value_or_zero(given, 3),
+        ];
+        Ok(Locals { count, few, many })
+    }
+
+    #[inline(always)]
+    pub fn as_slice(&self) -> &[i64]
+        ensures { result.now ≡ self.now }
+    {
+        if self.count <= MOST_WITHIN {
+            &self.few[..self.count]
+        } else {
+            self.many.as_slice()
+        }
+    }
+
+    /// Gives a local another value; answers the old one.
+    #[inline(always)]
+    pub fn set(&mut self, number: usize, value: i64) -> i64
+        requires { number < length self.old }
+        ensures state { self.new ≡ slice_set self.old number value }
+        ensures back { slice_set self.new number result ≡ self.old }
+    {
+        if self.count <= MOST_WITHIN {
+            let old = self.few[number];
+            self.few[number] = value;
+            old
+        } else {
+            let old = self.many[number];
+            self.many[number] = value;
+            old
+        }
+    }
+}
+
+/// Memory with the values of so many locals, the first given, the others 0; none where they are few.
+#[inline(always)]
+fn many_values(alloc: Global, given: &[i64], count: usize) -> Result<Vec<i64>, AllocError>
+    requires { length given.now ≤ count }
+    ensures { IfOk result (λ many. IsPadded given.now count many.items) }
+{
+    if count <= MOST_WITHIN {
+        return Ok(Vec::new(alloc));
+    }
+    padded_values(alloc, given, count)
+}
+
+#[cold]
+#[inline(never)]
+fn padded_values(alloc: Global, given: &[i64], count: usize) -> Result<Vec<i64>, AllocError>
+    requires { length given.now ≤ count }
+    ensures { IfOk result (λ many. many.items ≡ padded given.now count) }
+{
+    let mut values = Vec::with_capacity(alloc, count)?;
+    values.extend_from_slice(given)?;
+    values.resize(count, 0)?;
+    Ok(values)
+}
+
+#[inline(always)]
+fn value_or_zero(given: &[i64], number: usize) -> i64
+    ensures { result ≡ slice_index_or given.now number (pos 0) }
+{
+    match given.get(number) {
+        Some(&value) => value,
+        None => 0,
+    }
+}
