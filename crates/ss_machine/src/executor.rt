@@ -37,7 +37,7 @@ use ss_values::{subscript_value, value, values};
 use ss_words::{RunFault, StepFault};
 use std::alloc::{AllocError, Global};
 
-/// A state, the journal of its changes, and room for the values of one PRINT, READ or RETURN.
+/// A state, the journal of its changes, and room for the values of one statement.
 ///
 /// Each statement leaves the open step so that it leads back to the state before, also where memory
 /// was refused: none cleans up.

@@ -7,6 +7,7 @@ ghost use Rattle.ss_events.specs.Rules.{rules_of};
 ghost use Rattle.ss_machine.specs.Executor.{rules, state, tables};
 ghost use Rattle.ss_machine.specs.Noting.{Notes};
 ghost use Rattle.ss_machine.specs.Outcome.{LeadsTo, LeadsToOrRefuses};
+ghost use Rattle.ss_state.specs.State.{entry_at_start};
 ghost use Rattle.ss_state.specs.Well.{IsInBounds};
 ghost use Rattle.ss_program.specs.ProgramSound.{IsEventClass};
 ghost use Rattle.ss_store.specs.Tables as shapes;
@@ -45,9 +46,24 @@ impl<S: SetBoard> Executor<S> {
         self.journal.note(change);
         let change = self.held.set_clock(time);
         self.journal.note(change);
-        let entry = self.held.entry_at_start(notice);
-        let change = self.held.set_entry(entry);
-        self.journal.note(change);
+        self.start_entry(notice);
+    }
+
+    /// An entry that waited for a notice runs; else nothing is noted.
+    fn start_entry(&mut self, notice: u32)
+        requires { 0 < self.old.journal.notes }
+        ensures state { state self.new ≡ record (state self.old) {
+          entry = entry_at_start notice (state self.old).entry;
+        } }
+        ensures beside { self.new.held.beside ≡ self.old.held.beside }
+        ensures values { self.new.values ≡ self.old.values }
+        ensures notes { Notes 1 self.old self.new }
+    {
+        if let Entry::Waiting { .. } = self.held.entry() {
+            let entry = self.held.entry_at_start(notice);
+            let change = self.held.set_entry(entry);
+            self.journal.note(change);
+        }
     }
 
     /// Ends the notice whose event starts, unless the event says SAVING.
