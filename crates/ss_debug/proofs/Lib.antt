@@ -10,3 +10,5 @@ pub mod Walks
 pub mod Starts
 pub mod Forgets
 pub mod Classes
+pub mod Timelines
+pub mod Refusals

@@ -1,17 +1,28 @@
--- Where a machine stands, for the private functions that move it.
-use Rattle.std.specs.Prelude.{ℕ, ◌≡◌, ◌+◌, ◌-◌, length}
-use Rattle.ss_state.specs.Run.{Input, run}
-use Rattle.ss_machine.specs.Moment.{Moment, position}
+-- Where a movement leads, for the private functions that move over a run.
+use Rattle.std.specs.Prelude.{ℕ, ◌≡◌, ◌+◌, ◌-◌, ◌≤◌, length}
+use Rattle.ss_state.specs.Run.{run}
+use Rattle.ss_timeline.specs.Moment.{Moment, position}
 
--- a machine holds state number p of the run of this program, and k steps are forgotten
-pub record IsAt (t : Input) (k p : ℕ) (moment : Moment) : Type 0 where
-  -- its run is that of the program
-  pub input : moment.input ≡ t
-  -- k steps are forgotten
-  pub forgotten : moment.forgotten ≡ k
-  -- its state is number p
-  pub position : position moment ≡ p
+-- position p of the same run, with the same earliest one
+pub record IsAt (old : Moment) (p : ℕ) (new : Moment) : Type 0 where
+  -- its run is the same one
+  pub input : new.input ≡ old.input
+  -- the earliest position is the same
+  pub low : new.low ≡ old.low
+  -- its position
+  pub position : position new ≡ p
 
--- how many frames stand in the state before number p
-abbrev pub frames_before : Input → ℕ → ℕ
-frames_before input p = 1 + length (run input (p - 1)).below
+-- a position of the same run, at most p and not before the old one, with the same earliest one
+pub record IsBetween (old : Moment) (p : ℕ) (new : Moment) : Type 0 where
+  -- its run is the same one
+  pub input : new.input ≡ old.input
+  -- the earliest position is the same
+  pub low : new.low ≡ old.low
+  -- not before the old one
+  pub no_earlier : position old ≤ position new
+  -- not past p
+  pub no_later : position new ≤ p
+
+-- how many frames there are in the state before the present one
+abbrev pub frames_before : Moment → ℕ
+frames_before moment = 1 + length (run moment.input (position moment - 1)).below

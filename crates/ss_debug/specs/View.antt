@@ -1,11 +1,13 @@
 -- What the types of the code stand for.
 use Rattle.std.specs.Prelude.{ℕ, Bool, false, List, codes}
 use Rattle.ss_machine.specs.Moment.{Moment, position}
+use Rattle.ss_timeline.specs.Moment as timelines
 use Rattle.ss_state.specs.Run.{Input}
 use Rattle.ss_debug.specs.declared.stop_condition.StopCondition.{StopCondition as StopChoice}
 use Rattle.ss_debug.specs.declared.stop_condition.Target.{Target}
 use Rattle.ss_debug.specs.declared.stop_condition.Target.TheVariants.{Nothing, BreakLine, EventStart}
-use Rattle.ss_debug.specs.Move.{StopCondition, is_on_break, is_behind_start}
+use Rattle.ss_debug.specs.Move.{StopCondition, step_condition, is_on_break, is_behind_start}
+use Rattle.ss_debug.specs.Move.{forward_end, search_back_end}
 use Rattle.ss_debug.specs.Turn.{DebuggerState}
 
 -- whether a state is what a movement looks for
@@ -34,6 +36,19 @@ condition_of input breaks choice = record {
   word = target_word choice.target;
   bound_word = target_bound_word choice.target;
 }
+
+-- where so many steps from a moment end
+abbrev pub step_end : timelines.Moment → ℕ → ℕ
+step_end moment bound = forward_end moment.input step_condition (timelines.position moment) bound
+
+-- where a movement forward from a moment ends
+abbrev pub stop_end : timelines.Moment → List ℕ → StopChoice → ℕ → ℕ
+stop_end moment breaks choice bound =
+    forward_end moment.input (condition_of moment.input breaks choice) (timelines.position moment) bound
+
+-- where a search back from a moment ends
+abbrev pub search_end : (ℕ → Bool) → timelines.Moment → ℕ → ℕ
+search_end test moment bound = search_back_end test moment.low (timelines.position moment) bound
 
 -- a debugger
 pub record DebuggerView : Type 0 where

@@ -17,11 +17,11 @@ use crate::commands::{Command, Movement, Question};
 use crate::go::Go;
 use crate::limits::GREATEST_BOUND;
 use crate::movement::{back, back_break, back_event, forward};
-use crate::stop_condition::{StopCondition, Target};
-use crate::text::{
-    back_break_word, back_event_word, back_word, break_text, clear_text, forward_word, kept_text,
-    movement_text,
+use crate::movement_text::{
+    back_break_word, back_event_word, back_word, forward_word, movement_text,
 };
+use crate::stop_condition::{StopCondition, Target};
+use crate::text::{break_text, clear_text, kept_text};
 use ss_links::SetBoard;
 use ss_machine::Machine;
 use std::alloc::{AllocError, Global};

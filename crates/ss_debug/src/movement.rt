@@ -1,163 +1,177 @@
-//! Movements: forward, step by step, to where a condition is met, and back.
-ghost use Rattle.std.specs.Prelude.{◌≡◌, ℕ, ◌+◌, ◌<◌, ◌≤◌, OnOk, OnErr, IfOk, IsTrue, MatchOption, true, ◌&&◌, nat_lt};
-ghost use Rattle.ss_machine.specs.Moment.{position};
+//! Movements over a run: forward, step by step, to where a condition is met, and back.
+ghost use Rattle.std.specs.Prelude.{◌≡◌, ℕ, ◌+◌, ◌<◌, true, OnOk, OnErr, IfOk, IsTrue, MatchOption, ◌&&◌, nat_lt};
 ghost use Rattle.ss_state.specs.declared.limits.TheConstants.{LAST_POSITION};
 ghost use Rattle.ss_state.specs.Run.{Input};
-ghost use Rattle.ss_debug.specs.Move.{step_condition, is_ready_at, line_at, is_on_break, has_come, is_stop, forward_end};
-ghost use Rattle.ss_debug.specs.Move.{is_behind_start, runs_event, starts_event, back_end, search_back_end};
-ghost use Rattle.ss_debug.specs.Position.{IsAt, frames_before};
-ghost use Rattle.ss_debug.specs.View.{condition_of, target_test};
+ghost use Rattle.ss_state.specs.Well.{IsWellFrame};
+ghost use Rattle.ss_timeline.specs.Moment.{position, state_of, with_kept, HasGoneBack};
+ghost use Rattle.ss_debug.specs.Move.{step_condition, is_ready_at, line_at, is_on_break, has_come, is_stop};
+ghost use Rattle.ss_debug.specs.Move.{is_behind_start, runs_event, starts_event, back_end};
+ghost use Rattle.ss_debug.specs.Position.{IsAt, IsBetween, frames_before};
+ghost use Rattle.ss_debug.specs.View.{condition_of, target_test, step_end, stop_end, search_end};
 
 use crate::break_lines::BreakLines;
+use crate::ready::StepReady;
 use crate::stop_condition::{StopCondition, Target};
-use ss_links::SetBoard;
-use ss_machine::Machine;
 use ss_program::SectionKind;
 use ss_state::{LAST_POSITION, Status};
+use ss_timeline::Timeline;
 use std::alloc::AllocError;
 
 /// Whether the next step runs a place.
-pub fn is_ready_now<S: SetBoard>(machine: &Machine<S>) -> bool
-    ensures { result ≡ is_ready_at machine.now.input (position machine.now) }
+pub fn is_ready_now<T: Timeline>(timeline: &T) -> bool
+    ensures { result
+        ≡ is_ready_at (T.moment timeline.now).input (position (T.moment timeline.now)) }
 {
-    machine.known();
-    matches!(machine.status(), Status::Ready)
+    matches!(timeline.status(), Status::Ready)
 }
 
-/// The line of the place where the machine stands.
-pub fn present_line<S: SetBoard>(machine: &Machine<S>) -> usize
-    ensures { result ≡ line_at machine.now.input (position machine.now) }
+/// The section of the last frame, and the number of the place where it is; the program has both.
+#[inline(always)]
+pub fn place<T: Timeline>(timeline: &T) -> (usize, usize)
+    ensures place { result ≡ (
+      (state_of (T.moment timeline.now)).frame.section,
+      (state_of (T.moment timeline.now)).frame.place,
+    ) }
+    ensures well { IsWellFrame (T.moment timeline.now).input.program
+        (state_of (T.moment timeline.now)).frame }
 {
-    machine.known();
-    let (section, place) = machine.place();
-    machine.program().spot(section, place).line
+    let _ = timeline.position();
+    timeline.place()
 }
 
-/// Whether the machine's place is on a break line. Where there are none, no place is looked up.
+/// The line of the present place.
+pub fn present_line<T: Timeline>(timeline: &T) -> usize
+    ensures { result ≡ line_at (T.moment timeline.now).input (position (T.moment timeline.now)) }
+{
+    let (section, place) = place(timeline);
+    timeline.program().spot(section, place).line
+}
+
+/// Whether the present place is on a break line. Where there are none, no place is looked up.
 #[inline]
-pub fn stands_on_break<S: SetBoard>(machine: &Machine<S>, breaks: &BreakLines) -> bool
-    ensures { result ≡ is_on_break machine.now.input breaks.now (position machine.now) }
+pub fn stands_on_break<T: Timeline>(timeline: &T, breaks: &BreakLines) -> bool
+    ensures { result ≡ is_on_break (T.moment timeline.now).input breaks.now
+        (position (T.moment timeline.now)) }
 {
-    !breaks.is_empty() && breaks.contains(present_line(machine))
+    !breaks.is_empty() && breaks.contains(present_line(timeline))
 }
 
-/// Whether the machine's clock is at or past a time, if one is named.
-pub fn has_come<S: SetBoard>(machine: &Machine<S>, time: Option<u64>) -> bool
-    ensures { result ≡ has_come machine.now.input time (position machine.now) }
+/// Whether the clock is at or past a time, if one is named.
+pub fn has_come<T: Timeline>(timeline: &T, time: Option<u64>) -> bool
+    ensures { result
+        ≡ has_come (T.moment timeline.now).input time (position (T.moment timeline.now)) }
 {
-    machine.known();
     let Some(time) = time else {
         return false;
     };
-    i128::from(time) <= i128::from(machine.clock())
+    i128::from(time) <= i128::from(timeline.clock())
 }
 
 /// Whether the frame of an event is the last one.
-fn runs_event<S: SetBoard>(machine: &Machine<S>) -> bool
-    ensures { result ≡ runs_event machine.now.input machine.now.state }
+fn runs_event<T: Timeline>(timeline: &T) -> bool
+    ensures { result
+        ≡ runs_event (T.moment timeline.now).input (state_of (T.moment timeline.now)) }
 {
-    machine.known();
-    let (section, _) = machine.place();
-    matches!(machine.program().section(section).kind, SectionKind::Event)
+    let (section, _) = place(timeline);
+    matches!(timeline.program().section(section).kind, SectionKind::Event)
 }
 
-/// Whether the last step was an event start, by how many frames stood before it.
+/// Whether the last step was an event start, by how many frames there were before it.
 #[tactic(auto, using(crate::proofs::Starts::started_by))]
-fn is_behind_start<S: SetBoard>(machine: &Machine<S>, before: usize) -> bool
-    requires some { 0 < position machine.now }
-    requires before { before ≡ frames_before machine.now.input (position machine.now) }
-    ensures { result ≡ is_behind_start machine.now.input (position machine.now) }
+fn is_behind_start<T: Timeline>(timeline: &T, before: usize) -> bool
+    requires some { 0 < position (T.moment timeline.now) }
+    requires before { before ≡ frames_before (T.moment timeline.now) }
+    ensures { result
+        ≡ is_behind_start (T.moment timeline.now).input (position (T.moment timeline.now)) }
 {
-    machine.known();
-    runs_event(machine) && before < machine.frames()
+    runs_event(timeline) && before < timeline.frames()
 }
 
-/// Whether the machine stands behind position `from` at what a movement looks for: at a break line,
-/// or behind an event start; `before` tells how many frames stood before the last step, if there was
+/// Whether the position is later than `from`, and is what a movement looks for: on a break line, or
+/// after an event start; `before` is how many frames there were before the last step, if there was
 /// one.
-pub fn has_met<S: SetBoard>(
-    machine: &Machine<S>,
+pub fn has_met<T: Timeline>(
+    timeline: &T,
     breaks: &BreakLines,
     target: Target,
     from: u64,
     before: usize,
 ) -> bool
-    requires { from < position machine.now
-        → before ≡ frames_before machine.now.input (position machine.now) }
-    ensures { result ≡ (nat_lt from (position machine.now)
-        && target_test machine.now.input breaks.now target (position machine.now)) }
+    requires { from < position (T.moment timeline.now)
+        → before ≡ frames_before (T.moment timeline.now) }
+    ensures { result ≡ (nat_lt from (position (T.moment timeline.now))
+        && target_test (T.moment timeline.now).input breaks.now target
+        (position (T.moment timeline.now))) }
 {
     match target {
         Target::Nothing => false,
-        Target::BreakLine => stands_on_break(machine, breaks) && from < machine.position(),
-        Target::EventStart => from < machine.position() && is_behind_start(machine, before),
+        Target::BreakLine => stands_on_break(timeline, breaks) && from < timeline.position(),
+        Target::EventStart => from < timeline.position() && is_behind_start(timeline, before),
     }
 }
 
-/// Whether a movement from position `from` stops where the machine stands; `before` tells how many
-/// frames stood before the last step, if there was one.
-fn is_at_stop<S: SetBoard>(
-    machine: &Machine<S>,
+/// Whether a movement from position `from` stops here; `before` as at [`has_met`].
+fn is_at_stop<T: Timeline>(
+    timeline: &T,
     breaks: &BreakLines,
     condition: StopCondition,
     from: u64,
     before: usize,
 ) -> bool
-    requires { from < position machine.now
-        → before ≡ frames_before machine.now.input (position machine.now) }
-    ensures { result ≡ is_stop machine.now.input
-        (condition_of machine.now.input breaks.now condition) from (position machine.now) }
+    requires { from < position (T.moment timeline.now)
+        → before ≡ frames_before (T.moment timeline.now) }
+    ensures { result ≡ is_stop (T.moment timeline.now).input
+        (condition_of (T.moment timeline.now).input breaks.now condition) from
+        (position (T.moment timeline.now)) }
 {
-    !is_ready_now(machine)
-        || has_come(machine, condition.time)
-        || has_met(machine, breaks, condition.target, from, before)
+    !is_ready_now(timeline)
+        || has_come(timeline, condition.time)
+        || has_met(timeline, breaks, condition.target, from, before)
 }
 
-/// One step from a state that is ready and not the last. Tells how many frames stood before it.
+/// One step from a state that is ready and not the last. Tells how many frames there were before
+/// it.
 #[tactic(auto, using(crate::proofs::Starts::before_step))]
 #[inline(always)]
-fn step_once<S: SetBoard>(machine: &mut Machine<S>) -> Result<usize, AllocError>
-    requires ready { is_ready_at machine.old.input (position machine.old) ≡ true }
-    requires before_last { position machine.old < LAST_POSITION }
-    ensures place { OnOk result
-        (IsAt machine.old.input machine.old.forgotten (position machine.old + 1) machine.new) }
-    ensures before { IfOk result
-        (λ before. before ≡ frames_before machine.old.input (position machine.new)) }
-    ensures err { OnErr result (machine.new ≡ machine.old) }
+fn step_once<T: StepReady>(timeline: &mut T) -> Result<usize, AllocError>
+    requires ready { is_ready_at (T.moment timeline.old).input (position (T.moment timeline.old))
+        ≡ true }
+    requires before_last { position (T.moment timeline.old) < LAST_POSITION }
+    ensures moved { OnOk result (T.moment timeline.new
+        ≡ with_kept (T.moment timeline.old) ((T.moment timeline.old).kept + 1)) }
+    ensures before { IfOk result (λ before. before ≡ frames_before (T.moment timeline.new)) }
+    ensures err { OnErr result (T.moment timeline.new ≡ T.moment timeline.old) }
 {
-    machine.known();
-    let frames = machine.frames();
-    machine.step_ready()?;
+    let frames = timeline.frames();
+    timeline.step_ready()?;
     Ok(frames)
 }
 
 /// Steps to the least later position at which the condition is met or the status isn't ready,
-/// within the bound and not past the last position. Tells how many frames stood before the last
-/// step, if there was one.
+/// within the bound and not past the last position. Tells how many frames there were before the
+/// last step, if there was one.
 ///
-/// `AllocError` where a step was refused memory: the machine stands where the steps before it led.
+/// `AllocError` where a step was refused memory: the position is that to which the steps before it
+/// led.
 #[tactic(auto, using(crate::proofs::Moves::end_of_step))]
-pub fn forward<S: SetBoard>(
-    machine: &mut Machine<S>,
+pub fn forward<T: StepReady>(
+    timeline: &mut T,
     breaks: &BreakLines,
     condition: StopCondition,
     bound: u64,
 ) -> Result<usize, AllocError>
-    ensures ok { OnOk result (IsAt machine.old.input machine.old.forgotten
-        (forward_end machine.old.input (condition_of machine.old.input breaks.now condition)
-        (position machine.old) bound) machine.new) }
-    ensures before { IfOk result (λ before. position machine.old < position machine.new →
-        before ≡ frames_before machine.old.input (position machine.new)) }
-    ensures memory { OnErr result ((machine.new.input ≡ machine.old.input)
-        × (machine.new.forgotten ≡ machine.old.forgotten)
-        × (position machine.old ≤ position machine.new)
-        × (position machine.new ≤ forward_end machine.old.input
-        (condition_of machine.old.input breaks.now condition) (position machine.old) bound)) }
+    ensures ok { OnOk result (IsAt (T.moment timeline.old)
+        (stop_end (T.moment timeline.old) breaks.now condition bound) (T.moment timeline.new)) }
+    ensures before { IfOk result (λ before.
+        position (T.moment timeline.old) < position (T.moment timeline.new)
+        → before ≡ frames_before (T.moment timeline.new)) }
+    ensures memory { OnErr result (IsBetween (T.moment timeline.old)
+        (stop_end (T.moment timeline.old) breaks.now condition bound) (T.moment timeline.new)) }
 {
     if stops_nowhere(breaks, condition) {
-        return forward_on(machine, bound);
+        return forward_on(timeline, bound);
     }
-    forward_to_stop(machine, breaks, condition, bound)
+    forward_to_stop(timeline, breaks, condition, bound)
 }
 
 /// Whether nothing but its bound and the status ends a movement: it names no time, and looks for
@@ -178,101 +192,87 @@ fn stops_nowhere(breaks: &BreakLines, condition: StopCondition) -> bool
 /// Steps until the status isn't ready, within the bound and not past the last position: as
 /// [`forward`] where its condition stops nowhere.
 #[tactic(auto, using(crate::proofs::Moves::least_steps))]
-fn forward_on<S: SetBoard>(machine: &mut Machine<S>, bound: u64) -> Result<usize, AllocError>
-    ensures ok { OnOk result (IsAt machine.old.input machine.old.forgotten
-        (forward_end machine.old.input step_condition (position machine.old) bound) machine.new) }
-    ensures before { IfOk result (λ before. position machine.old < position machine.new →
-        before ≡ frames_before machine.old.input (position machine.new)) }
-    ensures memory { OnErr result ((machine.new.input ≡ machine.old.input)
-        × (machine.new.forgotten ≡ machine.old.forgotten)
-        × (position machine.old ≤ position machine.new)
-        × (position machine.new
-        ≤ forward_end machine.old.input step_condition (position machine.old) bound)) }
+fn forward_on<T: StepReady>(timeline: &mut T, bound: u64) -> Result<usize, AllocError>
+    ensures ok { OnOk result (IsAt (T.moment timeline.old)
+        (step_end (T.moment timeline.old) bound) (T.moment timeline.new)) }
+    ensures before { IfOk result (λ before.
+        position (T.moment timeline.old) < position (T.moment timeline.new)
+        → before ≡ frames_before (T.moment timeline.new)) }
+    ensures memory { OnErr result (IsBetween (T.moment timeline.old)
+        (step_end (T.moment timeline.old) bound) (T.moment timeline.new)) }
 {
-    machine.known();
-    let from = machine.position();
-    let most = bound.min(LAST_POSITION - from);
+    let most = bound.min(LAST_POSITION - timeline.position());
     let mut before = 0;
     for _k in 0..most {
-        if !is_ready_now(machine) {
+        if !is_ready_now(timeline) {
             return Ok(before);
         }
-        match step_once(machine) {
-            Ok(frames) => before = frames,
-            Err(error) => return Err(error),
-        }
+        before = step_once(timeline)?;
     }
     Ok(before)
 }
 
 /// The same with a test of the condition before each step.
 #[tactic(auto, using(crate::proofs::Moves::least_steps))]
-fn forward_to_stop<S: SetBoard>(
-    machine: &mut Machine<S>,
+fn forward_to_stop<T: StepReady>(
+    timeline: &mut T,
     breaks: &BreakLines,
     condition: StopCondition,
     bound: u64,
 ) -> Result<usize, AllocError>
-    ensures ok { OnOk result (IsAt machine.old.input machine.old.forgotten
-        (forward_end machine.old.input (condition_of machine.old.input breaks.now condition)
-        (position machine.old) bound) machine.new) }
-    ensures before { IfOk result (λ before. position machine.old < position machine.new →
-        before ≡ frames_before machine.old.input (position machine.new)) }
-    ensures memory { OnErr result ((machine.new.input ≡ machine.old.input)
-        × (machine.new.forgotten ≡ machine.old.forgotten)
-        × (position machine.old ≤ position machine.new)
-        × (position machine.new ≤ forward_end machine.old.input
-        (condition_of machine.old.input breaks.now condition) (position machine.old) bound)) }
+    ensures ok { OnOk result (IsAt (T.moment timeline.old)
+        (stop_end (T.moment timeline.old) breaks.now condition bound) (T.moment timeline.new)) }
+    ensures before { IfOk result (λ before.
+        position (T.moment timeline.old) < position (T.moment timeline.new)
+        → before ≡ frames_before (T.moment timeline.new)) }
+    ensures memory { OnErr result (IsBetween (T.moment timeline.old)
+        (stop_end (T.moment timeline.old) breaks.now condition bound) (T.moment timeline.new)) }
 {
-    machine.known();
-    let from = machine.position();
+    let from = timeline.position();
     let steps = bound.min(LAST_POSITION - from);
     let mut before = 0;
     for _k in 0..steps {
-        if is_at_stop(machine, breaks, condition, from, before) {
+        if is_at_stop(timeline, breaks, condition, from, before) {
             return Ok(before);
         }
-        match step_once(machine) {
-            Ok(frames) => before = frames,
-            Err(error) => return Err(error),
-        }
+        before = step_once(timeline)?;
     }
     Ok(before)
 }
 
 /// BACK: steps back a number of times, or to the earliest kept position.
-pub fn back<S: SetBoard>(machine: &mut Machine<S>, count: u64)
-    ensures { IsAt machine.old.input machine.old.forgotten
-        (back_end machine.old.forgotten (position machine.old) count) machine.new }
+pub fn back<T: Timeline>(timeline: &mut T, count: u64)
+    ensures { IsAt (T.moment timeline.old) (back_end (T.moment timeline.old).low
+        (position (T.moment timeline.old)) count) (T.moment timeline.new) }
 {
     for _k in 0..count {
-        if !machine.back() {
+        if !timeline.back() {
             return;
         }
     }
 }
 
-/// Whether BACK BREAK stops where the machine stands, after k steps.
-fn is_at_back_stop<S: SetBoard>(machine: &Machine<S>, breaks: &BreakLines, k: u64) -> bool
-    ensures { result
-        ≡ (nat_lt 0 k && is_on_break machine.now.input breaks.now (position machine.now)) }
+/// Whether BACK BREAK stops here, after k steps.
+fn is_at_back_stop<T: Timeline>(timeline: &T, breaks: &BreakLines, k: u64) -> bool
+    ensures { result ≡ (nat_lt 0 k && is_on_break (T.moment timeline.now).input breaks.now
+        (position (T.moment timeline.now))) }
 {
-    0 < k && stands_on_break(machine, breaks)
+    0 < k && stands_on_break(timeline, breaks)
 }
 
 /// BACK BREAK: steps back to the greatest earlier position at a break line, or to the earliest kept
 /// position, within the bound.
 #[tactic(auto, using(crate::proofs::Moves::search_back_is))]
-pub fn back_break<S: SetBoard>(machine: &mut Machine<S>, breaks: &BreakLines, bound: u64)
-    ensures { IsAt machine.old.input machine.old.forgotten
-        (search_back_end (is_on_break machine.old.input breaks.now) machine.old.forgotten
-        (position machine.old) bound) machine.new }
+pub fn back_break<T: Timeline>(timeline: &mut T, breaks: &BreakLines, bound: u64)
+    ensures { IsAt (T.moment timeline.old)
+        (search_end (is_on_break (T.moment timeline.old).input breaks.now)
+        (T.moment timeline.old) bound) (T.moment timeline.new) }
 {
     for k in 0..bound {
-        if is_at_back_stop(machine, breaks, k) {
+        if is_at_back_stop(timeline, breaks, k) {
             return;
         }
-        if !machine.back() {
+        if !timeline.back() {
             return;
         }
     }
@@ -280,41 +280,39 @@ pub fn back_break<S: SetBoard>(machine: &mut Machine<S>, breaks: &BreakLines, bo
 
 /// One step back, if one is kept. Tells whether the step that was taken back was an event start.
 #[tactic(auto, using(crate::proofs::Starts::taken_back))]
-fn back_once<S: SetBoard>(machine: &mut Machine<S>) -> Option<bool>
-    ensures none { MatchOption result
-        ((position machine.old ≡ machine.old.forgotten) × (machine.new ≡ machine.old))
-        (λ started. (machine.new.input ≡ machine.old.input)
-        × (machine.new.forgotten ≡ machine.old.forgotten)
-        × (position machine.old ≡ position machine.new + 1)
-        × (started ≡ starts_event machine.old.input (position machine.new))) }
+fn back_once<T: Timeline>(timeline: &mut T) -> Option<bool>
+    ensures { MatchOption result
+        (((T.moment timeline.old).kept ≡ 0) × (T.moment timeline.new ≡ T.moment timeline.old))
+        (λ started. HasGoneBack (T.moment timeline.old) (T.moment timeline.new)
+        × (started ≡ starts_event (T.moment timeline.old).input
+        (position (T.moment timeline.new)))) }
 {
-    machine.known();
-    let frames = machine.frames();
-    let is_event = runs_event(machine);
-    if !machine.back() {
+    let frames = timeline.frames();
+    let is_event = runs_event(timeline);
+    if !timeline.back() {
         return None;
     }
-    machine.known();
-    Some(is_event && machine.frames() < frames)
+    Some(is_event && timeline.frames() < frames)
 }
 
 /// BACK EVENT: steps back to the greatest earlier position whose next step is an event start, or to
 /// the earliest kept position, within the bound. Tells whether the next step is an event start
-/// where it then stands.
+/// there.
 #[tactic(auto, using(crate::proofs::Moves::search_back_is))]
-pub fn back_event<S: SetBoard>(machine: &mut Machine<S>, bound: u64) -> bool
-    ensures place { IsAt machine.old.input machine.old.forgotten
-        (search_back_end (starts_event machine.old.input) machine.old.forgotten
-        (position machine.old) bound) machine.new }
-    ensures met { result ≡ (nat_lt (position machine.new) (position machine.old)
-        && starts_event machine.old.input (position machine.new)) }
+pub fn back_event<T: Timeline>(timeline: &mut T, bound: u64) -> bool
+    ensures place { IsAt (T.moment timeline.old)
+        (search_end (starts_event (T.moment timeline.old).input) (T.moment timeline.old) bound)
+        (T.moment timeline.new) }
+    ensures met { result
+        ≡ (nat_lt (position (T.moment timeline.new)) (position (T.moment timeline.old))
+        && starts_event (T.moment timeline.old).input (position (T.moment timeline.new))) }
 {
     let mut started = false;
     for _k in 0..bound {
         if started {
             return true;
         }
-        match back_once(machine) {
+        match back_once(timeline) {
             None => return false,
             Some(is_start) => started = is_start,
         }
