@@ -1,0 +1,195 @@
+-- Each request has one answer.
+use Rattle.std.proofs.Common.{ℕ, Bool, true, false, cond, List, [], ◌∷◌, ◌++◌, Option, Some, None}
+use Rattle.ss_program.specs.Program.{ProgramTable}
+use Rattle.ss_state.specs.Run.{Input}
+use Rattle.ss_debug.specs.Turn.{DebuggerState}
+use Rattle.ss_trace.specs.declared.question.Question.{Question}
+use Rattle.ss_prompt.specs.declared.commands.PromptCommand.{PromptCommand}
+use Rattle.ss_prompt.specs.Points.{is_movement, point_of}
+use Rattle.ss_prompt.specs.Reading.{prompt_command_of}
+use Rattle.ss_state.specs.Run.{run}
+use Rattle.ss_messages.specs.declared.request.Command.{Command}
+use Rattle.ss_messages.specs.declared.request.Command.TheVariants.{Initialize, Launch, SetBreakpoints}
+use Rattle.ss_messages.specs.declared.request.Command.TheVariants.{SetFunctionBreakpoints, SetDataBreakpoints}
+use Rattle.ss_messages.specs.declared.request.Command.TheVariants.{DataBreakpointInfo, SetExceptionBreakpoints}
+use Rattle.ss_messages.specs.declared.request.Command.TheVariants.{ConfigurationDone, Threads, StackTrace, Scopes}
+use Rattle.ss_messages.specs.declared.request.Command.TheVariants.{Variables, Obey, Ask, Completions, Source}
+use Rattle.ss_messages.specs.declared.request.Command.TheVariants.{LoadedSources, ExceptionInfo, Continue, Next}
+use Rattle.ss_messages.specs.declared.request.Command.TheVariants.{StepIn, StepOut, StepBack, ReverseContinue}
+use Rattle.ss_messages.specs.declared.request.Command.TheVariants.{Restart, Pause, Disconnect, Terminate, Bad}
+use Rattle.ss_messages.specs.declared.request.Command.TheVariants.{Unknown}
+use Rattle.ss_messages.specs.Messages.{Sent, reply, failure, event}
+use Rattle.ss_adapter.specs.declared.going.Going.{Going}
+use Rattle.ss_adapter.specs.Desk.{DeskView}
+use Rattle.ss_adapter.specs.Looking.{exception_by, question_of}
+use Rattle.ss_adapter.specs.Going.{going_of, going_answer, state_behind, watched_by}
+use Rattle.ss_adapter.specs.Console.{point_told}
+use Rattle.ss_adapter.specs.Turn.{AdapterState, report_at, untold_output, exit_events, stop_events, end_by, end_of}
+use Rattle.ss_adapter.specs.Turn.{behind_movement, behind_going, going_to_stop, point_behind, behind_command}
+use Rattle.ss_adapter.specs.Turn.{console_after, console_answer, answer_to_line, answer_to_question, answer_on_fault}
+use Rattle.ss_adapter.specs.Turn.{source_messages, answer_about_run, told_of, answers_by, answer_to_configuration}
+use Rattle.ss_adapter.specs.Turn.{reply_with_going, is_break_behind, answers}
+use Rattle.ss_adapter.specs.Before.{answers_before}
+use Rattle.ss_adapter.specs.Laws.{AreEvents, AreOneAnswer, HaveOneAnswer}
+
+-- ---- lists of messages
+
+events_by : (x : Bool) (a b : List Sent) → AreEvents a → AreEvents b → AreEvents (cond x a b)
+events_by true a b p q = p
+events_by false a b p q = q
+
+answer_by : (x : Bool) (a b : List Sent) → AreOneAnswer a → AreOneAnswer b → AreOneAnswer (cond x a b)
+answer_by true a b p q = p
+answer_by false a b p q = q
+
+events_more : (a b : List Sent) → AreEvents a → AreEvents b → AreEvents (a ++ b)
+events_more [] b p q = q
+events_more (event name body ∷ ms) b p q = events_more ms b p q
+events_more (reply body ∷ ms) b p q = absurd p
+events_more (failure reason ∷ ms) b p q = absurd p
+
+-- ---- what follows a movement
+
+output_told : (told : ℕ) (report : List ℕ) → AreEvents (untold_output told report)
+output_told told report = events_by _ _ _ tt tt
+
+stop_told : (input : Input) (debugger : DebuggerState) (at_end : Bool) (answer : List ℕ) →
+    AreEvents (stop_events input debugger at_end answer)
+stop_told input debugger at_end answer = events_by _ _ _ tt tt
+
+end_by_told : (input : Input) (debugger : DebuggerState) (at_end : Bool) (answer : List ℕ) (place : ℕ)
+    (question : Option (List ℕ)) → AreEvents (end_by input debugger at_end answer place question)
+end_by_told input debugger at_end answer place None = stop_told input debugger at_end answer
+end_by_told input debugger at_end answer place (Some question) = tt
+
+end_told : (input : Input) (debugger : DebuggerState) (at_end : Bool) (watched : List (List ℕ)) (answer : List ℕ)
+    (place : Option ℕ) → AreEvents (end_of input debugger at_end watched answer place)
+end_told input debugger at_end watched answer None = stop_told input debugger at_end answer
+end_told input debugger at_end watched answer (Some place) = end_by_told input debugger at_end answer place _
+
+movement_told : (input : Input) (desk : DeskView) (debugger : DebuggerState) (answer : List ℕ) (place : Option ℕ) →
+    AreEvents (behind_movement input desk debugger answer place)
+movement_told input desk debugger answer place =
+    events_more (untold_output desk.told (report_at input debugger)) _ (output_told desk.told (report_at input debugger))
+    (end_told input debugger desk.stops.at_end desk.watched answer place)
+
+going_told : (state : AdapterState) (going : Going) (answer : List ℕ) → AreEvents (behind_going state going answer)
+going_told state going answer =
+    movement_told state.input state.desk (state_behind state.input state.debugger going) answer
+    (watched_by going answer)
+
+-- ---- what follows a command of the console
+
+point_is_told : (program : ProgramTable) (path : List ℕ) (line : ℕ) (new old : Bool) →
+    AreEvents (point_told program path line new old)
+point_is_told program path line true true = tt
+point_is_told program path line true false = tt
+point_is_told program path line false true = tt
+point_is_told program path line false false = tt
+
+line_told : (state : AdapterState) (command : PromptCommand) (line : Option ℕ) →
+    AreEvents (point_behind state command line)
+line_told state command None = tt
+line_told state command (Some l) = point_is_told state.input.program state.desk.path l _ _
+
+command_told : (state : AdapterState) (command : PromptCommand) (moves : Bool) →
+    AreEvents (behind_command state command moves)
+command_told state command true =
+    movement_told state.input state.desk (console_after state command).debugger _ None
+command_told state command false = line_told state command (point_of state.input.program command)
+
+-- ---- a request
+
+question_answered : (input : Input) (p : ℕ) (question : Option Question) →
+    AreOneAnswer (answer_to_question input p question)
+question_answered input p (Some q) = tt
+question_answered input p None = tt
+
+fault_answered : (body : Option (List ℕ)) → AreOneAnswer (answer_on_fault body)
+fault_answered (Some body) = tt
+fault_answered None = tt
+
+configuration_answered : (state : AdapterState) → AreOneAnswer (answer_to_configuration state)
+configuration_answered state = answer_by _ _ _ tt (going_told state (going_to_stop state) _)
+
+standing_answered : (state : AdapterState) (command : Command) → AreOneAnswer (told_of state command)
+unfolding told_of answer_about_run
+standing_answered state Initialize = tt
+standing_answered state (Launch model input stops) = tt
+standing_answered state (SetBreakpoints lines) = tt
+standing_answered state (SetFunctionBreakpoints names) = tt
+standing_answered state (SetDataBreakpoints ids) = tt
+standing_answered state (DataBreakpointInfo reference name) = tt
+standing_answered state SetExceptionBreakpoints = tt
+standing_answered state ConfigurationDone = configuration_answered state
+standing_answered state Threads = tt
+standing_answered state (StackTrace start levels) = tt
+standing_answered state (Scopes frame) = tt
+standing_answered state (Variables wanted) = tt
+standing_answered state (Obey text) =
+    command_told state (prompt_command_of text) (is_movement (prompt_command_of text))
+standing_answered state (Ask text) = question_answered state.input state.debugger.position (question_of text)
+standing_answered state (Completions text column) = tt
+standing_answered state (Source reference) = answer_by _ _ _ tt tt
+standing_answered state LoadedSources = tt
+standing_answered state ExceptionInfo =
+    fault_answered (exception_by (run state.input state.debugger.position).status)
+standing_answered state Continue = tt
+standing_answered state Next = tt
+standing_answered state StepIn = tt
+standing_answered state StepOut = tt
+standing_answered state (StepBack single) = tt
+standing_answered state ReverseContinue = tt
+standing_answered state Restart = tt
+standing_answered state Pause = tt
+standing_answered state Disconnect = tt
+standing_answered state Terminate = tt
+standing_answered state Bad = tt
+standing_answered state Unknown = tt
+
+request_answered : (state : AdapterState) (command : Command) (going : Option Going) →
+    AreOneAnswer (answers_by state command going)
+request_answered state command (Some g) = going_told state g _
+request_answered state command None = standing_answered state command
+
+before_answered : (command : Command) → AreOneAnswer (answers_before command)
+unfolding answers_before
+before_answered Initialize = tt
+before_answered (Launch model input stops) = tt
+before_answered (SetBreakpoints lines) = tt
+before_answered (SetFunctionBreakpoints names) = tt
+before_answered (SetDataBreakpoints ids) = tt
+before_answered (DataBreakpointInfo reference name) = tt
+before_answered SetExceptionBreakpoints = tt
+before_answered ConfigurationDone = tt
+before_answered Threads = tt
+before_answered (StackTrace start levels) = tt
+before_answered (Scopes frame) = tt
+before_answered (Variables wanted) = tt
+before_answered (Obey text) = tt
+before_answered (Ask text) = tt
+before_answered (Completions text column) = tt
+before_answered (Source reference) = tt
+before_answered LoadedSources = tt
+before_answered ExceptionInfo = tt
+before_answered Continue = tt
+before_answered Next = tt
+before_answered StepIn = tt
+before_answered StepOut = tt
+before_answered (StepBack single) = tt
+before_answered ReverseContinue = tt
+before_answered Restart = tt
+before_answered Pause = tt
+before_answered Disconnect = tt
+before_answered Terminate = tt
+before_answered Bad = tt
+before_answered Unknown = tt
+
+pub one_answer : HaveOneAnswer
+one_answer = record {
+  after = λ state command. request_answered state command
+      (going_of state.input state.debugger state.desk.watched command);
+  before = before_answered;
+  accepted = tt;
+  refused = λ line. tt;
+}
