@@ -5,3 +5,4 @@ pub mod Parts
 pub mod Traces
 pub mod OneEnd
 pub mod HistoryRows
+pub mod Unfit
