@@ -22,13 +22,12 @@ use Rattle.ss_messages.specs.Messages.{Sent, reply, failure, event}
 use Rattle.ss_adapter.specs.declared.going.Going.{Going}
 use Rattle.ss_adapter.specs.Desk.{DeskView}
 use Rattle.ss_adapter.specs.Looking.{exception_by, question_of}
-use Rattle.ss_adapter.specs.Going.{going_of, going_answer, state_behind, watched_by}
+use Rattle.ss_adapter.specs.Going.{going_of, state_behind, watched_by}
 use Rattle.ss_adapter.specs.Console.{point_told}
-use Rattle.ss_adapter.specs.Turn.{AdapterState, report_at, untold_output, exit_events, stop_events, end_by, end_of}
+use Rattle.ss_adapter.specs.Turn.{AdapterState, report_at, untold_output, stop_events, end_by, end_of}
 use Rattle.ss_adapter.specs.Turn.{behind_movement, behind_going, going_to_stop, point_behind, behind_command}
-use Rattle.ss_adapter.specs.Turn.{console_after, console_answer, answer_to_line, answer_to_question, answer_on_fault}
-use Rattle.ss_adapter.specs.Turn.{source_messages, answer_about_run, told_of, answers_by, answer_to_configuration}
-use Rattle.ss_adapter.specs.Turn.{reply_with_going, is_break_behind, answers}
+use Rattle.ss_adapter.specs.Turn.{console_after, answer_to_question, answer_on_fault}
+use Rattle.ss_adapter.specs.Turn.{answer_about_run, told_of, answers_by, answer_to_configuration}
 use Rattle.ss_adapter.specs.Before.{answers_before}
 use Rattle.ss_adapter.specs.Laws.{AreEvents, AreOneAnswer, HaveOneAnswer}
 

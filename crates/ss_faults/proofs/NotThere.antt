@@ -1,7 +1,8 @@
 -- An entity that is told as missing does not exist.
-use Rattle.std.proofs.Common.{◌≡◌, ℕ, zero, suc, ◌+◌, ◌<◌, Bool, true, false, nat_lt, List, [], ◌∷◌, map, refl, sym, ap, ◌∙◌, arith}
+use Rattle.std.proofs.Common.{◌≡◌, ℕ, zero, suc, ◌+◌, ◌<◌, Bool, true, false, nat_lt, List, [], ◌∷◌, length, map, refl, sym, ap, ◌∙◌}
+use Rattle.std.proofs.Common.{arith}
 use Rattle.std.proofs.Common.{Option, Some, None, Result, Ok, Err}
-use Rattle.std.specs.Prelude.{ℤ, pos, slice_get, unwrap_or, is_some, option_map}
+use Rattle.std.specs.Prelude.{ℤ, slice_get, unwrap_or, is_some, option_map}
 use Rattle.std.specs.List.{range_with_len}
 use borrow.Author.Tests.{ltb-true}
 use Rattle.ss_words.specs.declared.fault.RunFault.{RunFault}
@@ -50,10 +51,10 @@ use Rattle.ss_program.specs.ProgramExpr.{Exprs, no_exprs, exprs}
 use Rattle.ss_program.specs.ProgramCondition.{Condition, any, no_conjunctions, or_else, Conjunction, all}
 use Rattle.ss_program.specs.ProgramCondition.{Relations, no_relations, and_also, Relation, compared, is_empty, is_in}
 use Rattle.ss_program.specs.ProgramCondition.{nested}
-use Rattle.ss_store.specs.declared.shape.SetShape.{SetShape}
 use Rattle.ss_store.specs.Tables.{set_shape, no_set}
-use Rattle.ss_store.specs.Store.{Store, Entity, number_of, entity, exists, attribute_in, list_by, list_number, is_owner}
-use Rattle.ss_store.specs.Store.{unless}
+use Rattle.ss_store.specs.Store.{Entity, number_of, entity, exists, attribute_in, list_by, list_number}
+use Rattle.ss_store.specs.Store.{unless, is_filed, list_holding}
+use Rattle.ss_links.specs.Seats.{next_in, prev_in}
 use Rattle.ss_state.specs.State.{State}
 use Rattle.ss_faults.specs.declared.told.Told.{Told}
 use Rattle.ss_faults.specs.declared.told.Told.TheVariants.{Value, Untold, Missing, Unclear}
@@ -65,7 +66,7 @@ use Rattle.ss_faults.specs.Missing.{target_told, values_told, option_told, named
 use Rattle.ss_faults.specs.Missing.{position_told, placed_told, filed_told, filing_told, output_told, relation_told}
 use Rattle.ss_faults.specs.Missing.{relations_told, conjunction_told, first_told, condition_told, question_told}
 use Rattle.ss_faults.specs.Missing.{branch_told, looping_told, notice_value_told, notice_told, listing_told, when_told}
-use Rattle.ss_faults.specs.Missing.{schedule_told, timing_told, read_told, place_told}
+use Rattle.ss_faults.specs.Missing.{timing_told, read_told, place_told}
 use Rattle.ss_faults.specs.Laws.{WhatIsMissingIsNotThere}
 
 -- what is told of a part misses an entity only where that does not exist
@@ -154,6 +155,15 @@ truth_of_list : (s : State) (t : Told) (b : Bool) (v : Bool) → (b ≡ false �
 truth_of_list s t true v h = tt
 truth_of_list s t false v h = h refl
 
+-- a member that is not there
+absent_member : (s : State) (m : ℕ) (x : ℤ) (k : Option ℕ) →
+    IsRight s (member_read (Missing m x) (unless NoEntity (exists s.store m (number_of x)) (Ok k)))
+absent_member s m x k = member_of_list s (Missing m x) (exists s.store m (number_of x)) k (λ e. e)
+
+absent_truth : (s : State) (m : ℕ) (x : ℤ) (b : Bool) →
+    IsRight s (truth_read (Missing m x) (unless NoEntity (exists s.store m (number_of x)) (Ok b)))
+absent_truth s m x b = truth_of_list s (Missing m x) (exists s.store m (number_of x)) b (λ e. e)
+
 kept_of_owner : (p : ProgramTable) (s : State) (kept : OwnerKept) (set : ℕ) (x : ℤ) →
     nat_lt set (length p.sets) ≡ true → IsRight s (of_owner p s kept set x)
 kept_of_owner p s First set x h =
@@ -165,9 +175,15 @@ kept_of_owner p s Count set x h =
 
 kept_of_member : (p : ProgramTable) (s : State) (kept : MemberKept) (set : ℕ) (x : ℤ) →
     nat_lt set (length p.sets) ≡ true → IsRight s (of_member p s kept set x)
-kept_of_member p s Predecessor set x h = rw (shape_is p set h) (member_of_list s _ _ _ (λ e. e))
-kept_of_member p s Successor set x h = rw (shape_is p set h) (member_of_list s _ _ _ (λ e. e))
-kept_of_member p s Membership set x h = rw (shape_is p set h) (truth_of_list s _ _ _ (λ e. e))
+kept_of_member p s Predecessor set x h =
+    rw (shape_is p set h) (absent_member s (set_of p set).member x
+    (prev_in (list_holding (set_shape p set) s.store (number_of x)) (number_of x)))
+kept_of_member p s Successor set x h =
+    rw (shape_is p set h) (absent_member s (set_of p set).member x
+    (next_in (list_holding (set_shape p set) s.store (number_of x)) (number_of x)))
+kept_of_member p s Membership set x h =
+    rw (shape_is p set h) (absent_truth s (set_of p set).member x
+    (is_filed (set_shape p set) s.store (number_of x)))
 
 owner_by : (p : ProgramTable) (s : State) (kept : OwnerKept) (set : ℕ) (x : ℤ) (b : Bool) →
     nat_lt set (length p.sets) ≡ b → IsRight s (elim b [ true ↦ of_owner p s kept set x | false ↦ Unclear ])

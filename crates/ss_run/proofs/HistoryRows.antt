@@ -1,6 +1,5 @@
 -- The rows of one question are its history, the oldest step first.
 use Rattle.std.proofs.Common.{◌≡◌, ℕ, zero, suc, Bool, true, false, nat_lt, List, [], ◌∷◌, ◌++◌, refl, sym, append-nil, arith}
-use Rattle.std.specs.List.{flat_map}
 use Rattle.std.proofs.lemmas.Grind.{flat_map-append}
 use Rattle.std.proofs.lemmas.Bool.Decides.{nat_tests}
 use Rattle.ss_state.specs.Run.{Input}

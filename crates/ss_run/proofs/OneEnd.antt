@@ -47,10 +47,10 @@ ready_is_not true e f = absurd cc
 ready_is_not false e f = absurd cc
 
 end_is_last : (input : Input) (p q : ℕ) → p < q → IsRunEnd input p → IsRunEnd input q → ⊥
-end_is_last input p q before a b = elim a.ended
-  [ inl e ↦ ready_is_not _ (b.ready p before) e
+end_is_last input p q before a b = elim a.ended [
+  | inl e ↦ ready_is_not _ (b.ready p before) e
   | inr e ↦ omega (arith, b.within, e, before)
-  ]
+]
 
 same_end : (input : Input) (p q : ℕ) (x y : Bool) → nat_lt p q ≡ x → nat_lt q p ≡ y → IsRunEnd input p →
     IsRunEnd input q → p ≡ q

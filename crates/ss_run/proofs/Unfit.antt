@@ -1,20 +1,20 @@
 -- Values that did not fit are counted on the report.
-use Rattle.std.proofs.Common.{◌≡◌, ℕ, zero, suc, ◌+◌, ◌-◌, ◌*◌, ◌/◌, ◌%◌, ◌^◌, ◌<◌, ◌≤◌, ◌&&◌, ◌⊎◌, inl, inr, Bool, true, false, not, cond}
+use Rattle.std.proofs.Common.{◌≡◌, ℕ, zero, suc, ◌+◌, ◌-◌, ◌%◌, ◌^◌, ◌<◌, ◌≤◌, ◌&&◌, inl, inr, Bool, true, false, not, cond}
 use Rattle.std.proofs.Common.{nat_lt, nat_le, nat_eq, List, [], ◌∷◌, ◌++◌, length, refl, sym, ap, ◌∙◌, arith, append_assoc, append-nil}
-use Rattle.std.proofs.Common.{length-append, decimal, add-one}
+use Rattle.std.proofs.Common.{length-append, decimal}
 use Rattle.std.specs.Prelude.{ℤ, pos, negsuc, get_or, replicate}
-use Rattle.std.specs.List.{count_by, range_with_len, flat_map}
+use Rattle.std.specs.List.{count_by, range_with_len}
 use Rattle.std.specs.Fmt.{signed_decimal}
 use Rattle.std.proofs.Math.Seq.{get_or-append_seam}
 use Rattle.std.proofs.Math.ListN.{get_or-append}
 use Rattle.std.proofs.lemmas.List.Sums.{sum_by-cons}
 use Rattle.std.proofs.lemmas.Fmt.{decimal_by_steps}
 use Rattle.std.proofs.lemmas.Bool.Decides.{nat_tests}
-use borrow.Author.Tests.{ltb-true, ltb-false}
+use borrow.Author.Tests.{ltb-true}
 use Rattle.ss_words.specs.declared.characters.TheConstants.{ASTERISK, BLANK, LINE_FEED}
 use Rattle.ss_words.specs.Ranges.{in_range}
 use Rattle.ss_report.specs.Pictures.{Part, field, byte, line_end, with_asterisk, line_parts, picture_parts, is_field}
-use Rattle.ss_report.specs.Pictures.{field_count, field_text, parts_text, picture_text}
+use Rattle.ss_report.specs.Pictures.{field_text, parts_text, picture_text}
 use Rattle.ss_store.specs.Store.{AreInRange}
 use Rattle.ss_run.specs.Fields.{is_asterisk_at, begins_run, unfit_values}
 use Rattle.ss_run.specs.Laws.{too_wide, IsOfLines, AreCounted}
@@ -246,13 +246,17 @@ parts_end : (ps : List Part) (vs : List ℤ) →
     (text : List ℕ) × (parts_text (ps ++ line_end ∷ []) vs ≡ text ++ LINE_FEED ∷ [])
 parts_end [] vs = ([], refl)
 parts_end (field n ∷ ps) [] =
-    let more = parts_end ps [] in
-    (replicate n ASTERISK ++ more.0, ap (λ t. replicate n ASTERISK ++ t) more.1
-    ∙ sym (append_assoc (replicate n ASTERISK) more.0 (LINE_FEED ∷ [])))
+    let more = parts_end ps [] in (
+      replicate n ASTERISK ++ more.0,
+      ap (λ t. replicate n ASTERISK ++ t) more.1
+          ∙ sym (append_assoc (replicate n ASTERISK) more.0 (LINE_FEED ∷ [])),
+    )
 parts_end (field n ∷ ps) (v ∷ vs) =
-    let more = parts_end ps vs in
-    (field_text n v ++ more.0, ap (λ t. field_text n v ++ t) more.1
-    ∙ sym (append_assoc (field_text n v) more.0 (LINE_FEED ∷ [])))
+    let more = parts_end ps vs in (
+      field_text n v ++ more.0,
+      ap (λ t. field_text n v ++ t) more.1
+          ∙ sym (append_assoc (field_text n v) more.0 (LINE_FEED ∷ [])),
+    )
 parts_end (byte b ∷ ps) vs = let more = parts_end ps vs in (b ∷ more.0, ap (λ t. b ∷ t) more.1)
 parts_end (line_end ∷ ps) vs = let more = parts_end ps vs in (LINE_FEED ∷ more.0, ap (λ t. LINE_FEED ∷ t) more.1)
 
@@ -260,9 +264,11 @@ parts_end (line_end ∷ ps) vs = let more = parts_end ps vs in (LINE_FEED ∷ mo
 picture_end : (l : List ℕ) (ls : List (List ℕ)) → (ps : List Part) × (picture_parts (l ∷ ls) ≡ ps ++ line_end ∷ [])
 picture_end l [] = (line_parts l, append-nil (line_parts l ++ line_end ∷ []))
 picture_end l (m ∷ ms) =
-    let more = picture_end m ms in
-    ((line_parts l ++ line_end ∷ []) ++ more.0, ap (λ ps. (line_parts l ++ line_end ∷ []) ++ ps) more.1
-    ∙ sym (append_assoc (line_parts l ++ line_end ∷ []) more.0 (line_end ∷ [])))
+    let more = picture_end m ms in (
+      (line_parts l ++ line_end ∷ []) ++ more.0,
+      ap (λ ps. (line_parts l ++ line_end ∷ []) ++ ps) more.1
+          ∙ sym (append_assoc (line_parts l ++ line_end ∷ []) more.0 (line_end ∷ [])),
+    )
 
 printed_lines : (report : List ℕ) (lines : List (List ℕ)) (vs : List ℤ) → IsOfLines report →
     IsOfLines (report ++ picture_text lines vs)
@@ -270,8 +276,11 @@ printed_lines report [] vs h = rw (append-nil report) h
 printed_lines report (l ∷ ls) vs h =
     let parts = picture_end l ls in
     let text = parts_end parts.0 vs in
-    inr (report ++ text.0, ap (λ ps. report ++ parts_text ps vs) parts.1 ∙ ap (λ t. report ++ t) text.1
-    ∙ sym (append_assoc report text.0 (LINE_FEED ∷ [])))
+    inr (
+      report ++ text.0,
+      ap (λ ps. report ++ parts_text ps vs) parts.1 ∙ ap (λ t. report ++ t) text.1
+          ∙ sym (append_assoc report text.0 (LINE_FEED ∷ [])),
+    )
 
 feeds_end : (n : ℕ) → (text : List ℕ) × (replicate (suc n) LINE_FEED ≡ text ++ LINE_FEED ∷ [])
 feeds_end zero = ([], refl)

@@ -53,8 +53,8 @@ too_wide (line_end ∷ ps) vs = too_wide ps vs
 abbrev pub IsOfLines : List ℕ → Type 0
 IsOfLines report = (report ≡ []) ⊎ ((text : List ℕ) × (report ≡ text ++ LINE_FEED ∷ []))
 
--- what is counted on a report are the values that were too wide for their fields, since a report grows by pictures and
--- by line feeds alone
+-- what is counted on a report: on an empty one nothing, and behind whole lines of each picture the values that are too
+-- wide for their fields, of line feeds none
 pub record AreCounted : Type 0 where
   -- an empty report has none
   pub none : unfit_values [] ≡ 0

@@ -1,10 +1,8 @@
 -- A reference is read back as the part that it was made for.
-use Rattle.std.proofs.Common.{◌≡◌, ℕ, ◌+◌, ◌-◌, ◌*◌, ◌/◌, ◌%◌, ◌^◌, ◌<◌, ◌≤◌, ◌&&◌, Bool, true, false, nat_lt, nat_eq, refl, ◌∙◌, arith}
+use Rattle.std.proofs.Common.{◌≡◌, ℕ, ◌+◌, ◌-◌, ◌*◌, ◌/◌, ◌%◌, ◌^◌, ◌<◌, true, false, nat_lt, nat_eq, refl, ◌∙◌, arith}
 use Rattle.std.proofs.lemmas.Bool.Decides.{nat_tests}
-use Rattle.ss_scopes.specs.declared.group.Group.{Group}
-use Rattle.ss_scopes.specs.declared.group.Group.TheVariants.{Locals, Class, Entity, Set, Members}
-use Rattle.ss_scopes.specs.declared.group.TheConstants.{ROW, MOST_ROWS, FIRST_LOCALS}
-use Rattle.ss_scopes.specs.declared.scopes.TheConstants.{MOST_FRAMES}
+use Rattle.ss_scopes.specs.declared.group.Group.TheVariants.{Class, Entity, Set, Members}
+use Rattle.ss_scopes.specs.declared.group.TheConstants.{ROW, MOST_ROWS}
 use Rattle.ss_scopes.specs.References.{class_reference, set_reference, row_group, group_of}
 use Rattle.ss_scopes.specs.Laws.{AreReadBack}
 
