@@ -1,5 +1,6 @@
 -- Each request has one answer.
-use Rattle.std.proofs.Common.{ℕ, Bool, true, false, cond, List, [], ◌∷◌, ◌++◌, Option, Some, None}
+use Rattle.std.proofs.Common.{ℕ, Bool, true, false, cond, nat_lt, nat_eq, List, [], ◌∷◌, ◌++◌, length, drop, codes}
+use Rattle.std.proofs.Common.{Option, Some, None}
 use Rattle.ss_program.specs.Program.{ProgramTable}
 use Rattle.ss_state.specs.Run.{Input}
 use Rattle.ss_debug.specs.Turn.{DebuggerState}
@@ -9,25 +10,20 @@ use Rattle.ss_prompt.specs.Points.{is_movement, point_of}
 use Rattle.ss_prompt.specs.Reading.{prompt_command_of}
 use Rattle.ss_state.specs.Run.{run}
 use Rattle.ss_messages.specs.declared.request.Command.{Command}
-use Rattle.ss_messages.specs.declared.request.Command.TheVariants.{Initialize, Launch, SetBreakpoints}
-use Rattle.ss_messages.specs.declared.request.Command.TheVariants.{SetFunctionBreakpoints, SetDataBreakpoints}
-use Rattle.ss_messages.specs.declared.request.Command.TheVariants.{DataBreakpointInfo, SetExceptionBreakpoints}
-use Rattle.ss_messages.specs.declared.request.Command.TheVariants.{ConfigurationDone, Threads, StackTrace, Scopes}
-use Rattle.ss_messages.specs.declared.request.Command.TheVariants.{Variables, Obey, Ask, Completions, Source}
-use Rattle.ss_messages.specs.declared.request.Command.TheVariants.{LoadedSources, ExceptionInfo, Continue, Next}
-use Rattle.ss_messages.specs.declared.request.Command.TheVariants.{StepIn, StepOut, StepBack, ReverseContinue}
-use Rattle.ss_messages.specs.declared.request.Command.TheVariants.{Restart, Pause, Disconnect, Terminate, Bad}
-use Rattle.ss_messages.specs.declared.request.Command.TheVariants.{Unknown}
+use Rattle.ss_messages.specs.declared.request.Command.TheVariants.{ConfigurationDone, Obey, Ask, Source}
+use Rattle.ss_messages.specs.declared.request.Command.TheVariants.{ExceptionInfo, Terminate}
 use Rattle.ss_messages.specs.Messages.{Sent, reply, failure, event}
+use Rattle.ss_messages.specs.Bodies.{output_body, content_body, without_last}
 use Rattle.ss_adapter.specs.declared.going.Going.{Going}
 use Rattle.ss_adapter.specs.Desk.{DeskView}
-use Rattle.ss_adapter.specs.Looking.{exception_by, question_of}
-use Rattle.ss_adapter.specs.Going.{going_of, state_behind, watched_by}
+use Rattle.ss_adapter.specs.Looking.{reason_at, hit_at, is_over, exception_by, question_of}
+use Rattle.ss_adapter.specs.Going.{going_of, going_answer, state_behind, watched_by}
 use Rattle.ss_adapter.specs.Console.{point_told}
 use Rattle.ss_adapter.specs.Turn.{AdapterState, report_at, untold_output, stop_events, end_by, end_of}
 use Rattle.ss_adapter.specs.Turn.{behind_movement, behind_going, going_to_stop, point_behind, behind_command}
 use Rattle.ss_adapter.specs.Turn.{console_after, answer_to_question, answer_on_fault}
 use Rattle.ss_adapter.specs.Turn.{answer_about_run, told_of, answers_by, answer_to_configuration}
+use Rattle.ss_adapter.specs.Turn.{exit_events, stopped_event, reply_with_stop, reply_with_going, source_messages}
 use Rattle.ss_adapter.specs.Before.{answers_before}
 use Rattle.ss_adapter.specs.Laws.{AreEvents, AreOneAnswer, HaveOneAnswer}
 
@@ -49,12 +45,20 @@ events_more (failure reason ∷ ms) b p q = absurd p
 
 -- ---- what follows a movement
 
+output_by : (told : ℕ) (report : List ℕ) (more : Bool) →
+    AreEvents (cond more (event (codes "output") (output_body (codes "stdout") (drop told report)) ∷ []) [])
+output_by told report true = tt
+output_by told report false = tt
+
 output_told : (told : ℕ) (report : List ℕ) → AreEvents (untold_output told report)
-output_told told report = events_by _ _ _ tt tt
+output_told told report = output_by told report (nat_lt told (length report))
 
 stop_told : (input : Input) (debugger : DebuggerState) (at_end : Bool) (answer : List ℕ) →
     AreEvents (stop_events input debugger at_end answer)
-stop_told input debugger at_end answer = events_by _ _ _ tt tt
+stop_told input debugger at_end answer =
+    events_by (is_over at_end (run input debugger.position).status) exit_events
+    (stopped_event (reason_at input debugger.breaks debugger.position) (without_last answer)
+    (hit_at input debugger.breaks debugger.position) ∷ []) tt tt
 
 end_by_told : (input : Input) (debugger : DebuggerState) (at_end : Bool) (answer : List ℕ) (place : ℕ)
     (question : Option (List ℕ)) → AreEvents (end_by input debugger at_end answer place question)
@@ -109,80 +113,37 @@ fault_answered (Some body) = tt
 fault_answered None = tt
 
 configuration_answered : (state : AdapterState) → AreOneAnswer (answer_to_configuration state)
-configuration_answered state = answer_by _ _ _ tt (going_told state (going_to_stop state) _)
+configuration_answered state =
+    answer_by state.desk.stops.at_start
+    (reply_with_stop state.input state.debugger.position (codes "entry"))
+    (reply_with_going state (codes "{}") (going_to_stop state)) tt
+    (going_told state (going_to_stop state) (going_answer state.input state.debugger (going_to_stop state)))
+
+source_answered : (report : List ℕ) (reference : ℕ) → AreOneAnswer (source_messages report reference)
+source_answered report reference =
+    answer_by (nat_eq reference 1) (reply (content_body report) ∷ []) (failure (codes "no source") ∷ []) tt tt
 
 standing_answered : (state : AdapterState) (command : Command) → AreOneAnswer (told_of state command)
 unfolding told_of answer_about_run
-standing_answered state Initialize = tt
-standing_answered state (Launch model input stops) = tt
-standing_answered state (SetBreakpoints lines) = tt
-standing_answered state (SetFunctionBreakpoints names) = tt
-standing_answered state (SetDataBreakpoints ids) = tt
-standing_answered state (DataBreakpointInfo reference name) = tt
-standing_answered state SetExceptionBreakpoints = tt
 standing_answered state ConfigurationDone = configuration_answered state
-standing_answered state Threads = tt
-standing_answered state (StackTrace start levels) = tt
-standing_answered state (Scopes frame) = tt
-standing_answered state (Variables wanted) = tt
 standing_answered state (Obey text) =
     command_told state (prompt_command_of text) (is_movement (prompt_command_of text))
 standing_answered state (Ask text) = question_answered state.input state.debugger.position (question_of text)
-standing_answered state (Completions text column) = tt
-standing_answered state (Source reference) = answer_by _ _ _ tt tt
-standing_answered state LoadedSources = tt
+standing_answered state (Source reference) = source_answered (report_at state.input state.debugger) reference
 standing_answered state ExceptionInfo =
     fault_answered (exception_by (run state.input state.debugger.position).status)
-standing_answered state Continue = tt
-standing_answered state Next = tt
-standing_answered state StepIn = tt
-standing_answered state StepOut = tt
-standing_answered state (StepBack single) = tt
-standing_answered state ReverseContinue = tt
-standing_answered state Restart = tt
-standing_answered state Pause = tt
-standing_answered state Disconnect = tt
-standing_answered state Terminate = tt
-standing_answered state Bad = tt
-standing_answered state Unknown = tt
+standing_answered state _ = tt
 
 request_answered : (state : AdapterState) (command : Command) (going : Option Going) →
     AreOneAnswer (answers_by state command going)
-request_answered state command (Some g) = going_told state g _
+request_answered state command (Some g) =
+    going_told state g (going_answer state.input state.debugger g)
 request_answered state command None = standing_answered state command
 
 before_answered : (command : Command) → AreOneAnswer (answers_before command)
 unfolding answers_before
-before_answered Initialize = tt
-before_answered (Launch model input stops) = tt
-before_answered (SetBreakpoints lines) = tt
-before_answered (SetFunctionBreakpoints names) = tt
-before_answered (SetDataBreakpoints ids) = tt
-before_answered (DataBreakpointInfo reference name) = tt
-before_answered SetExceptionBreakpoints = tt
-before_answered ConfigurationDone = tt
-before_answered Threads = tt
-before_answered (StackTrace start levels) = tt
-before_answered (Scopes frame) = tt
-before_answered (Variables wanted) = tt
-before_answered (Obey text) = tt
-before_answered (Ask text) = tt
-before_answered (Completions text column) = tt
-before_answered (Source reference) = tt
-before_answered LoadedSources = tt
-before_answered ExceptionInfo = tt
-before_answered Continue = tt
-before_answered Next = tt
-before_answered StepIn = tt
-before_answered StepOut = tt
-before_answered (StepBack single) = tt
-before_answered ReverseContinue = tt
-before_answered Restart = tt
-before_answered Pause = tt
-before_answered Disconnect = tt
 before_answered Terminate = tt
-before_answered Bad = tt
-before_answered Unknown = tt
+before_answered _ = tt
 
 pub one_answer : HaveOneAnswer
 one_answer = record {
