@@ -3,7 +3,8 @@ use Rattle.std.proofs.Common.{◌≡◌, ℕ, zero, suc, Bool, true, false, nat_
 use Rattle.std.proofs.lemmas.Grind.{flat_map-append}
 use Rattle.std.proofs.lemmas.Bool.Decides.{nat_tests}
 use Rattle.ss_state.specs.Run.{Input}
-use Rattle.ss_trace.specs.Question.{Question, changes_at}
+use Rattle.ss_trace.specs.declared.question.Question.{Question}
+use Rattle.ss_trace.specs.Question.{changes_at}
 use Rattle.ss_trace.specs.History.{before_others, positions_where, history}
 use Rattle.ss_run.specs.Trace.{csv_row, step_fields, change_row, step_rows, rows_before}
 use Rattle.ss_run.specs.Laws.{RowsAreTheHistory, oldest_first, rows_at}

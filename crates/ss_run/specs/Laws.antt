@@ -6,7 +6,7 @@ use Rattle.ss_words.specs.declared.characters.TheConstants.{LINE_FEED}
 use Rattle.ss_report.specs.Pictures.{Part, field, byte, line_end, picture_parts, field_count, picture_text}
 use Rattle.ss_store.specs.Store.{AreInRange}
 use Rattle.ss_state.specs.Run.{Input}
-use Rattle.ss_trace.specs.Question.{Question}
+use Rattle.ss_trace.specs.declared.question.Question.{Question}
 use Rattle.ss_trace.specs.History.{history}
 use Rattle.ss_run.specs.Fields.{unfit_values}
 use Rattle.ss_run.specs.Report.{IsRunEnd}
