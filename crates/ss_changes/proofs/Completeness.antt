@@ -412,7 +412,7 @@ told_or_belongs : (p : ProgramTable) (s u : State) (x : Part) (b : Bool) → is_
     Any (λ c. c ≡ told_of p s u x) (changes_between p s u) ⊎ BelongsToOne p s u x
 told_or_belongs p s u x true e h differs = inl (told_among p s u x (parts_of p s u) (in_parts p s u x h e) e)
 told_or_belongs p s u x false e h differs = elim (equal_or_lacking p s u x (not_told _ _ _ _ e))
-  [ inl same ↦ absurd (differs same) | inr belongs ↦ inr belongs ]
+    [ inl same ↦ absurd (differs same) | inr belongs ↦ inr belongs ]
 
 pub changes_are_all : ChangesAreAll
 changes_are_all p s u x h differs = told_or_belongs p s u x _ refl h differs
