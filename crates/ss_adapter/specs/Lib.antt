@@ -9,3 +9,4 @@ pub mod Watch
 pub mod Console
 pub mod Turn
 pub mod Before
+pub mod Laws

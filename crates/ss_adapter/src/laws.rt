@@ -1,4 +1,5 @@
 //! Laws on the definitions. Each function does nothing, and its contract says the law.
+ghost use Rattle.ss_adapter.specs.Laws.{HaveOneAnswer};
 ghost use Rattle.ss_adapter.specs.Reach.{NearestIsLeast, NearestIsOne};
 
 /// The nearest of the changes of some questions is no further than any.
@@ -9,4 +10,10 @@ pub fn nearest_change_is_least()
 /// It is one of them, the one in its place.
 pub fn nearest_change_is_one_of_them()
     ensures { NearestIsOne }
+{}
+
+/// Each request has one reply, or one failure, which is sent first; events alone follow it.
+#[tactic(auto, using(crate::proofs::OneAnswer::one_answer))]
+pub fn each_request_has_one_answer()
+    ensures { HaveOneAnswer }
 {}

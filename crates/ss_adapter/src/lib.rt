@@ -23,6 +23,8 @@ mod words;
 
 pub use before::turn_before;
 pub use desk::Desk;
-pub use laws::{nearest_change_is_least, nearest_change_is_one_of_them};
+pub use laws::{
+    each_request_has_one_answer, nearest_change_is_least, nearest_change_is_one_of_them,
+};
 pub use opening::launch;
 pub use turns::{Further, turn};

@@ -19,7 +19,7 @@ use Rattle.ss_changes.specs.Parts.{parts_of}
 use Rattle.ss_changes.specs.Changes.{is_changed, told_of}
 use Rattle.ss_changes.specs.Laws.{AreExact, BelongsToOne}
 
-both : (a b : Bool) → (a && b) ≡ true → (a ≡ true) × (b ≡ true)
+pub both : (a b : Bool) → (a && b) ≡ true → (a ≡ true) × (b ≡ true)
 both true true e = (refl, refl)
 both true false e = absurd (cc)
 both false b e = absurd (cc)
@@ -86,7 +86,7 @@ first_at : {A : Type 0} (y : A) (zs : List A) (d : A) (b : Bool) → b ≡ true 
 first_at y zs d true e = (0, omega arith, refl)
 first_at y zs d false e = absurd (cc)
 
-in_filter : {A : Type 0} (test : A → Bool) (xs : List A) (k : ℕ) (d : A) → k < length xs →
+pub in_filter : {A : Type 0} (test : A → Bool) (xs : List A) (k : ℕ) (d : A) → k < length xs →
     test (slice_index_or xs k d) ≡ true →
     (j : ℕ) × (j < length (filter test xs)) × (slice_index_or (filter test xs) j d ≡ slice_index_or xs k d)
 in_filter test [] k d h e = absurd (omega arith)
@@ -94,7 +94,7 @@ in_filter test (y ∷ ys) zero d h e = first_at y (filter test ys) d (test y) e
 in_filter test (y ∷ ys) (suc k) d h e =
     kept_at test y ys d (slice_index_or ys k d) (test y) (in_filter test ys k d (omega arith) e)
 
-not_true : (b : Bool) → not b ≡ true → b ≡ false
+pub not_true : (b : Bool) → not b ≡ true → b ≡ false
 not_true false e = refl
 not_true true e = absurd (cc)
 
@@ -110,7 +110,7 @@ told_differs p s u x e f =
     absurd (cc)
 
 -- what is not told is the same, or one of the states lacks it
-not_told : (same needs before after : Bool) → (not same && (not needs || (before && after))) ≡ false →
+pub not_told : (same needs before after : Bool) → (not same && (not needs || (before && after))) ≡ false →
     (same ≡ true) ⊎ ((needs ≡ true) × ((before ≡ false) ⊎ (after ≡ false)))
 not_told true needs before after e = inl refl
 not_told false false before after e = absurd (cc)
@@ -122,7 +122,7 @@ lacks : (x y : PartValue) → (is_there x ≡ false) ⊎ (is_there y ≡ false) 
 lacks x y (inl e) = inl (absent_is x e)
 lacks x y (inr e) = inr (absent_is y e)
 
-equal_or_lacking : (p : ProgramTable) (s u : State) (x : Part) →
+pub equal_or_lacking : (p : ProgramTable) (s u : State) (x : Part) →
     (is_same (value_in p s x) (value_in p u x) ≡ true)
     ⊎ ((needs_both x ≡ true) × ((is_there (value_in p s x) ≡ false) ⊎ (is_there (value_in p u x) ≡ false))) →
     (value_in p s x ≡ value_in p u x) ⊎ BelongsToOne p s u x

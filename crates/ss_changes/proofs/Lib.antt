@@ -5,3 +5,4 @@ pub mod StateLaws
 pub mod Notices
 pub mod Exactness
 pub mod Saying
+pub mod Completeness

@@ -24,6 +24,6 @@ mod value;
 
 pub use answers::{push_changed, push_stop_changes, push_stop_changes_ahead};
 pub use change::Change;
-pub use laws::what_a_step_changed_is_exact;
+pub use laws::{what_a_step_changed_is_all, what_a_step_changed_is_exact};
 pub use part::Part;
 pub use value::{Members, PartValue};

@@ -1,2 +1,3 @@
 pub mod Conditions
 pub mod Variables
+pub mod NotThere

@@ -4,3 +4,4 @@ pub mod Texts
 pub mod About
 pub mod Sentence
 pub mod Asked
+pub mod Laws

@@ -3,3 +3,4 @@ pub mod Pieces
 pub mod Heads
 pub mod Points
 pub mod Posts
+pub mod FrameLaws

@@ -4,3 +4,4 @@ pub mod Messages
 pub mod Requests
 pub mod Bodies
 pub mod Shown
+pub mod Laws

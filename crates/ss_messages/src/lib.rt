@@ -5,6 +5,7 @@ mod arguments;
 mod bodies;
 mod escape;
 mod frame;
+mod laws;
 mod messages;
 mod parts;
 mod post;
@@ -17,6 +18,7 @@ pub use bodies::{
 };
 pub use escape::{push_quoted, push_quoted_text};
 pub use frame::{FrameFault, LONGEST_MESSAGE, read_message, split_message};
+pub use laws::messages_are_read_back;
 pub use messages::push_number;
 pub use parts::{Lines, Text, Texts};
 pub use post::Post;

@@ -3,3 +3,6 @@ pub mod Counts
 pub mod Reports
 pub mod Parts
 pub mod Traces
+pub mod OneEnd
+pub mod HistoryRows
+pub mod Unfit

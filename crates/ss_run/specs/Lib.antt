@@ -7,3 +7,4 @@ pub mod Trace
 pub mod Tracing
 pub mod Warned
 pub mod Watched
+pub mod Laws

@@ -4,6 +4,7 @@
 mod explained;
 mod fields;
 mod here;
+mod laws;
 mod rows;
 mod traced;
 mod warned;
@@ -11,6 +12,7 @@ mod watched;
 mod whole_run;
 
 pub use fields::{unfit_values, unfit_words};
+pub use laws::{rows_are_the_history, run_has_one_end, values_that_do_not_fit_are_counted};
 pub use traced::trace_model;
 pub use warned::model_warnings;
 pub use watched::push_question;

@@ -6,3 +6,4 @@ pub mod Entities
 pub mod Sets
 pub mod Events
 pub mod Variables
+pub mod Laws

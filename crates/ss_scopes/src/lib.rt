@@ -11,6 +11,7 @@ mod events;
 mod frames;
 mod group;
 mod kept;
+mod laws;
 mod pages;
 mod scopes;
 mod sets;
@@ -18,5 +19,6 @@ mod variables;
 
 pub use frames::push_frames;
 pub use group::{Group, class_reference, group_of, set_reference};
+pub use laws::references_are_read_back;
 pub use scopes::push_scopes;
 pub use variables::push_variables;
