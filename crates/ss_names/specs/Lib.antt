@@ -8,8 +8,10 @@ pub mod Values
 pub mod Collected
 pub mod Keys
 pub mod Unread
+pub mod Unstarted
 pub mod Unused
 pub mod Ranked
+pub mod Printed
 pub mod Warnings
 pub mod Known
 pub mod Index

@@ -14,6 +14,7 @@ use Rattle.ss_program.specs.declared.timing.Timing.TheVariants.{Schedule}
 use Rattle.ss_program.specs.Program.{ProgramTable, ClassTable, SetTable, SectionTable, is_event, event_of_kind}
 use Rattle.ss_names.specs.declared.unused.TheConstants.{UNFILED, UNSCHEDULED}
 use Rattle.ss_names.specs.Saying.{warning_line}
+use Rattle.ss_names.specs.Unstarted.{unstarted_text}
 
 -- FILE into set number s
 abbrev pub files : ℕ → Filing → Bool
@@ -91,6 +92,6 @@ unscheduled_text program ws c (t ∷ ts) = elim (is_unscheduled program c t) [
 abbrev pub program_warnings : ProgramTable → List ℕ → List ℕ
 program_warnings program model = elim (words_of model) [
   | Ok ws ↦ unfiled_text program (plain_words_of ws) 0 program.sets
-      ++ unscheduled_text program (plain_words_of ws) 0 program.classes
+      ++ unscheduled_text program (plain_words_of ws) 0 program.classes ++ unstarted_text program
   | Err f ↦ []
 ]

@@ -22,6 +22,7 @@ use Rattle.ss_names.specs.Collected.{collection}
 use Rattle.ss_names.specs.Here as here
 use Rattle.ss_names.specs.Roles.{at_start, behind, may_stand_once}
 use Rattle.ss_names.specs.Meanings.{Declaration}
+use Rattle.ss_names.specs.Printed.{printed_text}
 use Rattle.ss_names.specs.Ranked.{ranked_text}
 use Rattle.ss_names.specs.Unread.{uses_text}
 
@@ -124,7 +125,7 @@ plain_warnings ws =
 
 -- the warnings of words
 abbrev pub warnings_of_words : List WordAt → List ℕ
-warnings_of_words ws = plain_warnings (plain_words_of ws) ++ dropped_text None ws
+warnings_of_words ws = plain_warnings (plain_words_of ws) ++ dropped_text None ws ++ printed_text ws
 
 -- the warnings of a model; none where a rule L refuses it
 abbrev pub warnings : List ℕ → List ℕ

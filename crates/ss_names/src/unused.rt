@@ -4,6 +4,7 @@ ghost use Rattle.ss_words.specs.Plain.{plain_at};
 ghost use Rattle.ss_names.specs.Unused as spec;
 
 use crate::once::push_warning;
+use crate::unstarted::push_unstarted;
 use ss_program::{Class, ClassKind, Filing, Place, Program, Section, Timing};
 use ss_words::{Plain, PlainWord, TextFault, plain_words, words};
 use std::alloc::{AllocError, Global};
@@ -155,8 +156,9 @@ fn push_unscheduled(
 }
 
 /// Appends the warnings of a model that its program tells (docs/SENTENCES.md), each with the line on
-/// which the name stands first: the sets into which nothing is filed, and the events that neither a
-/// SCHEDULE nor the data schedule. The only error is that memory was refused.
+/// which the name stands first: the sets into which nothing is filed, the events that neither a
+/// SCHEDULE nor the data schedule, and the first SCHEDULE of a program that never starts the
+/// simulation. The only error is that memory was refused.
 pub fn push_program_warnings(
     alloc: Global,
     program: &Program,
@@ -170,7 +172,8 @@ pub fn push_program_warnings(
         Ok(words) => {
             let plain = plain_words(alloc, &words)?;
             push_unfiled(text, program, &plain)?;
-            push_unscheduled(text, program, &plain)
+            push_unscheduled(text, program, &plain)?;
+            push_unstarted(text, program)
         }
         Err(TextFault::Memory) => Err(AllocError),
         Err(TextFault::Refused { .. }) => Ok(()),

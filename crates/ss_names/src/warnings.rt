@@ -8,6 +8,7 @@ use crate::declarations::Declarations;
 use crate::dropped::push_dropped;
 use crate::names::names_in;
 use crate::once::push_once;
+use crate::printed::push_printed;
 use crate::ranked::push_ranked;
 use crate::roles::Role;
 use crate::unread::{UNREAD, UNSET, push_uses};
@@ -17,9 +18,9 @@ use std::alloc::{AllocError, Global};
 
 /// Appends the warnings of a model (docs/SENTENCES.md), each with its line: the names that stand
 /// once, those that are set and never read or read and never set, keys of ranked sets that are set
-/// of an entity behind its FILE, and the words that are dropped where a name could have stood;
-/// nothing where a rule L refuses it. The only error is that memory
-/// was refused.
+/// of an entity behind its FILE, the words that are dropped where a name could have stood, and the
+/// lines of pictures that look like statements; nothing where a rule L refuses it. The only error is
+/// that memory was refused.
 pub fn push_warnings(alloc: Global, model: &[u8], text: &mut Vec<u8>) -> Result<(), AllocError>
     ensures { OnOk result (text.new.items ≡ text.old.items ++ spec.warnings model.now) }
 {
@@ -40,7 +41,8 @@ fn push_warnings_of_words(
 {
     let plain = plain_words(alloc, words)?;
     push_plain_warnings(alloc, text, &plain)?;
-    push_dropped(text, &words.list)
+    push_dropped(text, &words.list)?;
+    push_printed(text, &words.list)
 }
 
 /// Appends the warnings of plain words.

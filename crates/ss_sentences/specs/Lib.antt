@@ -4,6 +4,8 @@ pub mod Candidates
 pub mod Expected
 pub mod Pieces
 pub mod Hints
+pub mod Near
+pub mod Meant
 pub mod Breach
 pub mod Unread
 pub mod Refusals

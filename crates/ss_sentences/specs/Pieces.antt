@@ -6,8 +6,10 @@ use Rattle.ss_words.specs.declared.characters.TheConstants.{BLANK, TAB}
 use Rattle.ss_words.specs.declared.word.Sign.{Sign}
 use Rattle.ss_words.specs.declared.word.Sign.TheVariants as s
 use Rattle.ss_words.specs.declared.word.WordKind.{WordKind}
+use Rattle.ss_words.specs.TextBytes.{is_allowed}
 use Rattle.ss_words.specs.Words.{Kind, name, number, sign, picture, WordAt, kind_of}
 use Rattle.ss_columns.specs.Columns.{line_of}
+use Rattle.ss_sentences.specs.declared.pieces.TheConstants.{UNSHOWN}
 
 -- a place for a word, `{}`
 unfoldable pub begins_gap : List ℕ → Bool
@@ -77,6 +79,14 @@ place_text line column = codes "Line " ++ decimal line ++ column_text column ++ 
 abbrev pub blank_of : ℕ → ℕ
 blank_of b = if b == TAB then TAB else BLANK
 
+-- what is shown of a byte: itself where it may stand in a line, and else a question mark
+abbrev pub shown_byte : ℕ → ℕ
+shown_byte b = if is_allowed b then b else UNSHOWN
+
+-- what is shown of some bytes
+abbrev pub shown : List ℕ → List ℕ
+shown bytes = map shown_byte bytes
+
 -- a caret behind so much room
 abbrev pub caret_text : List ℕ → List ℕ → List ℕ
 caret_text mark before = map blank_of mark ++ map blank_of before ++ codes "^\n"
@@ -91,4 +101,4 @@ abbrev pub source_text : List ℕ → ℕ → Option ℕ → List ℕ
 source_text model line column =
     let mark = decimal line ++ codes "> " in
     let bytes = line_of model line in
-    mark ++ bytes ++ codes "\n" ++ caret_at mark bytes column
+    mark ++ shown bytes ++ codes "\n" ++ caret_at mark bytes column

@@ -16,6 +16,7 @@ use Rattle.ss_sentences.specs.Candidates.{IsFitting, candidate_of, candidates}
 use Rattle.ss_sentences.specs.Expected.{expected_text}
 use Rattle.ss_sentences.specs.Grammar.{IsRefused, IsSpelled, is_end}
 use Rattle.ss_sentences.specs.Hints.{block_hints, front_hints, word_hints}
+use Rattle.ss_sentences.specs.Meant.{meant_hints}
 use Rattle.ss_sentences.specs.Pieces.{gaps_filled, last_text, place_text, source_text}
 use Rattle.ss_sentences.specs.Unread.{unread_text}
 use Rattle.ss_sentences.specs.Wording.{rule_sentence}
@@ -43,15 +44,15 @@ abbrev pub judged_text : List Judgement → List ℕ
 judged_text [] = []
 judged_text (j ∷ js) = expected_text (j ∷ js)
 
--- the hints at a word, if there is one
-abbrev pub hints_at : List Judgement → Option WordAt → List ℕ → List ℕ
-hints_at js None told = []
-hints_at js (Some w) told = word_hints js w.kind told
+-- the hints at a word behind others, if there is one
+abbrev pub hints_at : List Judgement → List WordAt → Option WordAt → List ℕ → List ℕ
+hints_at js before None told = []
+hints_at js before (Some w) told = word_hints js w.kind told ++ meant_hints js before w.kind
 
 -- what could stand in the place of word i, and hints
 abbrev pub unexpected_text : List WordAt → ℕ → List Judgement → List ℕ
 unexpected_text ws i js =
-    judged_text js ++ hints_at js (slice_get ws i) (told_before ws (i + 1)) ++ front_hints js (take i ws)
+    judged_text js ++ hints_at js (take i ws) (slice_get ws i) (told_before ws (i + 1)) ++ front_hints js (take i ws)
 
 -- what could stand at the end of the words, and which blocks are open there
 abbrev pub ended_text : List WordAt → List Judgement → List ℕ

@@ -1,7 +1,7 @@
 -- What is said of a text that a rule L refuses.
 use Rattle.std.specs.Prelude.{ℕ, ◌+◌, ◌-◌, ◌&&◌, ◌||◌, ◌==◌, Bool, true, false, not, nat_lt, nat_le, List, [], ◌∷◌}
 use Rattle.std.specs.Prelude.{◌++◌, length, take, drop, take_while, slice_index, map, codes, decimal, if◌then◌else◌}
-use Rattle.std.specs.Prelude.{Option, Some, None}
+use Rattle.std.specs.Prelude.{Option, Some, None, bytes_eq}
 use Rattle.std.specs.List.{list_any, list_all}
 use Rattle.ss_words.specs.declared.characters.TheConstants.{BLANK, CARRIAGE_RETURN, LINE_FEED, STOP, TILDE}
 use Rattle.ss_words.specs.declared.fault.TextRule.{TextRule}
@@ -13,6 +13,7 @@ use Rattle.ss_words.specs.TextRuns.{without_stops}
 use Rattle.ss_columns.specs.Columns.{behind_feed, behind_feeds}
 use Rattle.ss_sentences.specs.declared.unread.TheConstants.{LONGEST_RUN_TOLD, CUT_MARK, BYTE_HINTS, OUTSIDE_HINT}
 use Rattle.ss_sentences.specs.declared.unread.TheConstants.{STOP_HINT, GREAT_HINT, BEHIND_HINT, BELOW_HINT}
+use Rattle.ss_sentences.specs.declared.unread.TheConstants.{BYTE_ORDER_MARK, LAST_OF_ASCII, LETTER_HINT, MARK_HINT}
 use Rattle.ss_sentences.specs.Breach.{front_line, front_run, is_of_picture, breach_column}
 use Rattle.ss_sentences.specs.Pieces.{gaps_filled, place_text, source_text}
 use Rattle.ss_sentences.specs.Wording.{beside_number, rule_sentence}
@@ -58,10 +59,17 @@ unfoldable pub line_count : List ℕ → ℕ
 line_count [] = 0
 line_count (b ∷ bs) = elim (b == LINE_FEED || ends_last_line b bs) [ true ↦ 1 + line_count bs | false ↦ line_count bs ]
 
--- what is often meant by a byte; of one that may stand in no line, that it may not
-abbrev pub byte_hint : ℕ → List ℕ
-byte_hint b =
-    if is_allowed b then beside_number b (map (λ row. (row.0, row.1.now)) BYTE_HINTS) else OUTSIDE_HINT.now
+-- what is said of a byte that may stand in no line, with which the rest of its line begins: it begins a byte order mark,
+-- or is of a letter outside ASCII
+abbrev pub outside_hint : ℕ → List ℕ → List ℕ
+outside_hint b rest =
+    if bytes_eq (take (length BYTE_ORDER_MARK) rest) BYTE_ORDER_MARK then MARK_HINT.now
+    else if nat_lt LAST_OF_ASCII b then LETTER_HINT.now else OUTSIDE_HINT.now
+
+-- what is often meant by a byte
+abbrev pub byte_hint : ℕ → List ℕ → List ℕ
+byte_hint b rest =
+    if is_allowed b then beside_number b (map (λ row. (row.0, row.1.now)) BYTE_HINTS) else outside_hint b rest
 
 -- a stop stands in a run
 abbrev pub has_stop : List ℕ → Bool
@@ -87,7 +95,8 @@ behind_run line = drop (length (take_while in_run line)) line
 
 -- what the breach of a rule at a column hints at, the text below that line given
 abbrev pub breach_hint : TextRule → List ℕ → ℕ → List ℕ → List ℕ
-breach_hint r.StrayByte line column below = byte_hint (slice_index line (column - 1))
+breach_hint r.StrayByte line column below =
+    byte_hint (slice_index line (column - 1)) (from_column line column)
 breach_hint r.BadNumber line column below = number_hint (front_run (from_column line column))
 breach_hint r.NoPicture line column below = picture_hint (behind_run (from_column line column)) below
 breach_hint rule line column below = []

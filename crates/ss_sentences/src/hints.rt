@@ -78,7 +78,7 @@ fn last_is_kept(words: &[Word]) -> bool
 }
 
 /// Whether the last of these words is dropped.
-fn ends_in_dropped(words: &[Word]) -> bool
+pub fn ends_in_dropped(words: &[Word]) -> bool
     ensures { result ≡ spec.ends_in_dropped (map word_at words.now) }
 {
     ends_in_filler(words) && !last_is_kept(words)

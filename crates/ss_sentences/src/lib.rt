@@ -7,12 +7,14 @@ mod candidate;
 mod expected;
 mod grammar;
 mod hints;
+mod meant;
+mod near;
 mod pieces;
 mod refusal;
 mod unread;
 mod wording;
 
 pub use candidate::{Judgement, Tried};
-pub use pieces::{push_place, push_source};
+pub use pieces::{push_place, push_shown, push_source};
 pub use refusal::{LONGEST_TEXT_JUDGED, text_refusal};
 pub use wording::{fault_sentence, rule_sentence};

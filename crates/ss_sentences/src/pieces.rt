@@ -4,10 +4,13 @@ ghost use Rattle.ss_words.specs.Words.{kind_of, word_at};
 ghost use Rattle.ss_sentences.specs.Pieces as spec;
 
 use itoa::Buffer;
-use ss_columns::{Place, line_of};
+use ss_columns::{Place, is_allowed, line_of};
 use ss_words::characters::{BLANK, TAB};
 use ss_words::{Sign, Word, WordKind};
 use std::alloc::{AllocError, Global};
+
+/// What is shown in place of a byte that may stand in no line. The definitions read it too.
+pub const UNSHOWN: u8 = b'?';
 
 /// Appends a sentence with a word in the place of its first `{}`, and another in that of its others.
 pub fn push_filled(
@@ -136,6 +139,24 @@ fn blank_of(byte: u8) -> u8
     if byte == TAB { TAB } else { BLANK }
 }
 
+/// What is shown of a byte: the byte itself where it may stand in a line, and else a question mark.
+#[tactic(auto, unfolding(ss_words::specs::TextBytes::is_allowed))]
+fn shown_byte(byte: u8) -> u8
+    ensures { result ≡ spec.shown_byte byte }
+{
+    if is_allowed(byte) { byte } else { UNSHOWN }
+}
+
+/// Appends what is shown of some bytes: a question mark for each that may stand in no line.
+pub fn push_shown(text: &mut Vec<u8>, bytes: &[u8]) -> Result<(), AllocError>
+    ensures { OnOk result (text.new.items ≡ text.old.items ++ spec.shown bytes.now) }
+{
+    for byte in bytes {
+        text.push(shown_byte(*byte))?;
+    }
+    Ok(())
+}
+
 /// The first bytes, so many of them.
 pub fn first_bytes(bytes: &[u8], count: usize) -> &[u8]
     ensures { result.now ≡ take count bytes.now }
@@ -158,7 +179,7 @@ pub fn push_source(
     push_number(&mut mark, place.line)?;
     mark.extend_from_slice(b"> ")?;
     text.extend_from_slice(&mark)?;
-    text.extend_from_slice(line)?;
+    push_shown(text, line)?;
     text.extend_from_slice(b"\n")?;
     match place.column {
         Some(column) => push_caret(text, &mark, first_bytes(line, column.saturating_sub(1))),

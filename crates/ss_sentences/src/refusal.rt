@@ -8,6 +8,7 @@ use crate::candidate::{Judgement, judge_all};
 use crate::expected::push_expected;
 use crate::grammar::{is_end, spelled};
 use crate::hints::{push_block_hints, push_front_hints, push_word_hints};
+use crate::meant::push_meant_hints;
 use crate::pieces::{last_text, push_filled, push_place, push_source};
 use crate::unread::unread_said;
 use crate::wording::rule_sentence;
@@ -176,13 +177,14 @@ fn push_hints_at(
     text: &mut Vec<u8>,
 ) -> Result<(), AllocError>
     ensures { OnOk result (text.new.items ≡ text.old.items
-        ++ spec.hints_at judged.now (slice_get words.now number)
+        ++ spec.hints_at judged.now (take number words.now) (slice_get words.now number)
         (spec.told_before words.now (number + 1))) }
 {
     match words.list.get(number) {
         Some(word) => {
             let told = told_at(alloc, words, number)?;
-            push_word_hints(text, judged, word, &told)
+            push_word_hints(text, judged, word, &told)?;
+            push_meant_hints(text, judged, first_words(words, number), word)
         }
         None => Ok(()),
     }

@@ -35,10 +35,7 @@ pub const BYTE_HINTS: [(u8, &[u8]); 17] = [
         b'"',
         b"Only the picture of a PRINT is a text: the lines behind it, as they stand.\n",
     ),
-    (
-        b'!',
-        b"Unequal is NE, not is NOT, and a comment begins with ''.\n",
-    ),
+    (b'!', b"Unequal is NE, and a comment begins with ''.\n"),
     (b'#', b"A comment begins with ''.\n"),
     (
         b';',
@@ -70,6 +67,16 @@ pub const BYTE_HINTS: [(u8, &[u8]); 17] = [
 /// The other hints. The definitions read them too.
 pub const OUTSIDE_HINT: &[u8] =
     b"A text has the characters from the blank to ~, and tabs; no others.\n";
+
+pub const LETTER_HINT: &[u8] =
+    b"It is of a letter outside ASCII, as an accented one: a text has none.\n";
+
+pub const MARK_HINT: &[u8] = b"A byte order mark stands here: save the text without one.\n";
+
+/// The byte order mark of UTF-8, and the last byte of ASCII.
+pub const BYTE_ORDER_MARK: [u8; 3] = [239, 187, 191];
+
+pub const LAST_OF_ASCII: u8 = 127;
 
 pub const STOP_HINT: &[u8] = b"Values are whole: no digits stand behind a stop.\n";
 
@@ -178,14 +185,27 @@ fn line_count(text: &[u8]) -> usize
     count
 }
 
-/// What is often meant by a byte.
-fn byte_hint(byte: u8) -> &'static [u8]
-    ensures { result.now ≡ spec.byte_hint byte }
+/// What is said of a byte that may stand in no line.
+fn outside_hint(byte: u8, rest: &[u8]) -> &'static [u8]
+    ensures { result.now ≡ spec.outside_hint byte rest.now }
+{
+    if first_bytes(rest, BYTE_ORDER_MARK.len()) == BYTE_ORDER_MARK.as_slice() {
+        MARK_HINT
+    } else if byte > LAST_OF_ASCII {
+        LETTER_HINT
+    } else {
+        OUTSIDE_HINT
+    }
+}
+
+/// What is often meant by a byte, with which the rest of its line begins.
+fn byte_hint(byte: u8, rest: &[u8]) -> &'static [u8]
+    ensures { result.now ≡ spec.byte_hint byte rest.now }
 {
     if is_allowed(byte) {
         return text_beside_number(byte, &BYTE_HINTS);
     }
-    OUTSIDE_HINT
+    outside_hint(byte, rest)
 }
 
 /// Whether a stop stands in a run.
@@ -252,7 +272,10 @@ fn push_breach_hint(
         ≡ text.old.items ++ spec.breach_hint rule line.now column below.now) }
 {
     match rule {
-        TextRule::StrayByte => text.extend_from_slice(byte_hint(byte_at(line, column))),
+        TextRule::StrayByte => {
+            let hint = byte_hint(byte_at(line, column), from_column(line, column));
+            text.extend_from_slice(hint)
+        }
         TextRule::BadNumber => {
             text.extend_from_slice(number_hint(front_run(from_column(line, column))))
         }

@@ -108,13 +108,13 @@ pub const FAULT_SENTENCES: [(u8, &[u8]); 22] = [
     ),
     (14, b"The next member of this loop has left its set."),
     (15, b"The value behind BY is below 1."),
-    (16, b"The data end here: all pieces are taken."),
-    (17, b"The next piece of the data is no number."),
+    (16, b"The data end too early: a value is missing."),
+    (17, b"A piece of the data cannot be taken as a value."),
     (18, b"More than 200 sections would be open at once."),
     (19, b"The report would be longer than 16,777,216 bytes."),
     (
         20,
-        b"The references or the schedulings of a run are used up.",
+        b"All 1,000,000 references, or all 2^40 schedulings, of a run are used up.",
     ),
     (21, b"The next piece of the data is no external event."),
     (
