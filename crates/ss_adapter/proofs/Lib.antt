@@ -2,3 +2,4 @@ pub mod Nearest
 pub mod Least
 pub mod Returns
 pub mod Consoles
+pub mod Launches

@@ -6,10 +6,12 @@ mod bodies;
 mod escape;
 mod frame;
 mod messages;
+mod missing;
 mod parts;
 mod post;
 mod request;
 mod shown;
+mod sources;
 
 pub use bodies::{
     NOTHING, content_body, exception_body, frame_item, list_body, output_body, result_body,
@@ -18,7 +20,8 @@ pub use bodies::{
 pub use escape::{push_quoted, push_quoted_text};
 pub use frame::{FrameFault, LONGEST_MESSAGE, read_message, split_message};
 pub use messages::push_number;
-pub use parts::{Lines, Text, Texts};
+pub use missing::Argument;
+pub use parts::{LinePoint, LinePoints, Text, Texts};
 pub use post::Post;
 pub use request::{Command, Filter, Request, RequestFault, Stops, Wanted, read_request};
 pub use shown::{

@@ -19,4 +19,4 @@ mod variables;
 pub use frames::push_frames;
 pub use group::{Group, class_reference, group_of, set_reference};
 pub use scopes::push_scopes;
-pub use variables::push_variables;
+pub use variables::{push_variables, question_value};
