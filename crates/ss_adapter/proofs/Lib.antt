@@ -3,3 +3,4 @@ pub mod Least
 pub mod Returns
 pub mod Consoles
 pub mod OneAnswer
+pub mod Launches

@@ -1,5 +1,5 @@
 -- What is answered before a run is launched, and to launch.
-use Rattle.std.specs.Prelude.{ℕ, ◌≡◌, List, [], ◌∷◌, codes}
+use Rattle.std.specs.Prelude.{ℕ, ◌≡◌, List, [], ◌∷◌, ◌++◌, codes}
 use Rattle.ss_words.specs.Faults.{text_rule_code}
 use Rattle.ss_check.specs.CheckRules.{check_rule_code}
 use Rattle.ss_state.specs.Run.{input_with}
@@ -11,11 +11,14 @@ use Rattle.ss_session.specs.declared.load.LoadFault.{LoadFault}
 use Rattle.ss_session.specs.declared.load.LoadFault.TheVariants.{Text, Check, Memory}
 use Rattle.ss_messages.specs.declared.request.Stops.{Stops}
 use Rattle.ss_messages.specs.declared.request.Command.{Command}
-use Rattle.ss_messages.specs.declared.request.Command.TheVariants.{Initialize, Disconnect, Terminate, Bad, Unknown}
-use Rattle.ss_messages.specs.Messages.{Sent, reply, failure, event}
+use Rattle.ss_messages.specs.declared.request.Command.TheVariants.{Initialize, Disconnect, Terminate, Missing, Unknown}
+use Rattle.ss_messages.specs.Missing.{wanted_text}
+use Rattle.ss_messages.specs.declared.request.Request.{Request}
+use Rattle.ss_messages.specs.Messages.{Sent, PostView, posted_all, reply, failure, event}
 use Rattle.ss_messages.specs.Bodies.{output_body, without_last}
 use Rattle.ss_adapter.specs.declared.fixed.TheConstants.{CAPABILITIES}
 use Rattle.ss_adapter.specs.Desk.{DeskView}
+use Rattle.ss_adapter.specs.Refused.{IsExplained}
 use Rattle.ss_adapter.specs.Turn.{answer_to_terminate}
 
 -- what a request is answered with before a run is launched
@@ -23,18 +26,24 @@ unfoldable pub answers_before : Command → List Sent
 answers_before Initialize = reply CAPABILITIES.now ∷ []
 answers_before Disconnect = reply (codes "{}") ∷ []
 answers_before Terminate = answer_to_terminate
-answers_before Bad = failure (codes "an argument is missing") ∷ []
+answers_before (Missing argument) = failure (wanted_text argument) ∷ []
 answers_before Unknown = failure (codes "unknown request") ∷ []
 answers_before other = failure (codes "no run is launched") ∷ []
 
--- what launch is answered with: where the model is accepted
-abbrev pub answer_to_launch : List Sent
-answer_to_launch = reply (codes "{}") ∷ event (codes "initialized") (codes "{}") ∷ []
+-- what a model is warned of, as output, if it is of something
+abbrev pub warning_events : List ℕ → List Sent
+warning_events [] = []
+warning_events (b ∷ bs) = event (codes "output") (output_body (codes "console") (b ∷ bs)) ∷ []
 
--- where it is refused, with what is said of it
-abbrev pub answer_to_refused_launch : List ℕ → List Sent
-answer_to_refused_launch line =
-    failure (without_last line) ∷ event (codes "output") (output_body (codes "stderr") line) ∷ []
+-- what launch is answered with: where the model is accepted, and warned of this
+abbrev pub answer_to_launch : List ℕ → List Sent
+answer_to_launch warnings =
+    reply (codes "{}") ∷ warning_events warnings ++ event (codes "initialized") (codes "{}") ∷ []
+
+-- where it is refused: the line of the refusal, and what explains it
+abbrev pub answer_to_refused_launch : List ℕ → List ℕ → List Sent
+answer_to_refused_launch line said =
+    failure (without_last line) ∷ event (codes "output") (output_body (codes "stderr") (line ++ said)) ∷ []
 
 -- a debugger at the start of the run of a model over its data, and a desk on which nothing is set or told
 pub record IsLaunched (model text path : List ℕ) (stops : Stops) (debugger : DebuggerView) (k : DeskView) : Type 0 where
@@ -61,3 +70,9 @@ abbrev pub fault_line : LoadFault → List ℕ
 fault_line (Text rule line) = refusal_line (text_rule_code rule) line
 fault_line (Check rule line) = refusal_line (check_rule_code rule) line
 fault_line Memory = []
+
+-- a launch of a model that is refused for this: its line and what explains it were posted
+abbrev pub IsRefusedLaunch : LoadFault → List ℕ → Request → PostView → PostView → Type 0
+IsRefusedLaunch fault model request old new =
+    (said : List ℕ) × IsExplained fault model said
+    × (new ≡ posted_all request old (answer_to_refused_launch (fault_line fault) said))

@@ -1,5 +1,5 @@
 -- What the movements of a request are: those of the debugger, and no others.
-use Rattle.std.specs.Prelude.{ℕ, List, [], Option, Some, None, slice_get, unwrap_or, if◌then◌else◌}
+use Rattle.std.specs.Prelude.{ℕ, ◌&&◌, List, [], Option, Some, None, nat_le, slice_get, unwrap_or, if◌then◌else◌}
 use Rattle.ss_state.specs.Run.{Input}
 use Rattle.ss_debug.specs.declared.limits.TheConstants.{GREATEST_BOUND}
 use Rattle.ss_debug.specs.declared.commands.Command.TheVariants.{Move}
@@ -7,6 +7,7 @@ use Rattle.ss_debug.specs.declared.commands.Movement.TheVariants.{Step, Run, Bac
 use Rattle.ss_debug.specs.Turn as debugger
 use Rattle.ss_debug.specs.Turn.{DebuggerState}
 use Rattle.ss_trace.specs.Turn as trace
+use Rattle.ss_trace.specs.declared.movement.Movement.{Movement}
 use Rattle.ss_trace.specs.declared.movement.Movement.TheVariants.{Over, Out, BackOver, Go}
 use Rattle.ss_trace.specs.declared.question.Question.{Question}
 use Rattle.ss_messages.specs.declared.request.Command.{Command}
@@ -14,10 +15,14 @@ use Rattle.ss_messages.specs.declared.request.Command.TheVariants.{Continue, Nex
 use Rattle.ss_messages.specs.declared.request.Command.TheVariants.{ReverseContinue, Restart}
 use Rattle.ss_adapter.specs.declared.going.Going.{Going}
 use Rattle.ss_adapter.specs.declared.going.Going.TheVariants.{Standing, Traced, Watched}
+use Rattle.ss_adapter.specs.declared.going.Stride.{Stride}
+use Rattle.ss_adapter.specs.declared.going.Stride.TheVariants as stride
 use Rattle.ss_adapter.specs.declared.reach.Way.{Way}
 use Rattle.ss_adapter.specs.declared.reach.Way.TheVariants as way
 use Rattle.ss_adapter.specs.Looking.{question_of}
-use Rattle.ss_adapter.specs.Reach.{change_movement, nearest_place, says_change}
+use Rattle.ss_adapter.specs.declared.reach.Reach.{Reach}
+use Rattle.ss_adapter.specs.declared.reach.Found.{Found}
+use Rattle.ss_adapter.specs.Reach.{change_movement, movement_reach, reaches, nearest, nearest_place, says_change}
 
 -- the state of the debugger behind a movement
 abbrev pub state_behind : Input → DebuggerState → Going → DebuggerState
@@ -64,12 +69,30 @@ watched_going way watched (Some place) = change_going way place (question_of (un
 abbrev pub run_going : Input → DebuggerState → List (List ℕ) → Way → Going
 run_going input debugger watched way = watched_going way watched (nearest_place input debugger way watched)
 
+-- the movement of a stride: over what is called, or out of the section
+abbrev pub stride_movement : Stride → Movement
+stride_movement stride.Over = Over 1
+stride_movement stride.Out = Out
+
+-- OVER or OUT, or to the change of the data break point that is nearest, where that is no further
+abbrev pub step_by : List (List ℕ) → Movement → Reach → Option Found → Going
+step_by watched movement reach None = Traced movement
+step_by watched movement reach (Some f) =
+    if f.reach.met && nat_le f.reach.steps reach.steps then watched_going way.Forward watched (Some f.place)
+    else Traced movement
+
+-- the same, by how far each leads
+abbrev pub step_going : Input → DebuggerState → List (List ℕ) → Movement → Going
+step_going input debugger watched movement =
+    step_by watched movement (movement_reach input debugger movement)
+    (nearest (reaches input debugger way.Forward watched))
+
 -- the movement that a request asks for: OVER, STEP, OUT; BACK OVER, or BACK for a single step; GO 0
 abbrev pub going_of : Input → DebuggerState → List (List ℕ) → Command → Option Going
 going_of input debugger watched Continue = Some (run_going input debugger watched way.Forward)
-going_of input debugger watched Next = Some (Traced (Over 1))
+going_of input debugger watched Next = Some (step_going input debugger watched (Over 1))
 going_of input debugger watched StepIn = Some (Standing (Step 1))
-going_of input debugger watched StepOut = Some (Traced Out)
+going_of input debugger watched StepOut = Some (step_going input debugger watched Out)
 going_of input debugger watched (StepBack single) = Some (if single then Standing (Back 1) else Traced (BackOver 1))
 going_of input debugger watched ReverseContinue = Some (run_going input debugger watched way.Back)
 going_of input debugger watched Restart = Some (Traced (Go 0))

@@ -2,11 +2,13 @@ pub mod Desk
 pub mod Words
 pub mod Completions
 pub mod Places
+pub mod Named
 pub mod Looking
 pub mod Reach
 pub mod Going
 pub mod Watch
 pub mod Console
 pub mod Turn
+pub mod Refused
 pub mod Before
 pub mod Laws

@@ -9,15 +9,16 @@ use Rattle.ss_state.specs.declared.status.Status.TheVariants.{Ready, Stopped, Fi
 use Rattle.ss_state.specs.Run.{Input, run}
 use Rattle.ss_debug.specs.declared.commands.Command.{Command}
 use Rattle.ss_debug.specs.declared.commands.Command.TheVariants.{Show}
-use Rattle.ss_debug.specs.declared.commands.Question.TheVariants.{Entity, Variable}
 use Rattle.ss_debug.specs.Command.{command_of}
 use Rattle.ss_debug.specs.Answer.{status_text}
 use Rattle.ss_debug.specs.Move.{is_on_break, line_at}
 use Rattle.ss_trace.specs.declared.question.Question.{Question}
-use Rattle.ss_trace.specs.declared.question.Question.TheVariants.{Shown, Attribute}
+use Rattle.ss_trace.specs.declared.question.Question.TheVariants.{Shown}
+use Rattle.ss_prompt.specs.declared.commands.PromptCommand.{PromptCommand}
+use Rattle.ss_prompt.specs.declared.commands.PromptCommand.TheVariants.{Plain, Ask, Display}
+use Rattle.ss_prompt.specs.Reading.{prompt_command_of}
 use Rattle.ss_messages.specs.Bodies.{exception_body}
 use Rattle.ss_adapter.specs.Places.{line_id}
-use Rattle.ss_adapter.specs.Words.{before_word, last_word}
 
 -- ---- where the run stands
 
@@ -60,30 +61,23 @@ exception_by _ = None
 
 -- ---- questions
 
--- what a text says behind SHOW
-abbrev pub command_behind_show : List ℕ → Command
-command_behind_show text = command_of (codes "SHOW " ++ text)
-
--- what it says as the name of a variable
-abbrev pub command_behind_show_var : List ℕ → Command
-command_behind_show_var text = command_of (codes "SHOW VAR " ++ text)
-
--- the question of a command
+-- the question of a command of the debugger
 abbrev pub question_in : Command → Option Question
 question_in (Show q) = Some (Shown q)
 question_in _ = None
 
--- c k a: an entity as SHOW takes it, and the name of an attribute
-abbrev pub attribute_in : Command → Command → Option Question
-attribute_in (Show (Entity class x)) (Show (Variable name)) = Some (Attribute class x name)
-attribute_in _ _ = None
+-- the question that a line of the prompt asks, or has answered at each stop
+abbrev pub question_asked : PromptCommand → Option Question
+question_asked (Plain command) = question_in command
+question_asked (Ask x) = Some x
+question_asked (Display x) = Some x
+question_asked _ = None
 
--- the same as a text: the name is its last word
-abbrev pub attribute_of : List ℕ → Option Question
-attribute_of text = attribute_in (command_behind_show (before_word text)) (command_behind_show_var (last_word text))
-
--- the question that an expression is: what stands behind SHOW, an attribute, or the name of a variable
+-- the question that an expression is: what may follow SHOW, the name of a variable, what may follow DISPLAY, or a line
+-- of the prompt
 abbrev pub question_of : List ℕ → Option Question
 question_of text =
-    option_or (question_in (command_behind_show text))
-    (option_or (attribute_of text) (question_in (command_behind_show_var text)))
+    option_or (question_in (command_of (codes "SHOW " ++ text)))
+    (option_or (question_in (command_of (codes "SHOW VAR " ++ text)))
+    (option_or (question_asked (prompt_command_of (codes "DISPLAY " ++ text)))
+    (question_asked (prompt_command_of text))))

@@ -1,6 +1,6 @@
 -- Lines of the model on which a place stands, and the break lines of a request.
 use Rattle.std.specs.Prelude.{ℕ, ◌≡◌, ◌+◌, ◌^◌, Bool, ◌&&◌, List, [], ◌∷◌, ◌++◌, codes, map, flat_map, fold}
-use Rattle.std.specs.Prelude.{Option, Some, None, option_and_then, position, slice_get}
+use Rattle.std.specs.Prelude.{Option, Some, None, option_and_then, position, slice_get, zero, suc}
 use Rattle.std.specs.Prelude.{if◌then◌else◌, nat_le, nat_lt}
 use Rattle.std.specs.Str.{bytes_eq}
 use Rattle.ss_program.specs.Program.{ProgramTable, SectionTable}
@@ -9,6 +9,7 @@ use Rattle.ss_debug.specs.BreakLines.{breaks_after_set, without_line}
 use Rattle.ss_debug.specs.Answer.{break_text}
 use Rattle.ss_debug.specs.Turn.{DebuggerState, debugger_state_with}
 use Rattle.ss_messages.specs.Bodies.{set_item, unset_item}
+use Rattle.ss_messages.specs.declared.parts.LinePoint.{LinePoint}
 use Rattle.ss_adapter.specs.declared.desk.TheConstants.{MOST_WATCHED}
 
 -- the lines of the places of a section
@@ -70,6 +71,12 @@ with_next reason setting None =
 abbrev pub with_asked : ProgramTable → Setting → ℕ → Setting
 with_asked program setting line = with_next (codes "no statement stands here") setting (next_line program line)
 
+-- that for a break point of a request, if it stops each time
+abbrev pub with_point : ProgramTable → Setting → LinePoint → Setting
+with_point program setting point =
+    if point.is_plain then with_asked program setting point.line
+    else with_next (codes "conditions, counts of hits and messages are not heeded") setting None
+
 -- the line of a place
 abbrev pub spot_line : Option Spot → Option ℕ
 spot_line None = None
@@ -103,12 +110,17 @@ abbrev pub initial_setting : List ℕ → List ℕ → List ℕ → Setting
 initial_setting breaks set kept = record { breaks = breaks_left breaks set kept; set = []; text = [] }
 
 -- the break lines behind a request that names lines
-abbrev pub setting_of : ProgramTable → List ℕ → List ℕ → List ℕ → List ℕ → Setting
-setting_of program breaks set kept asked = fold (with_asked program) (initial_setting breaks set kept) asked
+abbrev pub setting_of : ProgramTable → List ℕ → List ℕ → List ℕ → List LinePoint → Setting
+setting_of program breaks set kept points = fold (with_point program) (initial_setting breaks set kept) points
 
 -- the break lines behind a request that names sections
 abbrev pub section_setting_of : ProgramTable → List ℕ → List ℕ → List ℕ → List (List ℕ) → Setting
 section_setting_of program breaks set kept names = fold (with_named program) (initial_setting breaks set kept) names
+
+-- so many break points that are not set, for this reason
+abbrev pub unset_items : List ℕ → ℕ → List ℕ
+unset_items reason zero = []
+unset_items reason (suc n) = unset_items reason n ++ unset_item reason
 
 -- what was set, and what is said of it
 abbrev pub IsSetting : DebuggerState → DebuggerState → List ℕ → List ℕ → Setting → Type 0

@@ -9,7 +9,7 @@ use Rattle.ss_debug.specs.Answer.{state_line}
 use Rattle.ss_debug.specs.Turn.{DebuggerState, debugger_state_with}
 use Rattle.ss_debug.specs.View.{DebuggerView, debugger_state_of}
 use Rattle.ss_trace.specs.declared.question.Question.{Question}
-use Rattle.ss_trace.specs.Question.{answer_at}
+use Rattle.ss_trace.specs.Value.{value_at}
 use Rattle.ss_prompt.specs.declared.commands.PromptCommand.{PromptCommand}
 use Rattle.ss_prompt.specs.PromptState.{PromptState}
 use Rattle.ss_prompt.specs.Points.{is_movement, point_of}
@@ -23,7 +23,9 @@ use Rattle.ss_messages.specs.declared.request.Command.TheVariants.{SetDataBreakp
 use Rattle.ss_messages.specs.declared.request.Command.TheVariants.{Threads, StackTrace, Scopes, Variables}
 use Rattle.ss_messages.specs.declared.request.Command.TheVariants.{Obey, Ask, Completions, Source}
 use Rattle.ss_messages.specs.declared.request.Command.TheVariants.{LoadedSources, ExceptionInfo}
-use Rattle.ss_messages.specs.declared.request.Command.TheVariants.{Pause, Disconnect, Terminate, Bad, Unknown}
+use Rattle.ss_messages.specs.declared.request.Command.TheVariants.{Pause, Disconnect, Terminate, Missing, Unknown}
+use Rattle.ss_messages.specs.declared.parts.LinePoint.{LinePoint}
+use Rattle.ss_messages.specs.Missing.{wanted_text}
 use Rattle.ss_messages.specs.Messages.{Sent, reply, failure, event}
 use Rattle.ss_messages.specs.Bodies.{stopped_body, output_body, result_body, content_body, sources_body, list_body}
 use Rattle.ss_messages.specs.Bodies.{without_last}
@@ -32,15 +34,18 @@ use Rattle.ss_scopes.specs.Frames.{frames_page, frame_count}
 use Rattle.ss_scopes.specs.Variables.{scopes_text, variables_text}
 use Rattle.ss_adapter.specs.declared.fixed.TheConstants.{CAPABILITIES, THREADS, NO_EXIT}
 use Rattle.ss_adapter.specs.declared.setting.TheConstants.{MOST_POINTS}
+use Rattle.ss_trace.specs.declared.movement.Movement.TheVariants.{GoEnd}
 use Rattle.ss_adapter.specs.declared.going.Going.{Going}
+use Rattle.ss_adapter.specs.declared.going.Going.TheVariants.{Traced}
 use Rattle.ss_adapter.specs.declared.turns.Further.{Further}
 use Rattle.ss_adapter.specs.declared.turns.Further.TheVariants as further
 use Rattle.ss_adapter.specs.declared.reach.Way.TheVariants.{Forward}
 use Rattle.ss_adapter.specs.Going.{going_of, run_going, state_behind, going_answer, watched_by}
 use Rattle.ss_adapter.specs.Looking.{reason_at, hit_at, is_over, exception_by, question_of}
+use Rattle.ss_adapter.specs.Named.{is_named}
 use Rattle.ss_adapter.specs.Completions.{completions}
 use Rattle.ss_adapter.specs.Console.{point_told, desk_with, desk_showing, first_line}
-use Rattle.ss_adapter.specs.Places.{Setting, setting_of, section_setting_of}
+use Rattle.ss_adapter.specs.Places.{Setting, setting_of, section_setting_of, unset_items}
 use Rattle.ss_adapter.specs.Watch.{watching_of, info_of}
 use Rattle.ss_adapter.specs.Desk.{DeskView}
 
@@ -138,9 +143,11 @@ abbrev pub reply_with_going : AdapterState → List ℕ → Going → List Sent
 reply_with_going state body going =
     reply body ∷ behind_going state going (going_answer state.input state.debugger going)
 
--- to where the run stops
+-- to where the run stops; where it is not debugged, to its end
 abbrev pub going_to_stop : AdapterState → Going
-going_to_stop state = run_going state.input state.debugger state.desk.watched Forward
+going_to_stop state =
+    if state.desk.stops.at_points then run_going state.input state.debugger state.desk.watched Forward
+    else Traced GoEnd
 
 -- a reply, and where the run stands
 abbrev pub reply_with_stop : Input → ℕ → List ℕ → List Sent
@@ -187,25 +194,46 @@ abbrev pub answer_to_line : AdapterState → PromptCommand → List Sent
 answer_to_line state command =
     reply (result_body (console_answer state command)) ∷ behind_command state command (is_movement command)
 
--- a question that is answered
+-- a question that is answered: by its value, if it is one on the program
 abbrev pub answer_to_question : Input → ℕ → Option Question → List Sent
-answer_to_question input p (Some q) = reply (result_body (without_last (answer_at input q p))) ∷ []
 answer_to_question input p None = failure (codes "no question") ∷ []
+answer_to_question input p (Some q) =
+    if is_named input.program q then reply (result_body (value_at input q p)) ∷ []
+    else failure (codes "nothing has this name") ∷ []
 
 -- what is told of a fault
 abbrev pub answer_on_fault : Option (List ℕ) → List Sent
 answer_on_fault (Some body) = reply body ∷ []
 answer_on_fault None = failure (codes "no fault") ∷ []
 
--- the first of some lines
-unfoldable pub first_lines : ℕ → List ℕ → List ℕ
-first_lines n lines = take n lines
+-- the first of some break points
+unfoldable pub first_points : ℕ → List LinePoint → List LinePoint
+first_points n points = take n points
 
 -- the break lines behind a request
-abbrev pub setting_in : AdapterState → List ℕ → Setting
-setting_in state lines =
+abbrev pub setting_in : AdapterState → List LinePoint → Setting
+setting_in state points =
     setting_of state.input.program state.debugger.breaks state.desk.set state.desk.sections
-    (first_lines MOST_POINTS lines)
+    (first_points MOST_POINTS points)
+
+-- so many break points of a request that are not set, for this reason
+abbrev pub answer_unset : List ℕ → ℕ → List Sent
+answer_unset reason n = reply (list_body (codes "breakpoints") (unset_items reason n)) ∷ []
+
+-- what a request is answered with that sets so many break points of another file than the model
+abbrev pub answers_elsewhere : ℕ → List Sent
+answers_elsewhere n = answer_unset (codes "another file than the model") n
+
+-- how many break points a request sets
+abbrev pub point_count : Command → Option ℕ
+point_count (SetBreakpoints path points) = Some (length points)
+point_count (SetFunctionBreakpoints names) = Some (length names)
+point_count (SetDataBreakpoints ids) = Some (length ids)
+point_count other = None
+
+-- how many of them are not set, since the run is not debugged
+abbrev pub undebugged_count : AdapterState → Command → Option ℕ
+undebugged_count state command = if state.desk.stops.at_points then None else point_count command
 
 -- the break lines behind a request that names sections
 abbrev pub sections_in : AdapterState → List (List ℕ) → Setting
@@ -257,19 +285,30 @@ answer_about_run state LoadedSources = reply (sources_body state.desk.path) ∷ 
 answer_about_run state ExceptionInfo = answer_on_fault (exception_by (run state.input state.debugger.position).status)
 answer_about_run state Pause = reply_with_stop state.input state.debugger.position (codes "pause")
 answer_about_run state Terminate = answer_to_terminate
-answer_about_run state Bad = failure (codes "an argument is missing") ∷ []
+answer_about_run state (Missing argument) = failure (wanted_text argument) ∷ []
 answer_about_run state Unknown = failure (codes "unknown request") ∷ []
 answer_about_run state other = reply (codes "{}") ∷ []
 
--- what a request is answered with that asks for no movement
-unfoldable pub told_of : AdapterState → Command → List Sent
-told_of state (SetBreakpoints lines) = reply (list_body (codes "breakpoints") (setting_in state lines).text) ∷ []
-told_of state (SetFunctionBreakpoints names) =
+-- what a request is answered with that asks for no movement, where all its break points may be set
+unfoldable pub told_debugged : AdapterState → Command → List Sent
+told_debugged state (SetBreakpoints path points) =
+    reply (list_body (codes "breakpoints") (setting_in state points).text) ∷ []
+told_debugged state (SetFunctionBreakpoints names) =
     reply (list_body (codes "breakpoints") (sections_in state names).text) ∷ []
-told_of state (SetDataBreakpoints ids) = reply (list_body (codes "breakpoints") (watching_of ids).text) ∷ []
-told_of state ConfigurationDone = answer_to_configuration state
-told_of state (Obey text) = answer_to_line state (prompt_command_of text)
-told_of state other = answer_about_run state other
+told_debugged state (SetDataBreakpoints ids) =
+    reply (list_body (codes "breakpoints") (watching_of state.input.program ids).text) ∷ []
+told_debugged state ConfigurationDone = answer_to_configuration state
+told_debugged state (Obey text) = answer_to_line state (prompt_command_of text)
+told_debugged state other = answer_about_run state other
+
+-- the same, where so many of them are not set, since the run is not debugged
+abbrev pub told_by : AdapterState → Command → Option ℕ → List Sent
+told_by state command None = told_debugged state command
+told_by state command (Some n) = answer_unset (codes "the run is not debugged") n
+
+-- what a request is answered with that asks for no movement
+abbrev pub told_of : AdapterState → Command → List Sent
+told_of state command = told_by state command (undebugged_count state command)
 
 -- what a request is answered with: where it asks for a movement, what follows that
 abbrev pub answers_by : AdapterState → Command → Option Going → List Sent
@@ -366,7 +405,11 @@ once_configured state = record {
     sections = state.desk.sections;
     watched = state.desk.watched;
     told = state.desk.told;
-    stops = record { at_start = true; at_end = state.desk.stops.at_end };
+    stops = record {
+      at_start = true;
+      at_points = state.desk.stops.at_points;
+      at_end = state.desk.stops.at_end;
+    };
   };
 }
 
@@ -377,14 +420,23 @@ behind_configuring state =
     (if state.desk.stops.at_start then state
     else adapter_state_at state (state_behind state.input state.debugger (going_to_stop state)))
 
+-- behind a request that asks for no movement, where all its break points may be set
+unfoldable pub left_debugged : AdapterState → Command → AdapterState
+left_debugged state (SetBreakpoints path points) = behind_setting state (setting_in state points)
+left_debugged state (SetFunctionBreakpoints names) = behind_sections state (sections_in state names)
+left_debugged state (SetDataBreakpoints ids) = behind_watching state (watching_of state.input.program ids).watched
+left_debugged state ConfigurationDone = behind_configuring state
+left_debugged state (Obey text) = behind_line state (prompt_command_of text)
+left_debugged state other = state
+
+-- the same, where so many of them are not set: nothing changes
+abbrev pub left_with : AdapterState → Command → Option ℕ → AdapterState
+left_with state command None = left_debugged state command
+left_with state command (Some n) = state
+
 -- behind a request that asks for no movement
-unfoldable pub left_by : AdapterState → Command → AdapterState
-left_by state (SetBreakpoints lines) = behind_setting state (setting_in state lines)
-left_by state (SetFunctionBreakpoints names) = behind_sections state (sections_in state names)
-left_by state (SetDataBreakpoints ids) = behind_watching state (watching_of ids).watched
-left_by state ConfigurationDone = behind_configuring state
-left_by state (Obey text) = behind_line state (prompt_command_of text)
-left_by state other = state
+abbrev pub left_by : AdapterState → Command → AdapterState
+left_by state command = left_with state command (undebugged_count state command)
 
 -- behind a request that asks for a movement, or none
 abbrev pub state_by : AdapterState → Command → Option Going → AdapterState

@@ -1,6 +1,6 @@
 -- The questions that are data break points, and which part of a state has one.
-use Rattle.std.specs.Prelude.{ℕ, ◌≡◌, ◌+◌, Bool, true, false, List, [], ◌∷◌, ◌++◌, codes, decimal, fold}
-use Rattle.std.specs.Prelude.{Option, Some, None, is_some, nat_eq, nat_lt, length, if◌then◌else◌}
+use Rattle.std.specs.Prelude.{ℕ, ◌≡◌, ◌+◌, List, [], ◌∷◌, ◌++◌, codes, decimal, fold}
+use Rattle.std.specs.Prelude.{Option, Some, None, nat_eq, nat_lt, length, if◌then◌else◌}
 use Rattle.std.specs.Str.{bytes_eq}
 use Rattle.ss_program.specs.declared.kinds.Owner.{Owner}
 use Rattle.ss_program.specs.declared.kinds.Owner.TheVariants.{System, OwnedBy}
@@ -14,6 +14,7 @@ use Rattle.ss_scopes.specs.declared.group.Group.TheVariants.{Locals, Entity, Set
 use Rattle.ss_scopes.specs.References.{group_of}
 use Rattle.ss_adapter.specs.declared.desk.TheConstants.{MOST_WATCHED}
 use Rattle.ss_adapter.specs.Looking.{question_of}
+use Rattle.ss_adapter.specs.Named.{question_fault}
 use Rattle.ss_adapter.specs.Words.{last_word}
 
 -- ---- data break points of a request
@@ -29,10 +30,10 @@ pub record Watching : Type 0 where
 abbrev pub with_refusal : Watching → List ℕ → Watching
 with_refusal watching reason = record { watched = watching.watched; text = watching.text ++ unset_item reason }
 
--- one more, which is a question or is none: its number is its place, counted from 1 on
-abbrev pub with_question : Watching → List ℕ → Bool → Watching
-with_question watching id false = with_refusal watching (codes "no question")
-with_question watching id true =
+-- one more, which is a question, or is none for a reason: its number is its place, counted from 1 on
+abbrev pub with_question : Watching → List ℕ → Option (List ℕ) → Watching
+with_question watching id (Some reason) = with_refusal watching reason
+with_question watching id None =
     if nat_lt (length watching.watched) MOST_WATCHED
     then record {
       watched = watching.watched ++ id ∷ [];
@@ -42,12 +43,12 @@ with_question watching id true =
     else with_refusal watching (codes "too many data break points")
 
 -- one more
-unfoldable pub with_watched : Watching → List ℕ → Watching
-with_watched watching id = with_question watching id (is_some (question_of id))
+unfoldable pub with_watched : ProgramTable → Watching → List ℕ → Watching
+with_watched program watching id = with_question watching id (question_fault program (question_of id))
 
 -- those of a request
-abbrev pub watching_of : List (List ℕ) → Watching
-watching_of ids = fold with_watched (record { watched = []; text = [] }) ids
+abbrev pub watching_of : ProgramTable → List (List ℕ) → Watching
+watching_of program ids = fold (with_watched program) (record { watched = []; text = [] }) ids
 
 -- what was set, and what is said of it
 abbrev pub IsWatching : List (List ℕ) → List ℕ → Watching → Type 0
@@ -117,11 +118,17 @@ asked_text program name (Entity c k) = entity_asked program c k name
 asked_text program name (Set s) = owned_asked program s name
 asked_text program name _ = []
 
--- whether a text may be a data break point: where it is a question
-abbrev pub info_by : List ℕ → List ℕ
-info_by text = if is_some (question_of text) then info_body text else no_info_body (codes "no question")
+-- that a text may be a data break point, or why not
+abbrev pub info_with : List ℕ → Option (List ℕ) → List ℕ
+info_with text None = info_body text
+info_with text (Some reason) = no_info_body reason
+
+-- whether a text may be a data break point: where it is a question on the program
+abbrev pub info_by : ProgramTable → List ℕ → List ℕ
+info_by program text = info_with text (question_fault program (question_of text))
 
 -- whether a name in a reference may be a data break point; without a reference it is an expression
 abbrev pub info_of : ProgramTable → ℕ → List ℕ → List ℕ
 info_of program reference name =
-    if nat_eq reference 0 then info_by name else info_by (asked_text program name (group_of reference))
+    if nat_eq reference 0 then info_by program name
+    else info_by program (asked_text program name (group_of reference))

@@ -16,17 +16,18 @@ use crate::completions::completions;
 use crate::desk::Desk;
 use crate::fixed::{CAPABILITIES, THREADS};
 use crate::looking::{exception, question};
+use crate::named::is_named;
 use crate::telling::{tell_here, tell_over};
 use crate::watch::info;
 use ss_debug::Debugger;
 use ss_links::SetBoard;
 use ss_messages::{
     Command, NOTHING, Post, Request, Wanted, content_body, frames_body, list_body, result_body,
-    sources_body, without_last,
+    sources_body,
 };
 use ss_program::Program;
-use ss_scopes::{push_frames, push_scopes, push_variables};
-use ss_trace::{Question, push_answer};
+use ss_scopes::{push_frames, push_scopes, push_variables, question_value};
+use ss_trace::Question;
 use std::alloc::AllocError;
 
 /// Answers a question, if there is one.
@@ -41,15 +42,15 @@ fn answer_question<S: SetBoard>(
     ensures { OnOk result (post.new ≡ posted_all request.now post.old
         (answer_to_question debugger.now.machine.input (position debugger.now.machine) question)) }
 {
-    match question {
-        Some(question) => {
-            let mut answer = Vec::new(post.alloc());
-            push_answer(debugger, &question, &mut answer)?;
-            let body = result_body(post.alloc(), without_last(&answer))?;
-            post.reply(request, &body)
-        }
-        None => post.fail(request, b"no question"),
+    let Some(question) = question else {
+        return post.fail(request, b"no question");
+    };
+    if !is_named(debugger.machine().program(), &question) {
+        return post.fail(request, b"nothing has this name");
     }
+    let value = question_value(post.alloc(), debugger, &question)?;
+    let body = result_body(post.alloc(), &value)?;
+    post.reply(request, &body)
 }
 
 /// Answers the question that an expression is.
@@ -259,7 +260,7 @@ pub fn look<S: SetBoard>(
         Command::ExceptionInfo => tell_exception(debugger, request, post),
         Command::Pause => tell_here(debugger, request, post, b"pause"),
         Command::Terminate => terminate(request, post),
-        Command::Bad => post.fail(request, b"an argument is missing"),
+        Command::Missing(argument) => post.fail(request, argument.wanted_text()),
         Command::Unknown => post.fail(request, b"unknown request"),
         _ => post.reply(request, NOTHING),
     }

@@ -21,7 +21,7 @@ fn answer_before(request: &Request, post: &mut Post) -> Result<(), AllocError>
         Command::Initialize => post.reply(request, CAPABILITIES),
         Command::Disconnect => post.reply(request, NOTHING),
         Command::Terminate => terminate(request, post),
-        Command::Bad => post.fail(request, b"an argument is missing"),
+        Command::Missing(argument) => post.fail(request, argument.wanted_text()),
         Command::Unknown => post.fail(request, b"unknown request"),
         _ => post.fail(request, b"no run is launched"),
     }

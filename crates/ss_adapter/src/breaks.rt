@@ -6,13 +6,13 @@ ghost use Rattle.ss_debug.specs.Turn.{debugger_state_with};
 ghost use Rattle.ss_messages.specs.Bodies.{unset_item};
 ghost use Rattle.ss_adapter.specs.Places.{nearer_line, next_line, first_place_line, named_line};
 ghost use Rattle.ss_adapter.specs.Places.{without_lines, breaks_left};
-ghost use Rattle.ss_adapter.specs.Places.{with_next, with_asked, with_named, setting_of, section_setting_of};
+ghost use Rattle.ss_adapter.specs.Places.{with_next, with_asked, with_point, with_named, unset_items, setting_of, section_setting_of};
 ghost use Rattle.ss_adapter.specs.Places.{IsSetting};
 
 use crate::desk::MOST_WATCHED;
 use ss_debug::{Command, Debugger, obey};
 use ss_links::SetBoard;
-use ss_messages::{Text, set_item, unset_item};
+use ss_messages::{LinePoint, Text, set_item, unset_item};
 use ss_program::{Program, Section, Spot};
 use std::alloc::{AllocError, Global};
 
@@ -149,6 +149,21 @@ pub fn push_unset(
     text.extend_from_slice(&item)
 }
 
+/// Appends so many break points that are not set, for one reason.
+pub fn push_all_unset(
+    alloc: Global,
+    text: &mut Vec<u8>,
+    reason: &'static [u8],
+    count: usize,
+) -> Result<(), AllocError>
+    ensures { OnOk result (text.new.items ≡ text.old.items ++ unset_items reason.now count) }
+{
+    for _place in 0..count {
+        push_unset(alloc, text, reason)?;
+    }
+    Ok(())
+}
+
 /// Sets a break line, if there is one, and tells where, or why not.
 #[tactic(auto, unfolding(ss_debug::proofs::Unfoldings::turns))]
 fn set_next<S: SetBoard>(
@@ -208,6 +223,31 @@ fn set_line<S: SetBoard>(
     )
 }
 
+/// Sets the break line for a break point of a request, if it stops each time.
+fn set_point<S: SetBoard>(
+    alloc: Global,
+    debugger: &mut Debugger<S>,
+    set: &mut Vec<u32>,
+    text: &mut Vec<u8>,
+    point: &LinePoint,
+) -> Result<(), AllocError>
+    ensures input { debugger.new.machine.input ≡ debugger.old.machine.input }
+    ensures state { OnOk result (IsSetting (debugger_state_of debugger.old)
+        (debugger_state_of debugger.new) set.new.items text.new.items (with_point
+        debugger.old.machine.input.program
+        (record { breaks = debugger.old.breaks; set = set.old.items; text = text.old.items })
+        point.now)) }
+{
+    if point.is_plain {
+        return set_line(alloc, debugger, set, text, point.line);
+    }
+    push_unset(
+        alloc,
+        text,
+        b"conditions, counts of hits and messages are not heeded",
+    )
+}
+
 /// Sets the break line for a section that a request names.
 fn set_section<S: SetBoard>(
     alloc: Global,
@@ -242,18 +282,18 @@ pub fn set_lines<S: SetBoard>(
     set: &mut Vec<u32>,
     kept: &[u32],
     text: &mut Vec<u8>,
-    asked: &[u64],
+    points: &[LinePoint],
 ) -> Result<(), AllocError>
     requires { text.old.items ≡ [] }
     ensures input { debugger.new.machine.input ≡ debugger.old.machine.input }
     ensures state { OnOk result (IsSetting (debugger_state_of debugger.old)
         (debugger_state_of debugger.new) set.new.items text.new.items (setting_of
-        debugger.old.machine.input.program debugger.old.breaks set.old.items kept.now asked.now)) }
+        debugger.old.machine.input.program debugger.old.breaks set.old.items kept.now points.now)) }
 {
     clear(alloc, debugger, set, kept)?;
     set.clear();
-    for line in asked {
-        set_line(alloc, debugger, set, text, *line)?;
+    for point in points {
+        set_point(alloc, debugger, set, text, point)?;
     }
     Ok(())
 }

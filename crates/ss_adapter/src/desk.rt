@@ -48,6 +48,13 @@ impl Model for Desk {
 }
 
 impl Desk {
+    /// The path of the model.
+    pub fn path(&self) -> &[u8]
+        ensures { result.now ≡ self.now.path }
+    {
+        &self.path
+    }
+
     /// Nothing is set or told yet.
     pub fn new(alloc: Global, path: Vec<u8>, model: Vec<u8>, stops: Stops) -> Self
         ensures { result ≡ record {

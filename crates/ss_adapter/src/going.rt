@@ -3,9 +3,10 @@ ghost use Rattle.std.specs.Prelude.{◌≡◌, ◌++◌, [], IfOk, OnOk};
 ghost use Rattle.ss_debug.specs.View.{debugger_state_of};
 ghost use Rattle.ss_adapter.specs.Going.{state_behind, going_answer, place_of, place_met, watched_by};
 ghost use Rattle.ss_adapter.specs.Going.{plain_going, change_going, watched_going, run_going, going_of};
+ghost use Rattle.ss_adapter.specs.Going.{stride_movement, step_going};
 
 use crate::looking::question;
-use crate::reach::{Way, change_movement, nearest_place, says_change};
+use crate::reach::{Way, change_movement, movement_reach, nearest, nearest_place, says_change};
 use ss_debug::{Debugger, GREATEST_BOUND, obey};
 use ss_links::SetBoard;
 use ss_messages::{Command, Text};
@@ -94,6 +95,50 @@ pub fn run_going<S: SetBoard>(
     watched_going(alloc, way, watched, place)
 }
 
+/// A movement that a data break point may end.
+#[derive(Clone, Copy)]
+pub enum Stride {
+    /// Over what is called.
+    Over,
+    /// Out of the section.
+    Out,
+}
+
+/// The movement of a stride.
+fn stride_movement(stride: Stride) -> ss_trace::Movement
+    ensures { result ≡ stride_movement stride }
+{
+    match stride {
+        Stride::Over => ss_trace::Movement::Over(1),
+        Stride::Out => ss_trace::Movement::Out,
+    }
+}
+
+/// OVER or OUT, or to the change of the data break point that is nearest, where that is no further.
+///
+/// `AllocError` where memory was refused; then the debugger may stand elsewhere in the same run.
+fn step_going<S: SetBoard>(
+    alloc: Global,
+    debugger: &mut Debugger<S>,
+    watched: &[Text],
+    stride: Stride,
+) -> Result<Going, AllocError>
+    ensures input { debugger.new.machine.input ≡ debugger.old.machine.input }
+    ensures state { OnOk result (debugger_state_of debugger.new
+        ≡ debugger_state_of debugger.old) }
+    ensures going { IfOk result (λ going. going ≡ step_going debugger.old.machine.input
+        (debugger_state_of debugger.old) watched.now (stride_movement stride)) }
+{
+    let Some(found) = nearest(alloc, debugger, Way::Forward, watched)? else {
+        return Ok(Going::Traced(stride_movement(stride)));
+    };
+    let reach = movement_reach(alloc, debugger, stride_movement(stride))?;
+    if found.reach.met && found.reach.steps <= reach.steps {
+        return watched_going(alloc, Way::Forward, watched, Some(found.place));
+    }
+    Ok(Going::Traced(stride_movement(stride)))
+}
+
 /// The movement that a request asks for.
 pub fn asked_movement<S: SetBoard>(
     alloc: Global,
@@ -109,9 +154,9 @@ pub fn asked_movement<S: SetBoard>(
 {
     let going = match command {
         Command::Continue => run_going(alloc, debugger, watched, Way::Forward)?,
-        Command::Next => Going::Traced(ss_trace::Movement::Over(1)),
+        Command::Next => step_going(alloc, debugger, watched, Stride::Over)?,
         Command::StepIn => Going::Standing(ss_debug::Movement::Step(1)),
-        Command::StepOut => Going::Traced(ss_trace::Movement::Out),
+        Command::StepOut => step_going(alloc, debugger, watched, Stride::Out)?,
         Command::StepBack(true) => Going::Standing(ss_debug::Movement::Back(1)),
         Command::StepBack(false) => Going::Traced(ss_trace::Movement::BackOver(1)),
         Command::ReverseContinue => run_going(alloc, debugger, watched, Way::Back)?,

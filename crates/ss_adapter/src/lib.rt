@@ -12,8 +12,10 @@ mod going;
 mod laws;
 mod looking;
 mod moving;
+mod named;
 mod opening;
 mod reach;
+mod refused;
 mod setting;
 mod shown;
 mod telling;
@@ -27,4 +29,4 @@ pub use laws::{
     each_request_has_one_answer, nearest_change_is_least, nearest_change_is_one_of_them,
 };
 pub use opening::launch;
-pub use turns::{Further, turn};
+pub use turns::{Further, turn, turn_elsewhere};

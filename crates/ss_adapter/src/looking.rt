@@ -1,20 +1,19 @@
 //! What a state shows.
 ghost use Rattle.std.specs.Prelude.{◌≡◌, ◌++◌, ◌+◌, ◌<◌, codes, decimal, IfOk, option_map};
-ghost use Rattle.ss_debug.specs.Command.{command_of};
 ghost use Rattle.ss_debug.specs.Move.{line_at};
 ghost use Rattle.ss_machine.specs.Moment.{position};
 ghost use Rattle.ss_state.specs.Run.{run};
 ghost use Rattle.ss_adapter.specs.Looking.{reason_at, hit_at, is_end, is_over, exception_by};
-ghost use Rattle.ss_adapter.specs.Looking.{question_in, attribute_in, attribute_of, question_of};
+ghost use Rattle.ss_adapter.specs.Looking.{question_in, question_asked, question_of};
 ghost use Rattle.ss_adapter.specs.Places.{line_id};
 
 use crate::desk::MOST_WATCHED;
-use crate::words::{before_word, last_word};
 use itoa::Buffer;
-use ss_debug::{Command, Debugger, Question as Shown, command};
+use ss_debug::{Command, Debugger, command};
 use ss_links::SetBoard;
 use ss_machine::Machine;
 use ss_messages::exception_body;
+use ss_prompt::{PromptCommand, prompt_command};
 use ss_sentences::fault_sentence;
 use ss_state::Status;
 use ss_trace::Question;
@@ -118,7 +117,7 @@ pub fn exception<S: SetBoard>(
     }
 }
 
-/// The question of a command.
+/// The question of a command of the debugger.
 fn question_in(command: Command) -> Option<Question>
     ensures { result ≡ question_in command }
 {
@@ -128,47 +127,40 @@ fn question_in(command: Command) -> Option<Question>
     }
 }
 
-/// What a text says behind the beginning of a line.
-fn command_behind(alloc: Global, head: &'static [u8], text: &[u8]) -> Result<Command, AllocError>
-    ensures { IfOk result (λ line. line ≡ command_of (head.now ++ text.now)) }
+/// The question that a line of the prompt asks, or has answered at each stop.
+fn question_asked(command: PromptCommand) -> Option<Question>
+    ensures { result ≡ question_asked command }
+{
+    match command {
+        PromptCommand::Plain(command) => question_in(command),
+        PromptCommand::Ask(question) | PromptCommand::Display(question) => Some(question),
+        _ => None,
+    }
+}
+
+/// A text behind the beginning of a line.
+fn line_behind(alloc: Global, head: &'static [u8], text: &[u8]) -> Result<Vec<u8>, AllocError>
+    ensures { IfOk result (λ line. line.items ≡ head.now ++ text.now) }
 {
     let mut line = Vec::from_slice(alloc, head)?;
     line.extend_from_slice(text)?;
-    Ok(command(&line))
+    Ok(line)
 }
 
-/// An entity as SHOW takes it, and the name of an attribute.
-fn attribute_in(entity: Command, name: Command) -> Option<Question>
-    ensures { result ≡ attribute_in entity name }
-{
-    let Command::Show(Shown::Entity(class, x)) = entity else {
-        return None;
-    };
-    let Command::Show(Shown::Variable(name)) = name else {
-        return None;
-    };
-    Some(Question::Attribute(class, x, name))
-}
-
-/// The attribute that an expression is, whose last word is its name.
-fn attribute(alloc: Global, text: &[u8]) -> Result<Option<Question>, AllocError>
-    ensures { IfOk result (λ question. question ≡ attribute_of text.now) }
-{
-    let entity = command_behind(alloc, b"SHOW ", before_word(text))?;
-    let name = command_behind(alloc, b"SHOW VAR ", last_word(text))?;
-    Ok(attribute_in(entity, name))
-}
-
-/// The question that an expression is: what stands behind SHOW, an attribute, or the name of a
-/// variable.
+/// The question that an expression is: what may follow SHOW, the name of a variable, what may follow
+/// DISPLAY, or a line of the prompt.
 pub fn question(alloc: Global, text: &[u8]) -> Result<Option<Question>, AllocError>
     ensures { IfOk result (λ question. question ≡ question_of text.now) }
 {
-    if let Some(question) = question_in(command_behind(alloc, b"SHOW ", text)?) {
+    if let Some(question) = question_in(command(&line_behind(alloc, b"SHOW ", text)?)) {
         return Ok(Some(question));
     }
-    if let Some(question) = attribute(alloc, text)? {
+    if let Some(question) = question_in(command(&line_behind(alloc, b"SHOW VAR ", text)?)) {
         return Ok(Some(question));
     }
-    Ok(question_in(command_behind(alloc, b"SHOW VAR ", text)?))
+    let line = line_behind(alloc, b"DISPLAY ", text)?;
+    if let Some(question) = question_asked(prompt_command(&line)) {
+        return Ok(Some(question));
+    }
+    Ok(question_asked(prompt_command(text)))
 }

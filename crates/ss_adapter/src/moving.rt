@@ -1,10 +1,10 @@
 //! Requests that move the run.
-ghost use Rattle.std.specs.Prelude.{◌≡◌, ◌+◌, ◌-◌, ◌^◌, ◌<◌, codes, OnOk};
+ghost use Rattle.std.specs.Prelude.{◌≡◌, ◌+◌, ◌-◌, ◌^◌, ◌<◌, codes, IfOk, OnOk};
 ghost use Rattle.ss_debug.specs.View.{debugger_state_of};
 ghost use Rattle.ss_messages.specs.Messages.{posted_all};
 ghost use Rattle.ss_adapter.specs.Going.{state_behind};
 ghost use Rattle.ss_adapter.specs.Turn.{adapter_state_of, adapter_state_at, reply_with_going};
-ghost use Rattle.ss_adapter.specs.Turn.{answer_to_configuration, behind_configuring};
+ghost use Rattle.ss_adapter.specs.Turn.{going_to_stop, answer_to_configuration, behind_configuring};
 
 use crate::desk::Desk;
 use crate::going::{Going, make_watched, run_going};
@@ -13,7 +13,8 @@ use crate::telling::{tell_here, tell_movement};
 use ss_debug::Debugger;
 use ss_links::SetBoard;
 use ss_messages::{NOTHING, Post, Request};
-use std::alloc::AllocError;
+use ss_trace::Movement;
+use std::alloc::{AllocError, Global};
 
 /// Makes a movement that a request asks for.
 #[tactic(auto, unfolding(ss_messages::specs::Messages::posted_all))]
@@ -38,6 +39,26 @@ pub fn go<S: SetBoard>(
     tell_movement(debugger, desk, request, post, &answer, changed)
 }
 
+/// The movement to where the run stops; where it is not debugged, to its end.
+///
+/// `AllocError` where memory was refused; then the debugger may stand elsewhere in the same run.
+fn going_to_stop<S: SetBoard>(
+    alloc: Global,
+    debugger: &mut Debugger<S>,
+    desk: &Desk,
+) -> Result<Going, AllocError>
+    ensures input { debugger.new.machine.input ≡ debugger.old.machine.input }
+    ensures state { OnOk result (debugger_state_of debugger.new
+        ≡ debugger_state_of debugger.old) }
+    ensures going { IfOk result (λ going. going
+        ≡ going_to_stop (adapter_state_of debugger.old desk.now)) }
+{
+    if desk.stops.at_points {
+        return run_going(alloc, debugger, &desk.watched, Way::Forward);
+    }
+    Ok(Going::Traced(Movement::GoEnd))
+}
+
 /// configurationDone: the run stops where it stands, or runs.
 #[tactic(auto, unfolding(ss_messages::specs::Messages::posted_all))]
 pub fn configure<S: SetBoard>(
@@ -56,8 +77,8 @@ pub fn configure<S: SetBoard>(
     if desk.stops.at_start {
         return tell_here(debugger, request, post, b"entry");
     }
-    let running = run_going(post.alloc(), debugger, &desk.watched, Way::Forward)?;
-    go(debugger, desk, request, post, running)?;
+    let going = going_to_stop(post.alloc(), debugger, desk)?;
+    go(debugger, desk, request, post, going)?;
     desk.stops.at_start = true;
     Ok(())
 }

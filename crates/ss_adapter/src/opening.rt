@@ -1,15 +1,20 @@
 //! launch: a model becomes a run.
-ghost use Rattle.std.specs.Prelude.{◌≡◌, ◌≢◌, ◌+◌, ◌-◌, ◌^◌, ◌<◌, IfOk, OnOk, MatchOption};
+ghost use Rattle.std.specs.Prelude.{◌≡◌, ◌≢◌, ◌+◌, ◌-◌, ◌^◌, ◌<◌, ◌≤◌, IfOk, OnOk, MatchOption};
 ghost use Rattle.ss_session.specs.Load.{IsLoadFault};
 ghost use Rattle.ss_session.specs.declared.load.LoadFault.{LoadFault};
 ghost use Rattle.ss_session.specs.declared.load.LoadFault.TheVariants.{Memory};
 ghost use Rattle.ss_messages.specs.Messages.{posted_all};
-ghost use Rattle.ss_adapter.specs.Before.{answer_to_launch, answer_to_refused_launch, IsLaunched, fault_line};
+ghost use Rattle.ss_prompt.specs.Names.{warnings_told};
+ghost use Rattle.ss_adapter.specs.Before.{warning_events, answer_to_launch, answer_to_refused_launch};
+ghost use Rattle.ss_adapter.specs.Before.{IsLaunched, IsRefusedLaunch, fault_line};
 
 use crate::desk::Desk;
+use crate::refused::explanation;
 use ss_debug::Debugger;
 use ss_links::LinkedSets;
 use ss_messages::{NOTHING, Post, Request, Stops, output_body, without_last};
+use ss_names::{push_program_warnings, push_warnings};
+use ss_program::Program;
 use ss_session::{LoadFault, open_debugger, refusal_text};
 use std::alloc::{AllocError, Global};
 
@@ -24,27 +29,75 @@ fn fault_line(alloc: Global, fault: &LoadFault) -> Result<Vec<u8>, AllocError>
     }
 }
 
-/// Answers launch with what is said of a refused model.
+/// Answers launch with the line of a refused model, and what explains it.
 #[tactic(auto, unfolding(ss_messages::specs::Messages::posted_all))]
-fn refuse(request: &Request, post: &mut Post, fault: &LoadFault) -> Result<(), AllocError>
+fn refuse(
+    request: &Request,
+    post: &mut Post,
+    fault: &LoadFault,
+    said: &[u8],
+) -> Result<(), AllocError>
     requires { post.old.sent + 1 < 2 ^ 64 - 1 }
-    ensures { OnOk result (post.new
-        ≡ posted_all request.now post.old (answer_to_refused_launch (fault_line fault.now))) }
+    ensures { OnOk result (post.new ≡ posted_all request.now post.old
+        (answer_to_refused_launch (fault_line fault.now) said.now)) }
 {
-    let line = fault_line(post.alloc(), fault)?;
+    let mut line = fault_line(post.alloc(), fault)?;
     post.fail(request, without_last(&line))?;
+    line.extend_from_slice(said)?;
     let body = output_body(post.alloc(), b"stderr", &line)?;
     post.event(request, b"output", &body)
 }
 
-/// Answers launch with the run of a model over its data, at its start.
+/// Sends what a model is warned of, if it is of something.
 #[tactic(auto, unfolding(ss_messages::specs::Messages::posted_all))]
-fn accept(request: &Request, post: &mut Post) -> Result<(), AllocError>
-    requires { post.old.sent + 1 < 2 ^ 64 - 1 }
-    ensures { OnOk result (post.new ≡ posted_all request.now post.old answer_to_launch) }
+fn tell_warnings(request: &Request, post: &mut Post, warnings: &[u8]) -> Result<(), AllocError>
+    requires { post.old.sent < 2 ^ 64 - 1 }
+    ensures sent { OnOk result (post.new
+        ≡ posted_all request.now post.old (warning_events warnings.now)) }
+    ensures count { OnOk result (post.new.sent ≤ post.old.sent + 1) }
+{
+    if warnings.is_empty() {
+        return Ok(());
+    }
+    let body = output_body(post.alloc(), b"console", warnings)?;
+    post.event(request, b"output", &body)
+}
+
+/// Answers launch with the run of a model, which is warned of this, over its data, at its start.
+fn accept(request: &Request, post: &mut Post, warnings: &[u8]) -> Result<(), AllocError>
+    requires { post.old.sent + 2 < 2 ^ 64 - 1 }
+    ensures { OnOk result (post.new
+        ≡ posted_all request.now post.old (answer_to_launch warnings.now)) }
 {
     post.reply(request, NOTHING)?;
+    tell_warnings(request, post, warnings)?;
     post.event(request, b"initialized", NOTHING)
+}
+
+/// What a model is warned of.
+#[tactic(auto, unfolding(ss_prompt::specs::Names::warnings_told))]
+fn warnings(alloc: Global, program: &Program, model: &[u8]) -> Result<Vec<u8>, AllocError>
+    ensures { IfOk result (λ text. text.items ≡ warnings_told program.now model.now) }
+{
+    let mut text = Vec::new(alloc);
+    push_warnings(alloc, model, &mut text)?;
+    push_program_warnings(alloc, program, model, &mut text)?;
+    Ok(text)
+}
+
+/// Answers launch with the run of a program, which a model is, and what that is warned of.
+fn tell_opened(
+    request: &Request,
+    post: &mut Post,
+    program: &Program,
+    model: &[u8],
+) -> Result<(), AllocError>
+    requires { post.old.sent + 2 < 2 ^ 64 - 1 }
+    ensures { OnOk result (post.new ≡ posted_all request.now post.old
+        (answer_to_launch (warnings_told program.now model.now))) }
+{
+    let text = warnings(post.alloc(), program, model)?;
+    accept(request, post, &text)
 }
 
 /// Launches the run of a model, whose path is told, over its data, and answers the request. `None`
@@ -58,26 +111,28 @@ pub fn launch(
     model: &[u8],
     text: &[u8],
 ) -> Result<Option<(Debugger<LinkedSets>, Desk)>, AllocError>
-    requires { post.old.sent + 1 < 2 ^ 64 - 1 }
+    requires { post.old.sent + 2 < 2 ^ 64 - 1 }
     ensures run { IfOk result (λ opened. MatchOption opened
         ((fault : LoadFault) × (fault ≢ Memory) × IsLoadFault fault model.now
-        × (post.new ≡ posted_all request.now post.old
-        (answer_to_refused_launch (fault_line fault))))
+        × IsRefusedLaunch fault model.now request.now post.old post.new)
         (λ run. IsLaunched model.now text.now path.now stops run.0 run.1
-        × (post.new ≡ posted_all request.now post.old answer_to_launch))) }
+        × (post.new ≡ posted_all request.now post.old
+        (answer_to_launch (warnings_told run.0.machine.input.program model.now))))) }
 {
     let alloc = post.alloc();
     let desk = Desk::new(alloc, path.to_vec(alloc)?, model.to_vec(alloc)?, stops);
-    let mut accepted = post.copied()?;
-    accept(request, &mut accepted)?;
     match open_debugger(alloc, model, text) {
-        Ok(debugger) => {
-            *post = accepted;
-            Ok(Some((debugger, desk)))
-        }
+        Ok(debugger) => match tell_opened(request, post, debugger.machine().program(), model) {
+            Ok(()) => Ok(Some((debugger, desk))),
+            Err(error) => {
+                debugger.end();
+                Err(error)
+            }
+        },
         Err(LoadFault::Memory) => Err(AllocError),
         Err(fault) => {
-            refuse(request, post, &fault)?;
+            let said = explanation(alloc, model, &fault)?;
+            refuse(request, post, &fault, &said)?;
             Ok(None)
         }
     }

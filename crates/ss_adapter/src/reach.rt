@@ -79,7 +79,7 @@ fn return_to<S: SetBoard>(
 }
 
 /// Makes a movement and goes back: tells how far it leads, and whether it ends at a change.
-fn movement_reach<S: SetBoard>(
+pub fn movement_reach<S: SetBoard>(
     alloc: Global,
     debugger: &mut Debugger<S>,
     movement: Movement,
@@ -149,7 +149,7 @@ fn nearer(found: Option<Found>, place: usize, reach: Reach) -> Found
 }
 
 /// The nearest of the changes of the questions of some texts.
-fn nearest<S: SetBoard>(
+pub fn nearest<S: SetBoard>(
     alloc: Global,
     debugger: &mut Debugger<S>,
     way: Way,

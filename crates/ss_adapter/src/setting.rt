@@ -2,30 +2,30 @@
 ghost use Rattle.std.specs.Prelude.{◌≡◌, ◌-◌, ◌^◌, ◌<◌, ◌∷◌, [], codes, OnOk};
 ghost use Rattle.ss_messages.specs.Bodies.{list_body};
 ghost use Rattle.ss_messages.specs.Messages.{posted_all, reply};
-ghost use Rattle.ss_adapter.specs.Turn.{adapter_state_of, first_lines, setting_in, sections_in};
+ghost use Rattle.ss_adapter.specs.Turn.{adapter_state_of, first_points, setting_in, sections_in, answer_unset};
 ghost use Rattle.ss_adapter.specs.Turn.{behind_setting, behind_sections, behind_watching};
 ghost use Rattle.ss_adapter.specs.Watch.{watching_of};
 
-use crate::breaks::{set_lines, set_sections};
+use crate::breaks::{push_all_unset, set_lines, set_sections};
 use crate::desk::Desk;
 use crate::watch::watch;
 use ss_debug::Debugger;
 use ss_links::SetBoard;
-use ss_messages::{Post, Request, Text, list_body};
+use ss_messages::{LinePoint, Post, Request, Text, list_body};
 use std::alloc::AllocError;
 
 /// The most break points of a request for lines that are answered.
 const MOST_POINTS: usize = 1_000;
 
-/// The first of some lines, so many at most.
-#[tactic(auto, unfolding(crate::specs::Turn::first_lines), using(std::proofs::lemmas::List::take_all))]
-fn first_lines(lines: &[u64], limit: usize) -> &[u64]
-    ensures { result.now ≡ first_lines limit lines.now }
+/// The first of some break points, so many at most.
+#[tactic(auto, unfolding(crate::specs::Turn::first_points), using(std::proofs::lemmas::List::take_all))]
+fn first_points(points: &[LinePoint], limit: usize) -> &[LinePoint]
+    ensures { result.now ≡ first_points limit points.now }
 {
-    if lines.len() <= limit {
-        return lines;
+    if points.len() <= limit {
+        return points;
     }
-    &lines[..limit]
+    &points[..limit]
 }
 
 /// Sets the break lines of a request.
@@ -35,19 +35,19 @@ pub fn set_breaks<S: SetBoard>(
     desk: &mut Desk,
     request: &Request,
     post: &mut Post,
-    lines: &[u64],
+    points: &[LinePoint],
 ) -> Result<(), AllocError>
     requires { post.old.sent < 2 ^ 64 - 1 }
     ensures input { debugger.new.machine.input ≡ debugger.old.machine.input }
     ensures sent { OnOk result (post.new ≡ posted_all request.now post.old (reply
         (list_body (codes "breakpoints")
-        (setting_in (adapter_state_of debugger.old desk.old) lines.now).text) ∷ [])) }
+        (setting_in (adapter_state_of debugger.old desk.old) points.now).text) ∷ [])) }
     ensures state { OnOk result (adapter_state_of debugger.new desk.new
         ≡ behind_setting (adapter_state_of debugger.old desk.old)
-        (setting_in (adapter_state_of debugger.old desk.old) lines.now)) }
+        (setting_in (adapter_state_of debugger.old desk.old) points.now)) }
 {
     let mut text = Vec::new(post.alloc());
-    let asked = first_lines(lines, MOST_POINTS);
+    let asked = first_points(points, MOST_POINTS);
     set_lines(
         post.alloc(),
         debugger,
@@ -56,6 +56,24 @@ pub fn set_breaks<S: SetBoard>(
         &mut text,
         asked,
     )?;
+    let body = list_body(post.alloc(), b"breakpoints", &text)?;
+    post.reply(request, &body)
+}
+
+/// Answers a request for so many break points, of which none is set, for this reason.
+#[tactic(auto, unfolding(ss_messages::specs::Messages::posted_all))]
+pub fn refuse_points(
+    request: &Request,
+    post: &mut Post,
+    reason: &'static [u8],
+    count: usize,
+) -> Result<(), AllocError>
+    requires { post.old.sent < 2 ^ 64 - 1 }
+    ensures { OnOk result (post.new
+        ≡ posted_all request.now post.old (answer_unset reason.now count)) }
+{
+    let mut text = Vec::new(post.alloc());
+    push_all_unset(post.alloc(), &mut text, reason, count)?;
     let body = list_body(post.alloc(), b"breakpoints", &text)?;
     post.reply(request, &body)
 }
@@ -102,13 +120,15 @@ pub fn set_watch<S: SetBoard>(
 ) -> Result<(), AllocError>
     requires { post.old.sent < 2 ^ 64 - 1 }
     ensures sent { OnOk result (post.new ≡ posted_all request.now post.old (reply
-        (list_body (codes "breakpoints") (watching_of ids.now).text) ∷ [])) }
+        (list_body (codes "breakpoints")
+        (watching_of debugger.now.machine.input.program ids.now).text) ∷ [])) }
     ensures state { OnOk result (adapter_state_of debugger.now desk.new
-        ≡ behind_watching (adapter_state_of debugger.now desk.old) (watching_of ids.now).watched) }
+        ≡ behind_watching (adapter_state_of debugger.now desk.old)
+        (watching_of debugger.now.machine.input.program ids.now).watched) }
 {
-    let _ = debugger;
+    let program = debugger.machine().program();
     let mut text = Vec::new(post.alloc());
-    watch(post.alloc(), &mut desk.watched, &mut text, ids)?;
+    watch(post.alloc(), program, &mut desk.watched, &mut text, ids)?;
     let body = list_body(post.alloc(), b"breakpoints", &text)?;
     post.reply(request, &body)
 }

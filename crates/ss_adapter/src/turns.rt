@@ -1,14 +1,15 @@
 //! One turn of the adapter: a request is answered.
-ghost use Rattle.std.specs.Prelude.{◌≡◌, ◌+◌, ◌-◌, ◌^◌, ◌<◌, IfOk, OnOk};
+ghost use Rattle.std.specs.Prelude.{◌≡◌, ◌+◌, ◌-◌, ◌^◌, ◌<◌, None, if◌then◌else◌, IfOk, OnOk};
 ghost use Rattle.ss_messages.specs.Messages.{posted_all};
-ghost use Rattle.ss_adapter.specs.Turn.{adapter_state_of, told_of, left_by, answers, state_after, further_of};
+ghost use Rattle.ss_adapter.specs.Turn.{adapter_state_of, told_debugged, left_debugged, point_count};
+ghost use Rattle.ss_adapter.specs.Turn.{told_of, left_by, answers, answers_elsewhere, state_after, further_of};
 
 use crate::asking::look;
 use crate::console::obey_line;
 use crate::desk::Desk;
 use crate::going::asked_movement;
 use crate::moving::{configure, go};
-use crate::setting::{set_breaks, set_section_breaks, set_watch};
+use crate::setting::{refuse_points, set_breaks, set_section_breaks, set_watch};
 use ss_debug::Debugger;
 use ss_links::SetBoard;
 use ss_messages::{Command, Post, Request};
@@ -23,9 +24,9 @@ pub enum Further {
     Ended,
 }
 
-/// Answers a request that asks for no movement.
-#[tactic(auto, unfolding(crate::specs::Turn::told_of, crate::specs::Turn::left_by))]
-fn answer_standing<S: SetBoard>(
+/// Answers a request that asks for no movement, where all its break points may be set.
+#[tactic(auto, unfolding(crate::specs::Turn::told_debugged, crate::specs::Turn::left_debugged))]
+fn answer_debugged<S: SetBoard>(
     debugger: &mut Debugger<S>,
     desk: &mut Desk,
     request: &Request,
@@ -34,13 +35,13 @@ fn answer_standing<S: SetBoard>(
     requires { post.old.sent + 3 < 2 ^ 64 - 1 }
     ensures input { debugger.new.machine.input ≡ debugger.old.machine.input }
     ensures sent { OnOk result (post.new ≡ posted_all request.now post.old
-        (told_of (adapter_state_of debugger.old desk.old) request.now.command)) }
+        (told_debugged (adapter_state_of debugger.old desk.old) request.now.command)) }
     ensures state { OnOk result (adapter_state_of debugger.new desk.new
-        ≡ left_by (adapter_state_of debugger.old desk.old) request.now.command) }
+        ≡ left_debugged (adapter_state_of debugger.old desk.old) request.now.command) }
 {
     match &request.command {
-        Command::SetBreakpoints(lines) => {
-            set_breaks(debugger, desk, request, post, lines.as_slice())
+        Command::SetBreakpoints(_, points) => {
+            set_breaks(debugger, desk, request, post, points.as_slice())
         }
         Command::SetFunctionBreakpoints(names) => {
             set_section_breaks(debugger, desk, request, post, names.as_slice())
@@ -54,6 +55,49 @@ fn answer_standing<S: SetBoard>(
     }
 }
 
+/// How many break points a request sets.
+fn point_count(command: &Command) -> Option<usize>
+    ensures { result ≡ point_count command.now }
+{
+    match command {
+        Command::SetBreakpoints(_, points) => Some(points.as_slice().len()),
+        Command::SetFunctionBreakpoints(names) => Some(names.as_slice().len()),
+        Command::SetDataBreakpoints(ids) => Some(ids.as_slice().len()),
+        _ => None,
+    }
+}
+
+/// How many of them are not set, since the run is not debugged.
+fn undebugged_count(at_points: bool, command: &Command) -> Option<usize>
+    ensures { result ≡ if at_points then None else point_count command.now }
+{
+    if at_points {
+        None
+    } else {
+        point_count(command)
+    }
+}
+
+/// Answers a request that asks for no movement.
+fn answer_standing<S: SetBoard>(
+    debugger: &mut Debugger<S>,
+    desk: &mut Desk,
+    request: &Request,
+    post: &mut Post,
+) -> Result<(), AllocError>
+    requires { post.old.sent + 3 < 2 ^ 64 - 1 }
+    ensures input { debugger.new.machine.input ≡ debugger.old.machine.input }
+    ensures sent { OnOk result (post.new ≡ posted_all request.now post.old
+        (told_of (adapter_state_of debugger.old desk.old) request.now.command)) }
+    ensures state { OnOk result (adapter_state_of debugger.new desk.new
+        ≡ left_by (adapter_state_of debugger.old desk.old) request.now.command) }
+{
+    match undebugged_count(desk.stops.at_points, &request.command) {
+        Some(count) => refuse_points(request, post, b"the run is not debugged", count),
+        None => answer_debugged(debugger, desk, request, post),
+    }
+}
+
 /// Whether the session goes on.
 pub(crate) fn further_behind(command: &Command) -> Further
     ensures { result ≡ further_of command.now }
@@ -62,6 +106,22 @@ pub(crate) fn further_behind(command: &Command) -> Further
         Command::Disconnect => Further::Ended,
         _ => Further::On,
     }
+}
+
+/// One turn of a request that sets so many break points of another file than the model: none is set,
+/// and the run is not asked.
+pub fn turn_elsewhere(
+    request: &Request,
+    post: &mut Post,
+    count: usize,
+) -> Result<Further, AllocError>
+    requires { post.old.sent < 2 ^ 64 - 1 }
+    ensures sent { OnOk result (post.new
+        ≡ posted_all request.now post.old (answers_elsewhere count)) }
+    ensures further { IfOk result (λ further. further ≡ further_of request.now.command) }
+{
+    refuse_points(request, post, b"another file than the model", count)?;
+    Ok(further_behind(&request.command))
 }
 
 /// One turn: does what a request asks, and posts its reply and the events that follow it.

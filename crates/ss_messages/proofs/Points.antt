@@ -1,13 +1,13 @@
 -- The lines and texts of some break points, one by one.
-use Rattle.std.proofs.Common.{◌≡◌, List, [], ◌∷◌, map, codes, refl, ap}
+use Rattle.std.proofs.Common.{◌≡◌, List, [], ◌∷◌, map, refl, ap}
 use Rattle.serde_json.specs.View.{view, items_view}
 use Rattle.serde_json.specs.declared.value.Value.{Value}
 use Rattle.std.specs.Prelude.{ℕ, unwrap_or}
-use Rattle.ss_messages.specs.Requests.{number_at, lines_of, text_at, texts_of}
+use Rattle.ss_messages.specs.Requests.{line_point_of, line_points_of, text_at, texts_of}
 
-pub lines_are : (vs : List Value) → lines_of (items_view vs) ≡ map (λ v. number_at (codes "line") (view v)) vs
-lines_are [] = refl
-lines_are (v ∷ vs) = ap (λ ls. number_at (codes "line") (view v) ∷ ls) (lines_are vs)
+pub line_points_are : (vs : List Value) → line_points_of (items_view vs) ≡ map (λ v. line_point_of (view v)) vs
+line_points_are [] = refl
+line_points_are (v ∷ vs) = ap (λ ps. line_point_of (view v) ∷ ps) (line_points_are vs)
 
 pub texts_are : (key : List ℕ) (vs : List Value) →
     texts_of key (items_view vs) ≡ map (λ v. unwrap_or (text_at key (view v)) []) vs

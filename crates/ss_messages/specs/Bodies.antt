@@ -1,5 +1,6 @@
 -- The bodies of replies and events, as they are written.
-use Rattle.std.specs.Prelude.{ℕ, ◌-◌, List, [], ◌++◌, codes, decimal, drop, take, length, Option, Some, None}
+use Rattle.std.specs.Prelude.{ℕ, ◌-◌, ◌==◌, List, [], ◌∷◌, ◌++◌, codes, decimal, drop, take, length, Option, Some, None}
+use Rattle.std.specs.Prelude.{if◌then◌else◌}
 use Rattle.ss_messages.specs.Escapes.{quoted_bytes, quoted_text}
 
 -- a text without the byte at its end, which is a line feed
@@ -40,11 +41,24 @@ exception_body name sentence =
     codes "{\"exceptionId\":" ++ quoted_bytes name ++ codes ",\"description\":" ++ quoted_bytes sentence
     ++ codes ",\"breakMode\":\"always\"}"
 
+-- what stands after the last slash of a text; else this name
+unfoldable pub name_within : List ℕ → List ℕ → List ℕ
+name_within name [] = name
+name_within name (b ∷ rest) = if b == 47 then name_within rest rest else name_within name rest
+
+-- the name of the file at a path: what stands after its last slash
+abbrev pub file_name : List ℕ → List ℕ
+file_name path = name_within path path
+
+-- the source at a path, which has the name of its file
+unfoldable pub source_text : List ℕ → List ℕ
+source_text path =
+    codes "{\"name\":" ++ quoted_text (file_name path) ++ codes ",\"path\":" ++ quoted_text path ++ codes "}"
+
 -- the model, by its path, and the report
 unfoldable pub sources_body : List ℕ → List ℕ
 sources_body path =
-    codes "{\"sources\":[{\"path\":" ++ quoted_text path
-    ++ codes "},{\"name\":\"report\",\"sourceReference\":1}]}"
+    codes "{\"sources\":[" ++ source_text path ++ codes ",{\"name\":\"report\",\"sourceReference\":1}]}"
 
 -- some items, each behind a comma, as the list that is the one member of an object
 unfoldable pub list_body : List ℕ → List ℕ → List ℕ
@@ -60,7 +74,7 @@ variable_item name value reference =
 unfoldable pub frame_item : ℕ → List ℕ → ℕ → List ℕ → List ℕ
 frame_item n name line path =
     codes ",{\"id\":" ++ decimal n ++ codes ",\"name\":" ++ quoted_bytes name ++ codes ",\"line\":" ++ decimal line
-    ++ codes ",\"column\":1,\"source\":{\"path\":" ++ quoted_text path ++ codes "}}"
+    ++ codes ",\"column\":1,\"source\":" ++ source_text path ++ codes "}"
 
 -- a comma and a break point of this number that is set on a line
 unfoldable pub set_item : ℕ → ℕ → List ℕ

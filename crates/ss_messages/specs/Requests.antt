@@ -1,5 +1,5 @@
 -- What a message asks for.
-use Rattle.std.specs.Prelude.{ℕ, ◌-◌, Bool, true, false, List, [], ◌∷◌, codes, Option, Some, None}
+use Rattle.std.specs.Prelude.{ℕ, ◌+◌, ◌-◌, Bool, true, false, not, ◌&&◌, List, [], ◌∷◌, codes, Option, Some, None}
 use Rattle.std.specs.Prelude.{option_and_then, unwrap_or, nat_le, nat_lt, if◌then◌else◌}
 use Rattle.std.specs.Str.{bytes_eq}
 use Rattle.serde_json.specs.Data.{Data, null, Items, no_items, item}
@@ -13,9 +13,11 @@ use Rattle.ss_messages.specs.declared.request.Command.TheVariants.{StackTrace, S
 use Rattle.ss_messages.specs.declared.request.Command.TheVariants.{Obey, Ask, Source, LoadedSources, ExceptionInfo}
 use Rattle.ss_messages.specs.declared.request.Command.TheVariants.{Continue, Next, StepIn, StepOut, StepBack}
 use Rattle.ss_messages.specs.declared.request.Command.TheVariants.{ReverseContinue, Restart, Pause}
-use Rattle.ss_messages.specs.declared.request.Command.TheVariants.{Disconnect, Terminate, Bad, Unknown}
+use Rattle.ss_messages.specs.declared.request.Command.TheVariants.{Disconnect, Terminate, Missing, Unknown}
 use Rattle.ss_messages.specs.declared.request.Filter.{Filter}
 use Rattle.ss_messages.specs.declared.request.Filter.TheVariants.{All, Named, Indexed}
+use Rattle.ss_messages.specs.declared.missing.Argument.TheVariants.{Model, Expression, Name, Typed, Column}
+use Rattle.ss_messages.specs.declared.parts.LinePoint.{LinePoint}
 use Rattle.ss_messages.specs.declared.request.Stops.{Stops}
 use Rattle.ss_messages.specs.declared.request.Wanted.{Wanted}
 use Rattle.ss_messages.specs.declared.request.Request.{Request}
@@ -42,10 +44,20 @@ flag_at key other d = unwrap_or (option_and_then as_bool (get key d)) other
 abbrev pub is_text_at : List ℕ → List ℕ → Data → Bool
 is_text_at key text d = bytes_eq (unwrap_or (text_at key d) []) text
 
--- the lines of some break points, 0 for one that has none
-abbrev pub lines_of : Items → List ℕ
-lines_of no_items = []
-lines_of (item d ds) = number_at (codes "line") d ∷ lines_of ds
+-- a break point: its line, 0 for one that has none, and whether it stops each time, so that it has no condition, no
+-- count of hits, and no message in place of a stop
+abbrev pub line_point_of : Data → LinePoint
+line_point_of d = record {
+  line = number_at (codes "line") d;
+  is_plain =
+      is_text_at (codes "condition") [] d && is_text_at (codes "hitCondition") [] d
+      && is_text_at (codes "logMessage") [] d;
+}
+
+-- some break points on lines
+abbrev pub line_points_of : Items → List LinePoint
+line_points_of no_items = []
+line_points_of (item d ds) = line_point_of d ∷ line_points_of ds
 
 -- the texts at a key of some break points, empty for one that has none
 abbrev pub texts_of : List ℕ → Items → List (List ℕ)
@@ -56,13 +68,17 @@ texts_of key (item d ds) = unwrap_or (text_at key d) [] ∷ texts_of key ds
 abbrev pub points_at : Data → Items
 points_at d = unwrap_or (option_and_then as_array (get (codes "breakpoints") d)) no_items
 
--- their lines
-abbrev pub lines_at : Data → List ℕ
-lines_at d = lines_of (points_at d)
+-- the same on lines
+abbrev pub line_points_at : Data → List LinePoint
+line_points_at d = line_points_of (points_at d)
 
 -- their texts at a key
 abbrev pub texts_at : List ℕ → Data → List (List ℕ)
 texts_at key d = texts_of key (points_at d)
+
+-- the path of the source that a request speaks of
+abbrev pub path_at : Data → Option (List ℕ)
+path_at d = option_and_then (text_at (codes "path")) (get (codes "source") d)
 
 -- the arguments of a request; null where there are none
 abbrev pub arguments_of : Data → Data
@@ -70,16 +86,21 @@ arguments_of d = unwrap_or (get (codes "arguments") d) null
 
 -- ---- commands
 
--- where a run stops of itself: at its end unless it is said that it does not
+-- whether a run is debugged, as it is unless it is said that it is not
+abbrev pub is_debugged : Data → Bool
+is_debugged d = not (flag_at (codes "noDebug") false d)
+
+-- where a run stops: where it is debugged, at break points, and at its end unless it is said that it does not
 abbrev pub stops_of : Data → Stops
 stops_of d = record {
-  at_start = flag_at (codes "stopOnEntry") false d;
-  at_end = flag_at (codes "stopAtEnd") true d;
+  at_start = is_debugged d && flag_at (codes "stopOnEntry") false d;
+  at_points = is_debugged d;
+  at_end = is_debugged d && flag_at (codes "stopAtEnd") true d;
 }
 
 -- launch needs a model
 abbrev pub launch_with : Option (List ℕ) → Option (List ℕ) → Stops → Command
-launch_with None input stops = Bad
+launch_with None input stops = Missing Model
 launch_with (Some model) input stops = Launch model input stops
 
 -- launch
@@ -88,7 +109,7 @@ launch_of d = launch_with (text_at (codes "model") d) (text_at (codes "data") d)
 
 -- evaluate needs an expression
 abbrev pub evaluate_with : Bool → Option (List ℕ) → Command
-evaluate_with obeyed None = Bad
+evaluate_with obeyed None = Missing Expression
 evaluate_with obeyed (Some text) = if obeyed then Obey text else Ask text
 
 -- evaluate: in the context of the repl a line is obeyed, in another a question is asked
@@ -97,7 +118,7 @@ evaluate_of d = evaluate_with (is_text_at (codes "context") (codes "repl") d) (t
 
 -- dataBreakpointInfo needs a name
 abbrev pub info_with : ℕ → Option (List ℕ) → Command
-info_with reference None = Bad
+info_with reference None = Missing Name
 info_with reference (Some name) = DataBreakpointInfo reference name
 
 -- dataBreakpointInfo
@@ -113,10 +134,20 @@ abbrev pub within_units : ℕ → List ℕ → List ℕ
 within_units n [] = []
 within_units n (b ∷ bs) = if nat_le (units_of b) n then b ∷ within_units (n - units_of b) bs else []
 
--- completions needs a text and a column, which are counted from 1 on in UTF-16 code units
+-- how many UTF-16 code units a text has
+abbrev pub count_units : List ℕ → ℕ
+count_units [] = 0
+count_units (b ∷ bs) = units_of b + count_units bs
+
+-- completions of a text, and the column at its end, counted from 1 on in UTF-16 code units
+abbrev pub completions_at_end : List ℕ → Command
+completions_at_end text = Completions text (count_units text + 1)
+
+-- completions needs a text and a column: past the text, its end is meant
 abbrev pub completions_with : Option (List ℕ) → Option ℕ → Command
-completions_with (Some text) (Some column) = Completions (within_units (column - 1) text) column
-completions_with _ _ = Bad
+completions_with None column = Missing Typed
+completions_with (Some text) None = Missing Column
+completions_with (Some text) (Some column) = completions_at_end (within_units (column - 1) text)
 
 -- completions: of what stands before the column
 abbrev pub completions_of : Data → Command
@@ -149,7 +180,7 @@ session_command name d =
 -- what it says about break points, else about the session
 unfoldable pub points_command : List ℕ → Data → Command
 points_command name d =
-    if bytes_eq name (codes "setBreakpoints") then SetBreakpoints (lines_at d) else
+    if bytes_eq name (codes "setBreakpoints") then SetBreakpoints (path_at d) (line_points_at d) else
     if bytes_eq name (codes "setFunctionBreakpoints")
     then SetFunctionBreakpoints (texts_at (codes "name") d) else
     if bytes_eq name (codes "setDataBreakpoints") then SetDataBreakpoints (texts_at (codes "dataId") d) else

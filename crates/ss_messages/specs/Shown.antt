@@ -1,6 +1,7 @@
 -- What an editor shows of a state, as it is written: frames, scopes, variables that are many, and break points.
 use Rattle.std.specs.Prelude.{ℕ, Bool, false, List, ◌++◌, codes, decimal, drop, if◌then◌else◌}
-use Rattle.ss_messages.specs.Escapes.{quoted_bytes, quoted_text}
+use Rattle.ss_messages.specs.Escapes.{quoted_bytes}
+use Rattle.ss_messages.specs.Bodies.{source_text}
 
 -- a comma and a variable that refers to so many others, which are asked for a page at a time
 unfoldable pub paged_item : List ℕ → List ℕ → ℕ → ℕ → List ℕ
@@ -49,7 +50,7 @@ point_text id is_verified =
 unfoldable pub new_point_body : ℕ → Bool → ℕ → List ℕ → List ℕ
 new_point_body id is_verified line path =
     codes "{\"reason\":\"new\",\"breakpoint\":" ++ point_text id is_verified ++ codes ",\"line\":" ++ decimal line
-    ++ codes ",\"source\":{\"path\":" ++ quoted_text path ++ codes "}}}"
+    ++ codes ",\"source\":" ++ source_text path ++ codes "}}"
 
 -- breakpoint: the one of this number is set no more
 unfoldable pub removed_point_body : ℕ → List ℕ

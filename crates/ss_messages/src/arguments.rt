@@ -1,13 +1,16 @@
 //! The arguments of a request.
-ghost use Rattle.std.specs.Prelude.{◌≡◌, codes, map, IfOk, option_map};
+ghost use Rattle.std.specs.Prelude.{◌≡◌, ◌≤◌, map, IfOk, option_map};
 ghost use Rattle.serde_json.specs.View.{view};
 ghost use Rattle.std.specs.Prelude.{[], unwrap_or};
-ghost use Rattle.ss_messages.specs.Requests.{units_of, within_units};
-ghost use Rattle.ss_messages.specs.Requests.{number_at, number_in, text_at, flag_at, is_text_at, lines_at, texts_at};
-ghost use Rattle.ss_messages.specs.Requests.{stops_of, launch_of, evaluate_of, info_of};
-ghost use Rattle.ss_messages.specs.Requests.{completions_of, filter_of, wanted_of};
+ghost use Rattle.ss_messages.specs.Requests.{units_of, within_units, count_units};
+ghost use Rattle.ss_messages.specs.Requests.{number_at, number_in, text_at, flag_at, is_text_at, texts_at};
+ghost use Rattle.ss_messages.specs.Requests.{line_point_of, line_points_at};
+ghost use Rattle.ss_messages.specs.Requests.{is_debugged, stops_of, launch_of, evaluate_of, info_of};
+ghost use Rattle.ss_messages.specs.Requests.{completions_of, filter_of, path_at, wanted_of};
+ghost use Rattle.ss_messages.specs.declared.request.Command.TheVariants.{SetBreakpoints};
 
-use crate::parts::{Lines, Text, Texts};
+use crate::missing::Argument;
+use crate::parts::{LinePoint, LinePoints, Text, Texts};
 use crate::request::{Command, Filter, Stops, Wanted};
 use serde_json::Value;
 use std::alloc::{AllocError, Global};
@@ -57,13 +60,23 @@ fn own_text(alloc: Global, value: &Value, key: &'static str) -> Result<Option<Te
     }
 }
 
-/// Where a run stops of itself: at its end unless it is said that it does not.
+/// Whether a run is debugged, as it is unless it is said that it is not.
+fn is_debugged(arguments: &Value) -> bool
+    ensures { result ≡ is_debugged (view arguments.now) }
+{
+    !flag_at(arguments, "noDebug", false)
+}
+
+/// Where a run stops: where it is debugged, at break points, and at its end unless it is said that it
+/// does not.
 fn stops_of(arguments: &Value) -> Stops
     ensures { result ≡ stops_of (view arguments.now) }
 {
+    let is_debugged = is_debugged(arguments);
     Stops {
-        at_start: flag_at(arguments, "stopOnEntry", false),
-        at_end: flag_at(arguments, "stopAtEnd", true),
+        at_start: is_debugged && flag_at(arguments, "stopOnEntry", false),
+        at_points: is_debugged,
+        at_end: is_debugged && flag_at(arguments, "stopAtEnd", true),
     }
 }
 
@@ -72,7 +85,7 @@ pub fn launch(alloc: Global, arguments: &Value) -> Result<Command, AllocError>
     ensures { IfOk result (λ command. command ≡ launch_of (view arguments.now)) }
 {
     let Some(model) = own_text(alloc, arguments, "model")? else {
-        return Ok(Command::Bad);
+        return Ok(Command::Missing(Argument::Model));
     };
     let data = own_text(alloc, arguments, "data")?;
     Ok(Command::Launch(model, data, stops_of(arguments)))
@@ -83,7 +96,7 @@ pub fn evaluate(alloc: Global, arguments: &Value) -> Result<Command, AllocError>
     ensures { IfOk result (λ command. command ≡ evaluate_of (view arguments.now)) }
 {
     let Some(text) = own_text(alloc, arguments, "expression")? else {
-        return Ok(Command::Bad);
+        return Ok(Command::Missing(Argument::Expression));
     };
     if is_text_at(arguments, "context", b"repl") {
         return Ok(Command::Obey(text));
@@ -96,7 +109,7 @@ pub fn info(alloc: Global, arguments: &Value) -> Result<Command, AllocError>
     ensures { IfOk result (λ command. command ≡ info_of (view arguments.now)) }
 {
     let Some(name) = own_text(alloc, arguments, "name")? else {
-        return Ok(Command::Bad);
+        return Ok(Command::Missing(Argument::Name));
     };
     Ok(Command::DataBreakpointInfo(number_at(arguments, "variablesReference"), name))
 }
@@ -131,17 +144,36 @@ fn within_units(alloc: Global, text: &[u8], units: u64) -> Result<Vec<u8>, Alloc
     Ok(part)
 }
 
+/// How many UTF-16 code units what stands of a text within so many has.
+fn units_within(text: &[u8], units: u64) -> u64
+    ensures count { result ≡ count_units (within_units units text.now) }
+    ensures bound { result ≤ units }
+{
+    let mut left = units;
+    for byte in text {
+        let units = units_of(*byte);
+        if units > left {
+            break;
+        }
+        left -= units;
+    }
+    units - left
+}
+
 /// completions, which needs a text and a column: of what stands before the column.
 pub fn completions(alloc: Global, arguments: &Value) -> Result<Command, AllocError>
     ensures { IfOk result (λ command. command ≡ completions_of (view arguments.now)) }
 {
-    match (text_at(arguments, "text"), number_in(arguments, "column")) {
-        (Some(text), Some(column)) => {
-            let before = within_units(alloc, text.as_bytes(), column.saturating_sub(1))?;
-            Ok(Command::Completions(Text::of(alloc, &before)?, column))
-        }
-        _ => Ok(Command::Bad),
-    }
+    let Some(text) = text_at(arguments, "text") else {
+        return Ok(Command::Missing(Argument::Typed));
+    };
+    let Some(column) = number_in(arguments, "column") else {
+        return Ok(Command::Missing(Argument::Column));
+    };
+    let units = column.saturating_sub(1);
+    let before = within_units(alloc, text.as_bytes(), units)?;
+    let end = units_within(text.as_bytes(), units) + 1;
+    Ok(Command::Completions(Text::of(alloc, &before)?, end))
 }
 
 /// Which variables of a reference are wanted.
@@ -199,25 +231,57 @@ pub fn texts_at(alloc: Global, arguments: &Value, key: &'static str) -> Result<T
     }
 }
 
-/// The lines of some break points.
-fn lines_of(alloc: Global, points: &[Value]) -> Result<Vec<u64>, AllocError>
-    ensures { IfOk result (λ lines. lines.items
-        ≡ map (λ point. number_at (codes "line") (view point)) points.now) }
+/// A break point on a line.
+fn line_point_of(point: &Value) -> LinePoint
+    ensures { result ≡ line_point_of (view point.now) }
 {
-    let mut lines = Vec::new(alloc);
-    for point in points {
-        lines.push(number_at(point, "line"))?;
+    LinePoint {
+        line: number_at(point, "line"),
+        is_plain: is_text_at(point, "condition", b"")
+            && is_text_at(point, "hitCondition", b"")
+            && is_text_at(point, "logMessage", b""),
     }
-    Ok(lines)
 }
 
-/// The lines of the break points of a request.
-#[tactic(auto, using(crate::proofs::Points::lines_are))]
-pub fn lines_at(alloc: Global, arguments: &Value) -> Result<Lines, AllocError>
-    ensures { IfOk result (λ lines. lines ≡ lines_at (view arguments.now)) }
+/// Some break points on lines.
+fn line_points_of(alloc: Global, points: &[Value]) -> Result<Vec<LinePoint>, AllocError>
+    ensures { IfOk result (λ found. found.items
+        ≡ map (λ point. line_point_of (view point)) points.now) }
+{
+    let mut found = Vec::new(alloc);
+    for point in points {
+        found.push(line_point_of(point))?;
+    }
+    Ok(found)
+}
+
+/// The break points of a request that are on lines.
+#[tactic(auto, using(crate::proofs::Points::line_points_are))]
+fn line_points_at(alloc: Global, arguments: &Value) -> Result<LinePoints, AllocError>
+    ensures { IfOk result (λ points. points ≡ line_points_at (view arguments.now)) }
 {
     match arguments.get("breakpoints").and_then(Value::as_array) {
-        Some(points) => Ok(Lines::of(lines_of(alloc, points)?)),
-        None => Ok(Lines::of(Vec::new(alloc))),
+        Some(points) => Ok(LinePoints::of(line_points_of(alloc, points)?)),
+        None => Ok(LinePoints::of(Vec::new(alloc))),
     }
+}
+
+/// The path of the source that a request speaks of, in memory of its own.
+fn path_at(alloc: Global, arguments: &Value) -> Result<Option<Text>, AllocError>
+    ensures { IfOk result (λ path. path ≡ path_at (view arguments.now)) }
+{
+    match arguments.get("source") {
+        Some(source) => own_text(alloc, source, "path"),
+        None => Ok(None),
+    }
+}
+
+/// setBreakpoints: the break points on lines of a source.
+pub fn breakpoints(alloc: Global, arguments: &Value) -> Result<Command, AllocError>
+    ensures { IfOk result (λ command. command
+        ≡ SetBreakpoints (path_at (view arguments.now)) (line_points_at (view arguments.now))) }
+{
+    let path = path_at(alloc, arguments)?;
+    let points = line_points_at(alloc, arguments)?;
+    Ok(Command::SetBreakpoints(path, points))
 }

@@ -4,8 +4,9 @@ ghost use Rattle.ss_messages.specs.Bodies.{stopped_body, output_body, result_bod
 ghost use Rattle.ss_messages.specs.Bodies.{sources_body, list_body, variable_item, frame_item, set_item, unset_item};
 ghost use Rattle.ss_messages.specs.Bodies.{without_last, hit_at, hit_text, watched_item};
 
-use crate::escape::{push_quoted, push_quoted_text};
+use crate::escape::push_quoted;
 use crate::messages::push_number;
+use crate::sources::source_text;
 use std::alloc::{AllocError, Global};
 
 /// A body with no member.
@@ -113,9 +114,10 @@ pub fn exception_body(alloc: Global, name: &[u8], sentence: &[u8]) -> Result<Vec
 pub fn sources_body(alloc: Global, path: &[u8]) -> Result<Vec<u8>, AllocError>
     ensures { IfOk result (λ body. body.items ≡ sources_body path.now) }
 {
-    let mut body = Vec::from_slice(alloc, b"{\"sources\":[{\"path\":")?;
-    push_quoted_text(&mut body, path)?;
-    body.extend_from_slice(b"},{\"name\":\"report\",\"sourceReference\":1}]}")?;
+    let source = source_text(alloc, path)?;
+    let mut body = Vec::from_slice(alloc, b"{\"sources\":[")?;
+    body.extend_from_slice(&source)?;
+    body.extend_from_slice(b",{\"name\":\"report\",\"sourceReference\":1}]}")?;
     Ok(body)
 }
 
@@ -170,15 +172,16 @@ pub fn frame_item(
 ) -> Result<Vec<u8>, AllocError>
     ensures { IfOk result (λ item. item.items ≡ frame_item number name.now line path.now) }
 {
+    let source = source_text(alloc, path)?;
     let mut item = Vec::from_slice(alloc, b",{\"id\":")?;
     push_number(&mut item, number)?;
     item.extend_from_slice(b",\"name\":")?;
     push_quoted(&mut item, name)?;
     item.extend_from_slice(b",\"line\":")?;
     push_number(&mut item, line)?;
-    item.extend_from_slice(b",\"column\":1,\"source\":{\"path\":")?;
-    push_quoted_text(&mut item, path)?;
-    item.extend_from_slice(b"}}")?;
+    item.extend_from_slice(b",\"column\":1,\"source\":")?;
+    item.extend_from_slice(&source)?;
+    item.extend_from_slice(b"}")?;
     Ok(item)
 }
 

@@ -7,10 +7,12 @@ mod escape;
 mod frame;
 mod laws;
 mod messages;
+mod missing;
 mod parts;
 mod post;
 mod request;
 mod shown;
+mod sources;
 
 pub use bodies::{
     NOTHING, content_body, exception_body, frame_item, list_body, output_body, result_body,
@@ -20,7 +22,8 @@ pub use escape::{push_quoted, push_quoted_text};
 pub use frame::{FrameFault, LONGEST_MESSAGE, read_message, split_message};
 pub use laws::messages_are_read_back;
 pub use messages::push_number;
-pub use parts::{Lines, Text, Texts};
+pub use missing::Argument;
+pub use parts::{LinePoint, LinePoints, Text, Texts};
 pub use post::Post;
 pub use request::{Command, Filter, Request, RequestFault, Stops, Wanted, read_request};
 pub use shown::{

@@ -35,35 +35,46 @@ impl Text {
     }
 }
 
-/// Lines of a source, in the order in which a request names them.
+/// A break point on a line of a source.
+#[derive(Clone, Copy, Debug, PartialEq, Eq)]
+pub struct LinePoint {
+    /// The line, counted from 1 on.
+    pub line: u64,
+    /// Whether it stops each time: it has no condition, no count of hits, and no message in place of
+    /// a stop.
+    pub is_plain: bool,
+}
+
+/// Break points on lines of a source, in the order in which a request names them.
 #[derive(Drop)]
-pub struct Lines {
-    numbers: Vec<u64>,
+pub struct LinePoints {
+    points: Vec<LinePoint>,
 }
 
-impl Model for Lines {
-    ghost use Rattle.std.specs.Prelude.{List, ℕ};
+impl Model for LinePoints {
+    ghost use Rattle.std.specs.Prelude.{List};
+    ghost use Rattle.ss_messages.specs.declared.parts.LinePoint.{LinePoint};
 
-    ghost Value = { List ℕ };
+    ghost Value = { List LinePoint };
 
-    ghost view = { λ l. l.numbers.items };
+    ghost view = { λ l. l.points.items };
 }
 
-impl Lines {
+impl LinePoints {
     ghost use Rattle.std.specs.Prelude.{◌≡◌};
 
-    /// These lines.
-    pub fn of(numbers: Vec<u64>) -> Lines
-        ensures { result ≡ numbers.items }
+    /// These break points.
+    pub fn of(points: Vec<LinePoint>) -> LinePoints
+        ensures { result ≡ points.items }
     {
-        Lines { numbers }
+        LinePoints { points }
     }
 
-    /// Their numbers.
-    pub fn as_slice(&self) -> &[u64]
+    /// Them in order.
+    pub fn as_slice(&self) -> &[LinePoint]
         ensures { result.now ≡ self.now }
     {
-        &self.numbers
+        &self.points
     }
 }
 

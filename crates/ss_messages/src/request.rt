@@ -8,10 +8,11 @@ ghost use Rattle.ss_messages.specs.Requests.{request_of};
 ghost use Rattle.ss_messages.specs.declared.request.RequestFault.TheVariants.{NoRequest};
 
 use crate::arguments::{
-    completions, evaluate, info, is_text_at, launch, lines_at, number_at, number_in, text_at,
+    breakpoints, completions, evaluate, info, is_text_at, launch, number_at, number_in, text_at,
     texts_at, wanted,
 };
-use crate::parts::{Lines, Text, Texts};
+use crate::missing::Argument;
+use crate::parts::{LinePoints, Text, Texts};
 use serde_json::Value;
 use std::alloc::{AllocError, Global};
 use std::str;
@@ -37,11 +38,13 @@ pub struct Wanted {
     pub filter: Filter,
 }
 
-/// Where a run stops of itself.
+/// Where a run stops.
 #[derive(Clone, Copy, Debug, PartialEq, Eq)]
 pub struct Stops {
     /// At its start.
     pub at_start: bool,
+    /// At break points. Else it is not debugged: none is set, and the session is over with the run.
+    pub at_points: bool,
     /// At its end. Else the session is over there.
     pub at_end: bool,
 }
@@ -53,8 +56,9 @@ pub enum Command {
     Initialize,
     /// launch: the path of a model, perhaps that of its data, and where the run stops.
     Launch(Text, Option<Text>, Stops),
-    /// setBreakpoints: these lines, and no others.
-    SetBreakpoints(Lines),
+    /// setBreakpoints: these of the source at this path, and no others of it; where no path is named,
+    /// of the model.
+    SetBreakpoints(Option<Text>, LinePoints),
     /// setFunctionBreakpoints: the sections of these names, and no others.
     SetFunctionBreakpoints(Texts),
     /// setDataBreakpoints: these questions, and no others.
@@ -106,7 +110,7 @@ pub enum Command {
     /// terminate.
     Terminate,
     /// An argument that is needed is not there.
-    Bad,
+    Missing(Argument),
     /// No command that is known.
     Unknown,
 }
@@ -170,7 +174,7 @@ fn points_command(alloc: Global, name: &[u8], arguments: &Value) -> Result<Comma
     ensures { IfOk result (λ command. command ≡ points_command name.now (view arguments.now)) }
 {
     if name == b"setBreakpoints".as_slice() {
-        return Ok(Command::SetBreakpoints(lines_at(alloc, arguments)?));
+        return breakpoints(alloc, arguments);
     }
     if name == b"setFunctionBreakpoints".as_slice() {
         return Ok(Command::SetFunctionBreakpoints(texts_at(alloc, arguments, "name")?));

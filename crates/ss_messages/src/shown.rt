@@ -4,8 +4,9 @@ ghost use Rattle.ss_messages.specs.Shown.{paged_item, frames_body, scope_item, t
 ghost use Rattle.ss_messages.specs.Shown.{bool_text, point_text, new_point_body, removed_point_body};
 
 use crate::bodies::without_first;
-use crate::escape::{push_quoted, push_quoted_text};
+use crate::escape::push_quoted;
 use crate::messages::push_number;
+use crate::sources::source_text;
 use std::alloc::{AllocError, Global};
 
 /// A comma and a variable that refers to so many others, which are asked for a page at a time.
@@ -132,13 +133,14 @@ pub fn new_point_body(
     ensures { IfOk result (λ body. body.items ≡ new_point_body id is_verified line path.now) }
 {
     let point = point_text(alloc, id, is_verified)?;
+    let source = source_text(alloc, path)?;
     let mut body = Vec::from_slice(alloc, b"{\"reason\":\"new\",\"breakpoint\":")?;
     body.extend_from_slice(&point)?;
     body.extend_from_slice(b",\"line\":")?;
     push_number(&mut body, line)?;
-    body.extend_from_slice(b",\"source\":{\"path\":")?;
-    push_quoted_text(&mut body, path)?;
-    body.extend_from_slice(b"}}}")?;
+    body.extend_from_slice(b",\"source\":")?;
+    body.extend_from_slice(&source)?;
+    body.extend_from_slice(b"}}")?;
     Ok(body)
 }
 

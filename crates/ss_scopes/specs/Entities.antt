@@ -1,5 +1,5 @@
 -- Entities and their attributes and lists, as an editor shows them.
-use Rattle.std.specs.Prelude.{ℕ, suc, ◌+◌, ◌&&◌, ◌==◌, pos, List, [], ◌∷◌, ◌++◌, length, take, drop, codes, decimal}
+use Rattle.std.specs.Prelude.{ℕ, ◌&&◌, ◌==◌, pos, List, [], ◌∷◌, ◌++◌, length, take, drop, codes, decimal}
 use Rattle.std.specs.Prelude.{nat_lt, if◌then◌else◌}
 use Rattle.std.specs.Result.{result_unwrap_or}
 use Rattle.std.specs.Fmt.{signed_decimal}
@@ -19,19 +19,19 @@ use Rattle.ss_scopes.specs.Kept.{owner_items, member_items}
 abbrev pub entity_name : ProgramTable → ℕ → ℕ → List ℕ
 entity_name program c k = (class_of program c).name ++ codes " " ++ decimal k
 
--- the entity behind i others of some, which is number k of class c
-abbrev pub entity_item : ProgramTable → ℕ → ℕ → ℕ → List ℕ
-entity_item program c i k = variable_item (decimal (i + 1)) (entity_name program c k) (class_reference c k)
+-- entity number k of class c, under its number
+abbrev pub entity_item : ProgramTable → ℕ → ℕ → List ℕ
+entity_item program c k = variable_item (decimal k) (entity_name program c k) (class_reference c k)
 
--- entities of class c, the first of which stands behind i others
-abbrev pub entity_items : ProgramTable → ℕ → ℕ → List ℕ → List ℕ
-entity_items program c i [] = []
-entity_items program c i (k ∷ ks) = entity_item program c i k ++ entity_items program c (suc i) ks
+-- entities of class c
+abbrev pub entity_items : ProgramTable → ℕ → List ℕ → List ℕ
+entity_items program c [] = []
+entity_items program c (k ∷ ks) = entity_item program c k ++ entity_items program c ks
 
 -- a page of the entities of class c that live, the least number first
 abbrev pub living_page : ProgramTable → Store → ℕ → ℕ → ℕ → List ℕ
 living_page program store c start count =
-    entity_items program c start
+    entity_items program c
     (take (page_size start count (length (living_numbers store c))) (drop start (living_numbers store c)))
 
 -- the same, if there is such a class

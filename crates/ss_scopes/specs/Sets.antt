@@ -41,7 +41,7 @@ set_items program store = texts_below (set_item program store) (length program.s
 -- a page of the members of the list of set number s for owner number j, in their order
 abbrev pub members_part : ProgramTable → Store → ℕ → ℕ → ℕ → ℕ → List ℕ
 members_part program store s j start count =
-    entity_items program (set_of program s).member start
+    entity_items program (set_of program s).member
     (members_page program store s (pos j) start
     (page_size start count (length (members_of (shape_of program s) store j))))
 

@@ -4,8 +4,9 @@ use Rattle.ss_state.specs.State.{State}
 use Rattle.ss_state.specs.Run.{Input, run}
 use Rattle.ss_debug.specs.declared.commands.Question.{Question}
 use Rattle.ss_debug.specs.declared.commands.Question.TheVariants.{Clock, Where, Taken, Entry}
-use Rattle.ss_debug.specs.Turn.{show_answer}
-use Rattle.ss_messages.specs.Bodies.{variable_item, without_last}
+use Rattle.ss_trace.specs.declared.question.Question.TheVariants.{Shown}
+use Rattle.ss_trace.specs.Value.{value_at}
+use Rattle.ss_messages.specs.Bodies.{variable_item}
 use Rattle.ss_messages.specs.Shown.{scope_item}
 use Rattle.ss_messages.specs.declared.request.Filter.{Filter}
 use Rattle.ss_messages.specs.declared.request.Filter.TheVariants.{All, Named, Indexed}
@@ -35,9 +36,9 @@ scopes_text input p frame = locals_scope (run input p) (frame - 1) ++ OTHER_SCOP
 
 -- ---- variables
 
--- the answer to a question in state p, under a name
+-- the value of a question of the debugger in state p, under a name
 abbrev pub question_item : List ℕ → Input → ℕ → Question → List ℕ
-question_item name input p question = variable_item name (without_last (show_answer input p question)) 0
+question_item name input p question = variable_item name (value_at input (Shown question) p) 0
 
 -- the clock, and where the run stands
 abbrev pub run_items : Input → ℕ → List ℕ

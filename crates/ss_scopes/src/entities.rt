@@ -39,44 +39,37 @@ pub fn entity_name(
     Ok(name)
 }
 
-/// Appends an entity of the class with this number, which stands behind so many others.
+/// Appends an entity of the class with this number, under its number.
 fn push_entity(
     alloc: Global,
     out: &mut Vec<u8>,
     program: &Program,
     class: usize,
-    place: u64,
     number: u32,
 ) -> Result<(), AllocError>
-    requires { place < 2 ^ 64 - 1 }
     ensures { OnOk result (out.new.items
-        ≡ out.old.items ++ entity_item program.now class place number) }
+        ≡ out.old.items ++ entity_item program.now class number) }
 {
     let mut buffer = Buffer::new();
     let name = entity_name(alloc, program, class, number)?;
     let reference = class_reference(class, number);
-    let item = variable_item(alloc, buffer.format(place + 1).as_bytes(), &name, reference)?;
+    let item = variable_item(alloc, buffer.format(number).as_bytes(), &name, reference)?;
     out.extend_from_slice(&item)
 }
 
-/// Appends entities of the class with this number, the first of which stands behind so many
-/// others.
+/// Appends entities of the class with this number.
 pub fn push_entities(
     alloc: Global,
     out: &mut Vec<u8>,
     program: &Program,
     class: usize,
-    first: u64,
     numbers: &[u32],
 ) -> Result<(), AllocError>
-    requires { first + length numbers.now < 2 ^ 64 }
     ensures { OnOk result (out.new.items
-        ≡ out.old.items ++ entity_items program.now class first numbers.now) }
+        ≡ out.old.items ++ entity_items program.now class numbers.now) }
 {
-    let mut place = first;
     for number in numbers {
-        push_entity(alloc, out, program, class, place, *number)?;
-        place += 1;
+        push_entity(alloc, out, program, class, *number)?;
     }
     Ok(())
 }
@@ -95,7 +88,7 @@ fn push_living<S: SetBoard>(
 {
     let numbers = living_numbers(alloc, machine, class)?;
     let page = numbers_on(&numbers, start, count);
-    push_entities(alloc, out, machine.program(), class, start as u64, page)
+    push_entities(alloc, out, machine.program(), class, page)
 }
 
 /// Appends a page of the entities of a class that live, if there is such a class.

@@ -21,4 +21,4 @@ pub use frames::push_frames;
 pub use group::{Group, class_reference, group_of, set_reference};
 pub use laws::references_are_read_back;
 pub use scopes::push_scopes;
-pub use variables::push_variables;
+pub use variables::{push_variables, question_value};

@@ -122,14 +122,7 @@ fn push_members<S: SetBoard>(
     let size = page_size(start, count, member_count(machine, set, owner) as usize);
     let members = members_page(alloc, machine, set, i64::from(owner), start, size)?;
     let program = machine.program();
-    push_entities(
-        alloc,
-        out,
-        program,
-        program.member_class(set),
-        start as u64,
-        &members,
-    )
+    push_entities(alloc, out, program, program.member_class(set), &members)
 }
 
 /// Appends the lists of a set for some entities of this class.

@@ -1,6 +1,7 @@
 //! The variables that a reference has.
-ghost use Rattle.std.specs.Prelude.{◌≡◌, ◌++◌, OnOk};
+ghost use Rattle.std.specs.Prelude.{◌≡◌, ◌++◌, IfOk, OnOk};
 ghost use Rattle.ss_machine.specs.Moment.{position};
+ghost use Rattle.ss_trace.specs.Value.{value_at};
 ghost use Rattle.ss_scopes.specs.Variables.{question_item, run_items, data_items, group_text, is_indexed, passes};
 ghost use Rattle.ss_scopes.specs.Variables.{variables_text};
 
@@ -9,25 +10,42 @@ use crate::events::push_events;
 use crate::frames::{push_globals, push_locals};
 use crate::group::{Group, group_of};
 use crate::sets::{push_classes, push_list_page, push_set, push_sets};
-use ss_debug::{Debugger, Question};
+use ss_debug::{Debugger, Question as Shown};
 use ss_links::SetBoard;
-use ss_messages::{Filter, Wanted, variable_item, without_last};
+use ss_messages::{Filter, Wanted, variable_item};
+use ss_trace::{Question, push_answer, push_value};
 use std::alloc::{AllocError, Global};
 
-/// Appends the answer to a question, under a name.
+/// The value of a question, as a row and a watch of it tell.
+pub fn question_value<S: SetBoard>(
+    alloc: Global,
+    debugger: &Debugger<S>,
+    question: &Question,
+) -> Result<Vec<u8>, AllocError>
+    ensures { IfOk result (λ value. value.items
+        ≡ value_at debugger.now.machine.input question.now (position debugger.now.machine)) }
+{
+    let mut answer = Vec::new(alloc);
+    push_answer(debugger, question, &mut answer)?;
+    let mut value = Vec::new(alloc);
+    push_value(question, &answer, &mut value)?;
+    Ok(value)
+}
+
+/// Appends the value of a question of the debugger, under a name.
 fn push_question<S: SetBoard>(
     alloc: Global,
     out: &mut Vec<u8>,
     debugger: &Debugger<S>,
     name: &'static [u8],
-    question: Question,
+    question: Shown,
 ) -> Result<(), AllocError>
     ensures { OnOk result (out.new.items ≡ out.old.items
         ++ question_item name.now debugger.now.machine.input (position debugger.now.machine)
         question) }
 {
-    let answer = debugger.answer_to(&question)?;
-    let item = variable_item(alloc, name, without_last(&answer), 0)?;
+    let value = question_value(alloc, debugger, &Question::Shown(question))?;
+    let item = variable_item(alloc, name, &value, 0)?;
     out.extend_from_slice(&item)
 }
 
@@ -40,8 +58,8 @@ fn push_run<S: SetBoard>(
     ensures { OnOk result (out.new.items ≡ out.old.items
         ++ run_items debugger.now.machine.input (position debugger.now.machine)) }
 {
-    push_question(alloc, out, debugger, b"TIME.V", Question::Clock)?;
-    push_question(alloc, out, debugger, b"STATE", Question::Where)
+    push_question(alloc, out, debugger, b"TIME.V", Shown::Clock)?;
+    push_question(alloc, out, debugger, b"STATE", Shown::Where)
 }
 
 /// Appends how many pieces of the data are taken, and the entry.
@@ -53,8 +71,8 @@ fn push_data<S: SetBoard>(
     ensures { OnOk result (out.new.items ≡ out.old.items
         ++ data_items debugger.now.machine.input (position debugger.now.machine)) }
 {
-    push_question(alloc, out, debugger, b"TAKEN", Question::Taken)?;
-    push_question(alloc, out, debugger, b"ENTRY", Question::Entry)
+    push_question(alloc, out, debugger, b"TAKEN", Shown::Taken)?;
+    push_question(alloc, out, debugger, b"ENTRY", Shown::Entry)
 }
 
 /// Appends what a group holds: a page, where it may be long.

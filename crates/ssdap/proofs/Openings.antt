@@ -1,5 +1,5 @@
 -- Launch, and turns of an editor.
-use Rattle.std.proofs.Common.{◌≡◌, ◌≢◌, ℕ, List, [], codes, refl, ◌∙◌, sym, ap, Option, Some, None, Result, Ok, Err}
+use Rattle.std.proofs.Common.{◌≡◌, ◌≢◌, ℕ, Bool, List, [], codes, refl, ◌∙◌, sym, ap, Option, Some, None, Result, Ok, Err}
 use Rattle.std.specs.Prelude.{MatchOption, option_map, IfOk}
 use Rattle.ss_state.specs.Run.{Input, input_with}
 use Rattle.ss_debug.specs.Turn.{DebuggerState, initial_debugger_state}
@@ -15,11 +15,13 @@ use Rattle.ss_messages.specs.declared.request.Request.{Request}
 use Rattle.ss_messages.specs.declared.request.Stops.{Stops}
 use Rattle.ss_adapter.specs.declared.turns.Further.{Further}
 use Rattle.ss_adapter.specs.Desk.{DeskView}
-use Rattle.ss_adapter.specs.Before.{IsLaunched, answer_to_launch, answer_to_refused_launch, fault_line, answers_before}
-use Rattle.ss_adapter.specs.Turn.{AdapterState, adapter_state_of, answers, state_after, further_of}
+use Rattle.ss_adapter.specs.Before.{IsLaunched, IsRefusedLaunch, answer_to_launch, answers_before}
+use Rattle.ss_adapter.specs.Turn.{AdapterState, adapter_state_of, further_of}
+use Rattle.ss_prompt.specs.Names.{warnings_told}
 use Rattle.ss_serve.specs.Meaning.{IsAnswer}
 use Rattle.ssdap.specs.Shelves.{Stands, Given}
 use Rattle.ssdap.specs.Editing.{editor_meaning, editing_state, go_behind, IsStart, Opens, Opening, no_model}
+use Rattle.ssdap.specs.Editing.{IsElsewhere, messages_by, run_by}
 use Rattle.ssdap.specs.Editing.{no_data, refused}
 use Rattle.ssdap.specs.Editing.{opened, IsOpened, opening_messages, AnswersBefore}
 
@@ -42,9 +44,9 @@ abbrev Launches : Request → List ℕ → List ℕ → List ℕ → Stops → P
     Option (DebuggerView × DeskView) → Type 0
 Launches request path model text stops old new run =
     MatchOption run
-    ((fault : LoadFault) × (fault ≢ Memory) × IsLoadFault fault model
-    × (new ≡ posted_all request old (answer_to_refused_launch (fault_line fault))))
-    (λ r. IsLaunched model text path stops r.0 r.1 × (new ≡ posted_all request old answer_to_launch))
+    ((fault : LoadFault) × (fault ≢ Memory) × IsLoadFault fault model × IsRefusedLaunch fault model request old new)
+    (λ r. IsLaunched model text path stops r.0 r.1
+    × (new ≡ posted_all request old (answer_to_launch (warnings_told r.0.machine.input.program model))))
 
 -- that is one opening
 opens : (files : Option (List ℕ → Option (List ℕ))) (request : Request) (path : List ℕ)
@@ -53,15 +55,15 @@ opens : (files : Option (List ℕ → Option (List ℕ))) (request : Request) (p
     Launches request path model text stops old new run →
     IsOpened files request path data_path stops old new (option_map (λ r. adapter_state_of r.0 r.1) run)
 opens files request path data_path stops model text old new None s g h = record {
-  opening = refused h.0;
-  opens = (model, text, s, g, h.1, h.2);
-  posted = h.3;
+  opening = refused h.0 h.3.0;
+  opens = (model, text, s, g, h.1, h.2, h.3.1);
+  posted = h.3.2;
   run_is = refl;
 }
 opens files request path data_path stops model text old new (Some r) s g h = record {
   opening = opened (adapter_state_of r.0 r.1);
   opens = (model, text, s, g, starts model text path stops r.0 r.1 h.0);
-  posted = h.1;
+  posted = rw (ap (λ k. k.model) h.0.desk) h.1;
   run_is = refl;
 }
 
@@ -78,14 +80,16 @@ launch_opens files request path data_path stops model text old new (Ok run) at o
 launch_opens files request path data_path stops model text old new (Err fault) at over held p m t s g h = tt
 
 -- a turn about a run
-pub turned : (files : Option (List ℕ → Option (List ℕ))) (s to : AdapterState) (request : Request)
-    (old new : PostView) (further : Further) → new ≡ posted_all request old (answers s request.command) →
-    to ≡ state_after s request.command → further ≡ further_of request.command →
-    IsAnswer editor_meaning (editing_state files (Some s)) (editing_state files (Some to)) request old new
+pub turned : (files : Option (List ℕ → Option (List ℕ))) (same : Option (List ℕ → List ℕ → Bool))
+    (s to : AdapterState) (request : Request) (old new : PostView) (further : Further) (count : Option ℕ) →
+    IsElsewhere same s.desk.path request.command count →
+    new ≡ posted_all request old (messages_by s request.command count) →
+    to ≡ run_by s request.command count → further ≡ further_of request.command →
+    IsAnswer editor_meaning (editing_state files same (Some s)) (editing_state files same (Some to)) request old new
     (go_behind further)
-turned files s to request old new further p e f = record {
-  sent = answers s request.command;
-  answers = ((refl, ap Some e), refl);
+turned files same s to request old new further count elsewhere p e f = record {
+  sent = messages_by s request.command count;
+  answers = ((count, elsewhere, refl, ap Some e), refl, refl);
   posted = p;
   goes = ap go_behind f;
 }
@@ -116,26 +120,28 @@ no_data_is files request path data_path stops model old new s g p = record {
 }
 
 -- launch is answered
-pub launched_is : (files : Option (List ℕ → Option (List ℕ))) (request : Request) (path : List ℕ)
-    (data_path : Option (List ℕ)) (stops : Stops) (old new : PostView) (run : Option AdapterState) →
-    request.command ≡ Launch path data_path stops → IsOpened files request path data_path stops old new run →
-    IsAnswer editor_meaning (editing_state files None) (editing_state files run) request old new go.On
+pub launched_is : (files : Option (List ℕ → Option (List ℕ))) (same : Option (List ℕ → List ℕ → Bool))
+    (request : Request) (path : List ℕ) (data_path : Option (List ℕ)) (stops : Stops) (old new : PostView)
+    (run : Option AdapterState) → request.command ≡ Launch path data_path stops →
+    IsOpened files request path data_path stops old new run →
+    IsAnswer editor_meaning (editing_state files same None) (editing_state files same run) request old new go.On
 unfolding AnswersBefore
-launched_is files request path data_path stops old new run e o = record {
+launched_is files same request path data_path stops old new run e o = record {
   sent = opening_messages o.opening;
-  answers = (rw e (o.opening, o.opens, refl, o.run_is), refl);
+  answers = (rw e (o.opening, o.opens, refl, o.run_is), refl, refl);
   posted = o.posted;
   goes = rw e refl;
 }
 
 -- another request is, before a run is launched
-pub before_is : (files : Option (List ℕ → Option (List ℕ))) (request : Request) (old new : PostView)
-    (further : Further) → AnswersBefore files request.command (answers_before request.command) None →
+pub before_is : (files : Option (List ℕ → Option (List ℕ))) (same : Option (List ℕ → List ℕ → Bool))
+    (request : Request) (old new : PostView) (further : Further) → AnswersBefore files request.command (answers_before request.command) None →
     new ≡ posted_all request old (answers_before request.command) → further ≡ further_of request.command →
-    IsAnswer editor_meaning (editing_state files None) (editing_state files None) request old new (go_behind further)
-before_is files request old new further a p f = record {
+    IsAnswer editor_meaning (editing_state files same None) (editing_state files same None) request old new
+    (go_behind further)
+before_is files same request old new further a p f = record {
   sent = answers_before request.command;
-  answers = (a, refl);
+  answers = (a, refl, refl);
   posted = p;
   goes = ap go_behind f;
 }

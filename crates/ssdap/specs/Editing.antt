@@ -1,5 +1,6 @@
 -- What answers the requests of an editor: before a run is launched, and about that run.
-use Rattle.std.specs.Prelude.{ℕ, ◌≡◌, ◌≢◌, Bool, true, false, List, [], ◌∷◌, codes, Option, Some, None, Result}
+use Rattle.std.specs.Prelude.{ℕ, ◌≡◌, ◌≢◌, Bool, true, false, List, [], ◌∷◌, length, codes, Option, Some, None}
+use Rattle.std.specs.Prelude.{Result, if◌then◌else◌}
 use Rattle.ss_program.specs.Program.{ProgramTable}
 use Rattle.ss_state.specs.Run.{input_with}
 use Rattle.ss_debug.specs.Turn.{initial_debugger_state}
@@ -10,19 +11,21 @@ use Rattle.ss_session.specs.declared.load.LoadFault.TheVariants.{Memory}
 use Rattle.ss_console.specs.Going.{go_of}
 use Rattle.ss_console.specs.declared.answerer.Go.{Go}
 use Rattle.ss_messages.specs.declared.request.Command.{Command}
-use Rattle.ss_messages.specs.declared.request.Command.TheVariants.{Launch}
+use Rattle.ss_messages.specs.declared.request.Command.TheVariants.{Launch, SetBreakpoints}
 use Rattle.ss_messages.specs.declared.request.Request.{Request}
 use Rattle.ss_messages.specs.declared.request.Stops.{Stops}
 use Rattle.ss_messages.specs.Messages.{Sent, PostView, posted_all, failure}
 use Rattle.ss_adapter.specs.declared.turns.Further.{Further}
 use Rattle.ss_adapter.specs.declared.turns.Further.TheVariants.{On, Ended}
 use Rattle.ss_adapter.specs.Before.{answers_before, answer_to_launch, answer_to_refused_launch, fault_line}
-use Rattle.ss_adapter.specs.Turn.{AdapterState, answers, state_after, further_of}
+use Rattle.ss_adapter.specs.Refused.{IsExplained}
+use Rattle.ss_adapter.specs.Turn.{AdapterState, answers, answers_elsewhere, state_after, further_of}
+use Rattle.ss_prompt.specs.Names.{warnings_told}
 use Rattle.ss_serve.specs.Meaning.{Meaning}
 use Rattle.ss_serve.specs.Seen.{Seen}
 use Rattle.ss_serve.specs.Session.{HasEnded}
 use Rattle.ss_serve.specs.declared.fault.SessionFault.{SessionFault}
-use Rattle.ssdap.specs.Shelves.{Stands, Given}
+use Rattle.ssdap.specs.Shelves.{Stands, Given, IsSame}
 
 -- ---- the state
 
@@ -30,12 +33,15 @@ use Rattle.ssdap.specs.Shelves.{Stands, Given}
 pub record EditingState : Type 0 where
   -- the bytes at each path, or none that can be read
   pub files : Option (List ℕ → Option (List ℕ))
+  -- whether the files at two paths are one, where it is told
+  pub same : Option (List ℕ → List ℕ → Bool)
   -- the run
   pub run : Option AdapterState
 
 -- the same, of its parts
-abbrev pub editing_state : Option (List ℕ → Option (List ℕ)) → Option AdapterState → EditingState
-editing_state files run = record { files = files; run = run }
+abbrev pub editing_state : Option (List ℕ → Option (List ℕ)) → Option (List ℕ → List ℕ → Bool) →
+    Option AdapterState → EditingState
+editing_state files same run = record { files = files; same = same; run = run }
 
 -- ---- launch
 
@@ -43,7 +49,7 @@ editing_state files run = record { files = files; run = run }
 pub data Opening : Type 0 where
   no_model : Opening
   no_data : Opening
-  refused : LoadFault → Opening
+  refused : LoadFault → List ℕ → Opening
   opened : AdapterState → Opening
 
 -- the start of the run of the program that a model is, over its data, on a desk on which nothing is set or told
@@ -70,9 +76,9 @@ abbrev pub Opens : Option (List ℕ → Option (List ℕ)) → List ℕ → Opti
 Opens files path data_path stops no_model = Stands files path None
 Opens files path data_path stops no_data =
     (model : List ℕ) × Stands files path (Some model) × Given files data_path None
-Opens files path data_path stops (refused fault) =
+Opens files path data_path stops (refused fault said) =
     (model : List ℕ) × (text : List ℕ) × Stands files path (Some model) × Given files data_path (Some text)
-    × (fault ≢ Memory) × IsLoadFault fault model
+    × (fault ≢ Memory) × IsLoadFault fault model × IsExplained fault model said
 Opens files path data_path stops (opened s) =
     (model : List ℕ) × (text : List ℕ) × Stands files path (Some model) × Given files data_path (Some text)
     × IsStart path model text stops s
@@ -81,8 +87,8 @@ Opens files path data_path stops (opened s) =
 abbrev pub opening_messages : Opening → List Sent
 opening_messages no_model = failure (codes "cannot read the model") ∷ []
 opening_messages no_data = failure (codes "cannot read the data") ∷ []
-opening_messages (refused fault) = answer_to_refused_launch (fault_line fault)
-opening_messages (opened s) = answer_to_launch
+opening_messages (refused fault said) = answer_to_refused_launch (fault_line fault) said
+opening_messages (opened s) = answer_to_launch (warnings_told s.input.program s.desk.model)
 
 -- the run behind it
 abbrev pub opening_run : Opening → Option AdapterState
@@ -97,16 +103,40 @@ AnswersBefore files (Launch path data_path stops) sent run =
     (o : Opening) × Opens files path data_path stops o × (sent ≡ opening_messages o) × (run ≡ opening_run o)
 AnswersBefore files command sent run = (sent ≡ answers_before command) × (run ≡ None)
 
--- the same, where a run may be launched
-abbrev pub AnswersIn : Option (List ℕ → Option (List ℕ)) → Option AdapterState → Command → List Sent →
+-- how many break points a request sets of another file than the model, which is at this path; none where it sets
+-- some of the model, or of no file that it names
+abbrev pub IsElsewhere : Option (List ℕ → List ℕ → Bool) → List ℕ → Command → Option ℕ → Type 0
+IsElsewhere same model (SetBreakpoints (Some path) points) count =
+    (is_model : Bool) × IsSame same model path is_model
+    × (count ≡ (if is_model then None else Some (length points)))
+IsElsewhere same model other count = count ≡ None
+
+-- what a request about a run is answered with: break points of another file are not set
+abbrev pub messages_by : AdapterState → Command → Option ℕ → List Sent
+messages_by s command None = answers s command
+messages_by s command (Some n) = answers_elsewhere n
+
+-- the run behind it: they change nothing
+abbrev pub run_by : AdapterState → Command → Option ℕ → AdapterState
+run_by s command None = state_after s command
+run_by s command (Some n) = s
+
+-- a request about a run is answered with some messages, and leaves a run
+abbrev pub AnswersAt : Option (List ℕ → List ℕ → Bool) → AdapterState → Command → List Sent →
     Option AdapterState → Type 0
-AnswersIn files None command sent run = AnswersBefore files command sent run
-AnswersIn files (Some s) command sent run = (sent ≡ answers s command) × (run ≡ Some (state_after s command))
+AnswersAt same s command sent run =
+    (count : Option ℕ) × IsElsewhere same s.desk.path command count × (sent ≡ messages_by s command count)
+    × (run ≡ Some (run_by s command count))
+
+-- a request is, where a run may be launched
+abbrev pub AnswersIn : EditingState → Option AdapterState → Command → List Sent → Option AdapterState → Type 0
+AnswersIn e None command sent run = AnswersBefore e.files command sent run
+AnswersIn e (Some s) command sent run = AnswersAt e.same s command sent run
 
 -- a request is answered with these messages, and leads from a state to another
 abbrev pub Answers : EditingState → Request → List Sent → EditingState → Type 0
 Answers s request sent after =
-    AnswersIn s.files s.run request.command sent after.run × (after.files ≡ s.files)
+    AnswersIn s s.run request.command sent after.run × (after.files ≡ s.files) × (after.same ≡ s.same)
 
 -- whether a session ends
 abbrev pub is_ended : Further → Bool
@@ -142,6 +172,7 @@ pub record IsOpened (files : Option (List ℕ → Option (List ℕ))) (request :
 -- ---- a whole session
 
 -- a session before whose start no run is launched, and no message is sent
-abbrev pub IsServed : Option (List ℕ → Option (List ℕ)) → Seen → Result (Unit {0}) SessionFault → Type 0
-IsServed files seen result =
-    (last : EditingState) × HasEnded editor_meaning (editing_state files None) last 0 seen result
+abbrev pub IsServed : Option (List ℕ → Option (List ℕ)) → Option (List ℕ → List ℕ → Bool) → Seen →
+    Result (Unit {0}) SessionFault → Type 0
+IsServed files same seen result =
+    (last : EditingState) × HasEnded editor_meaning (editing_state files same None) last 0 seen result

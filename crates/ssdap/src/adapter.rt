@@ -1,12 +1,13 @@
 //! The requests of an editor, answered by the debugger.
-ghost use Rattle.std.specs.Prelude.{◌≡◌, ◌<◌, ◌^◌, None, option_map, IfOk};
+ghost use Rattle.std.specs.Prelude.{◌≡◌, ◌<◌, ◌^◌, Some, None, option_map, IfOk};
 ghost use Rattle.ss_adapter.specs.Turn.{adapter_state_of};
 ghost use Rattle.ss_serve.specs.Meaning.{IsAnswer};
 ghost use Rattle.ssdap.specs.Editing.{editor_meaning, editing_state, go_behind, IsOpened};
+ghost use Rattle.ssdap.specs.Editing.{IsElsewhere};
 ghost use Rattle.ssdap.specs.Shelves.{Given};
 
 use crate::shelf::Shelf;
-use ss_adapter::{Desk, Further, launch, turn, turn_before};
+use ss_adapter::{Desk, Further, launch, turn, turn_before, turn_elsewhere};
 use ss_console::Go;
 use ss_debug::Debugger;
 use ss_links::LinkedSets;
@@ -106,8 +107,9 @@ fn answer_before<F: Shelf>(
 ) -> Result<Go, AllocError>
     requires none { run.old ≡ None }
     requires room { post.old.sent < 2 ^ 53 }
-    ensures { IfOk result (λ go. IsAnswer editor_meaning (editing_state (F.files shelf.now) None)
-        (editing_state (F.files shelf.now) (option_map (λ r. adapter_state_of r.0 r.1) run.new))
+    ensures { IfOk result (λ go. IsAnswer editor_meaning (editing_state (F.files shelf.now) (F.same shelf.now) None)
+        (editing_state (F.files shelf.now) (F.same shelf.now)
+        (option_map (λ r. adapter_state_of r.0 r.1) run.new))
         request.now post.old post.new go) }
 {
     match &request.command {
@@ -120,16 +122,55 @@ fn answer_before<F: Shelf>(
     }
 }
 
+/// How many break points a request sets of another file than the model; `None` where it sets some of
+/// the model, or of no file that it names.
+fn points_elsewhere<F: Shelf>(shelf: &F, desk: &Desk, command: &Command) -> Option<usize>
+    ensures { IsElsewhere (F.same shelf.now) desk.now.path command.now result }
+{
+    match command {
+        Command::SetBreakpoints(Some(path), points) => {
+            if shelf.is_same(desk.path(), path.as_slice()) {
+                None
+            } else {
+                Some(points.as_slice().len())
+            }
+        }
+        _ => None,
+    }
+}
+
+/// Answers a request about a run; break points of another file than the model are not set.
+#[tactic(auto, using(crate::proofs::Openings::turned))]
+fn answer_about_run<F: Shelf>(
+    shelf: &F,
+    debugger: &mut Debugger<LinkedSets>,
+    desk: &mut Desk,
+    request: &Request,
+    post: &mut Post,
+) -> Result<Go, AllocError>
+    requires { post.old.sent < 2 ^ 53 }
+    ensures { IfOk result (λ go. IsAnswer editor_meaning
+        (editing_state (F.files shelf.now) (F.same shelf.now)
+        (Some (adapter_state_of debugger.old desk.old)))
+        (editing_state (F.files shelf.now) (F.same shelf.now)
+        (Some (adapter_state_of debugger.new desk.new)))
+        request.now post.old post.new go) }
+{
+    match points_elsewhere(shelf, desk, &request.command) {
+        Some(count) => Ok(go_behind(turn_elsewhere(request, post, count)?)),
+        None => Ok(go_behind(turn(debugger, desk, request, post)?)),
+    }
+}
+
 impl<F: Shelf> Answerer for Adapter<'_, F> {
     ghost meaning = { editor_meaning };
 
-    ghost state = { λ a. editing_state (F.files a.shelf.now)
+    ghost state = { λ a. editing_state (F.files a.shelf.now) (F.same a.shelf.now)
         (option_map (λ r. adapter_state_of r.0 r.1) a.run) };
 
-    #[tactic(auto, using(crate::proofs::Openings::turned))]
     fn answer(&mut self, request: &Request, post: &mut Post) -> Result<Go, AllocError> {
         if let Some((debugger, desk)) = &mut self.run {
-            return Ok(go_behind(turn(debugger, desk, request, post)?));
+            return answer_about_run(self.shelf, debugger, desk, request, post);
         }
         answer_before(self.shelf, &mut self.run, request, post)
     }

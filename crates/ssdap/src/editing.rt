@@ -17,7 +17,8 @@ pub fn serve_editor<F: Shelf, C: Channel>(
     shelf: &F,
     channel: &mut C,
 ) -> Result<(), SessionFault>
-    ensures served { IsServed (F.files shelf.now) (seen_of (C.left channel.old) (C.left channel.new)
+    ensures served { IsServed (F.files shelf.now) (F.same shelf.now)
+        (seen_of (C.left channel.old) (C.left channel.new)
         (C.log channel.old) (C.log channel.new)) result }
     ensures broken { C.broken channel.new ≡ broken_after result (C.broken channel.old) }
 {

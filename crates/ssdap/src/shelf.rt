@@ -1,21 +1,41 @@
 //! Where models and data are read from.
-ghost use Rattle.std.specs.Prelude.{ℕ, None, List, Option, option_map, IfOk};
-ghost use Rattle.ssdap.specs.Shelves.{Stands};
+ghost use Rattle.std.specs.Prelude.{ℕ, Bool, None, List, Option, option_map, IfOk};
+ghost use Rattle.ssdap.specs.Shelves.{Stands, IsSame};
 
 use ss_host::{Stop, read_file};
 use std::alloc::AllocError;
+use std::os::unix::fs::MetadataExt;
 use std::rt::Files;
-use std::str;
+use std::{fs, str};
 
 /// Where models and data are read from.
 pub trait Shelf {
     // what stands at each path, its bytes or nothing that can be read, where the shelf tells it
     ghost files: { Self → Option (List ℕ → Option (List ℕ)) };
 
+    // whether the files at two paths are one, where the shelf tells it
+    ghost same: { Self → Option (List ℕ → List ℕ → Bool) };
+
+    /// Whether the files at two paths are one.
+    fn is_same(&self, path: &[u8], other: &[u8]) -> bool
+        ensures { IsSame (same self.now) path.now other.now result };
+
     /// The bytes at a path; `None` where none can be read.
     fn bytes_at(&self, path: &[u8]) -> Result<Option<Vec<u8>>, AllocError>
         ensures { IfOk result
             (λ bytes. Stands (files self.now) path.now (option_map (λ b. b.items) bytes)) };
+}
+
+/// Where the file at a path is kept, by the numbers of its device and its node; `None` where there is
+/// none.
+fn place_of<R: Files>(rt: &R, path: &[u8]) -> Option<(u64, u64)> {
+    let Ok(path) = str::from_utf8(path) else {
+        return None;
+    };
+    match fs::metadata(rt, path) {
+        Ok(metadata) => Some((metadata.dev(), metadata.ino())),
+        Err(_) => None,
+    }
 }
 
 /// The files of the system, of which nothing is told.
@@ -33,6 +53,15 @@ impl<'a, R: Files + AllocGlobal> Disk<'a, R> {
 
 impl<R: Files + AllocGlobal> Shelf for Disk<'_, R> {
     ghost files = { λ _. None };
+
+    ghost same = { λ _. None };
+
+    fn is_same(&self, path: &[u8], other: &[u8]) -> bool {
+        match (place_of(self.rt, path), place_of(self.rt, other)) {
+            (Some(one), Some(another)) => one == another,
+            _ => path == other,
+        }
+    }
 
     fn bytes_at(&self, path: &[u8]) -> Result<Option<Vec<u8>>, AllocError> {
         let Ok(path) = str::from_utf8(path) else {

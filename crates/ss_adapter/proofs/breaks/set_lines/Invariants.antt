@@ -1,18 +1,18 @@
 use Rattle.std.proofs.Common.{◌≡◌, drop, fold}
 use Rattle.ss_debug.specs.View.{debugger_state_of}
 use Rattle.ss_debug.specs.Turn.{debugger_state_with}
-use Rattle.ss_adapter.specs.Places.{setting_of, with_asked}
+use Rattle.ss_adapter.specs.Places.{setting_of, with_point}
 use Rattle.ss_adapter.proofs.breaks.set_lines.Given as goal
 
 -- those that are left bring what is set to what all set
-abbrev pub invariant-loop-line : goal.invariant-loop-line
-invariant-loop-line g l = record {
+abbrev pub invariant-loop-point : goal.invariant-loop-point
+invariant-loop-point g l = record {
   input : l.debugger.machine.input ≡ l.fn.debugger.machine.input;
   state : debugger_state_of l.debugger ≡ debugger_state_with (debugger_state_of l.fn.debugger) l.debugger.breaks;
-  setting : fold (with_asked l.fn.debugger.machine.input.program) (record {
+  setting : fold (with_point l.fn.debugger.machine.input.program) (record {
     breaks = l.debugger.breaks;
     set = l.set.items;
     text = l.text.items;
-  }) (drop l.line-index l.asked)
-      ≡ setting_of l.fn.debugger.machine.input.program l.fn.debugger.breaks l.fn.set.items l.kept l.asked;
+  }) (drop l.point-index l.points)
+      ≡ setting_of l.fn.debugger.machine.input.program l.fn.debugger.breaks l.fn.set.items l.kept l.points;
 }

@@ -1,0 +1,10 @@
+use Rattle.std.proofs.Common.{◌≡◌, ◌≤◌, ◌+◌, ◌-◌, drop}
+use Rattle.ss_messages.specs.Requests.{count_units, within_units}
+use Rattle.ss_messages.proofs.arguments.units_within.Given as goal
+
+-- what is counted so far and what is left of the text make the whole count
+abbrev pub invariant-loop-byte : goal.invariant-loop-byte
+invariant-loop-byte l =
+    (l.left ≤ l.fn.units)
+    × ((l.fn.units - l.left) + count_units (within_units l.left (drop l.byte-index l.text))
+    ≡ count_units (within_units l.fn.units l.text))

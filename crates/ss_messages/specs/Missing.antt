@@ -1,0 +1,12 @@
+-- Arguments that a request needs.
+use Rattle.std.specs.Prelude.{ℕ, List, codes}
+use Rattle.ss_messages.specs.declared.missing.Argument.{Argument}
+use Rattle.ss_messages.specs.declared.missing.Argument.TheVariants.{Model, Expression, Name, Typed, Column}
+
+-- which argument is missing, and what it must be
+abbrev pub wanted_text : Argument → List ℕ
+wanted_text Model = codes "model: a path is wanted"
+wanted_text Expression = codes "expression: a text is wanted"
+wanted_text Name = codes "name: a text is wanted"
+wanted_text Typed = codes "text: a text is wanted"
+wanted_text Column = codes "column: a number is wanted"
