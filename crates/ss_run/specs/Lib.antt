@@ -7,3 +7,6 @@ pub mod Trace
 pub mod Tracing
 pub mod Warned
 pub mod Watched
+pub mod Unnamed
+pub mod Glance
+pub mod Followed

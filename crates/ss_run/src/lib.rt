@@ -3,15 +3,19 @@
 
 mod explained;
 mod fields;
+mod followed;
+mod glance;
 mod here;
 mod rows;
 mod traced;
+mod unnamed;
 mod warned;
 mod watched;
 mod whole_run;
 
 pub use fields::{unfit_values, unfit_words};
 pub use traced::trace_model;
+pub use unnamed::unnamed_questions;
 pub use warned::model_warnings;
 pub use watched::push_question;
 pub use whole_run::{Progress, RunCut, RunEnd, WholeRun, report, run_model, run_status};
