@@ -1,7 +1,7 @@
 -- The rows of a trace, and what is written of them.
 use Rattle.std.proofs.Common.{◌≡◌, ℕ, ◌+◌, ◌<◌, inl, inr, true, List, [], ◌++◌, refl, sym, ap, ◌∙◌}
 use Rattle.std.specs.Prelude.{OnOk, IfErr}
-use Rattle.std.proofs.Common.{Result, Ok, Err, Bool, false, not, cond, bytes_eq, nat_lt, arith, append-nil}
+use Rattle.std.proofs.Common.{Result, Ok, Err, Bool, false, cond, nat_lt, arith, append-nil}
 use Rattle.std.proofs.Common.{append_assoc, add-one}
 use borrow.Author.Tests.{ltb-true, ltb-false}
 use Rattle.std.specs.Io.KnownBytes.{Appends}

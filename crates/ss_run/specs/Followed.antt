@@ -7,7 +7,7 @@ use Rattle.ss_trace.specs.declared.question.Question.TheVariants.{Shown}
 use Rattle.ss_trace.specs.Question.{answer_at}
 use Rattle.ss_trace.specs.Value.{value_in}
 use Rattle.ss_run.specs.declared.glance.Glance.{Glance}
-use Rattle.ss_run.specs.declared.glance.Glance.TheVariants.{Nothing, Length, Members}
+use Rattle.ss_run.specs.declared.glance.Glance.TheVariants.{Length}
 use Rattle.ss_run.specs.declared.followed.Followed.{Followed}
 use Rattle.ss_run.specs.Glance.{glance_at}
 

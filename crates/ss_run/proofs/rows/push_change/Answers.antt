@@ -1,7 +1,7 @@
 use Rattle.std.proofs.Common.{◌≡◌, ◌+◌, ◌++◌, ◌∙◌, [], true, false, sym, ap, append-nil, rules}
 use Rattle.ss_trace.specs.Question.{changes_at}
 use Rattle.ss_trace.specs.Value.{value_at}
-use Rattle.ss_run.specs.Followed.{kept_in, kept_at, value_kept}
+use Rattle.ss_run.specs.Followed.{value_kept}
 use Rattle.ss_run.specs.Trace.{change_row}
 use Rattle.ss_run.specs.Tracing.{row_of}
 use Rattle.ss_run.proofs.Following.{kept_value}

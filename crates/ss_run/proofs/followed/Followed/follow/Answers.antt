@@ -48,4 +48,6 @@ returns-clause-changed g c =
     rw c.replace-before.ensures.value at (sym c.is_left.ensures ∙ c.if-is_left.false) in
     let said : c.has_changed.result ≡ (is_report x || not (bytes_eq f.answer.items c.in_ok-now.now.items)) =
     search rules in
-    said ∙ changed_is t x p c.spot.result.now.place f c.glance_of-seen.result c.in_ok-now.now.items c.requires.kept seen now left
+    said
+    ∙ changed_is t x p c.spot.result.now.place f c.glance_of-seen.result c.in_ok-now.now.items c.requires.kept seen now
+    left
