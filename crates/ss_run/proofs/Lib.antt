@@ -6,3 +6,5 @@ pub mod Traces
 pub mod OneEnd
 pub mod HistoryRows
 pub mod Unfit
+pub mod Turns
+pub mod Following

@@ -1,12 +1,10 @@
 -- The rows of a trace, and what is written of them.
 use Rattle.std.proofs.Common.{◌≡◌, ℕ, ◌+◌, ◌<◌, inl, inr, true, List, [], ◌++◌, refl, sym, ap, ◌∙◌}
 use Rattle.std.specs.Prelude.{OnOk, IfErr}
-use Rattle.std.proofs.Common.{Result, Ok, Err, Bool, false, not, cond, bytes_eq, nat_lt, arith, append-nil}
+use Rattle.std.proofs.Common.{Result, Ok, Err, Bool, false, cond, nat_lt, arith, append-nil}
 use Rattle.std.proofs.Common.{append_assoc, add-one}
 use borrow.Author.Tests.{ltb-true, ltb-false}
 use Rattle.std.specs.Io.KnownBytes.{Appends}
-use Rattle.std.specs.declared.vec.Vec.{Vec}
-use Rattle.std.specs.Global.{Global}
 use Rattle.ss_program.specs.Program.{ProgramTable}
 use Rattle.ss_state.specs.declared.limits.TheConstants.{LAST_POSITION}
 use Rattle.ss_state.specs.declared.stepped.Stepped.TheVariants.{Moved}
@@ -14,13 +12,15 @@ use Rattle.ss_machine.specs.Moment.{Moment, position}
 use Rattle.ss_state.specs.Run.{Input, input_with}
 use Rattle.ss_debug.specs.Move.{is_ready_at}
 use Rattle.ss_trace.specs.declared.question.Question.{Question}
-use Rattle.ss_trace.specs.Question.{answer_at}
+use Rattle.ss_trace.specs.Question.{changes_at}
+use Rattle.ss_trace.specs.Value.{value_at}
 use Rattle.ss_session.specs.declared.load.LoadFault.{LoadFault}
 use Rattle.ss_session.specs.declared.load.LoadFault.TheVariants as load
 use Rattle.ss_session.specs.Load.{IsLoadFault}
 use Rattle.ss_session.specs.Model.{accepted, IsOutcome}
 use Rattle.ss_session.specs.Texts.{OutletState}
 use Rattle.ss_session.proofs.Pieces.{appends_then, appends_none, appends_no_more}
+use Rattle.ss_run.specs.declared.followed.Followed.{Followed}
 use Rattle.ss_run.specs.declared.here.Here.{Here}
 use Rattle.ss_run.specs.declared.whole_run.RunEnd.{RunEnd}
 use Rattle.ss_run.specs.declared.whole_run.RunEnd.TheVariants.{Done, Faulted, Refused}
@@ -32,32 +32,27 @@ use Rattle.ss_run.specs.Advance.{HasAdvanced, MakesRun, RefusesText, RefusesBy, 
 use Rattle.ss_run.specs.Trace.{csv_row, column_names, step_fields, change_row, step_rows, rows_before, trace_text}
 use Rattle.ss_run.specs.Trace.{Reaches}
 use Rattle.ss_run.specs.Trace.{WritesNothing, IsTraced, IsTracedInPart, EndsTraced, TraceSays}
-use Rattle.ss_run.specs.Tracing.{IsHere, AreAnswers, row_of, HasTraced, TracesSoFar}
+use Rattle.ss_run.specs.Tracing.{IsHere, AreKept, row_of, HasTraced, TracesSoFar}
 use Rattle.ss_run.specs.Tracing.{CutsText, CutsStep, CutsRows, MakesTrace}
 use Rattle.ss_run.proofs.Advances.{further, advanced_here}
 use Rattle.ss_run.proofs.Parts.{part_none, part_whole, part_behind}
 use Rattle.ss_run.proofs.Reports.{run_says, refused_says}
 
 -- the row by what is known of a place
-pub row_is : (t : Input) (q : ℕ) (here : Here) (x : Question) (now : List ℕ) → IsHere t q here →
-    now ≡ answer_at t x (q + 1) → row_of t.program here x now ≡ csv_row (step_fields t x q)
-row_is t q here x now h e = cc (h.position, h.clock, h.section, h.line, e)
+pub row_is : (t : Input) (q : ℕ) (here : Here) (x : Question) (value : List ℕ) → IsHere t q here →
+    value ≡ value_at t x (q + 1) → row_of t.program here x value ≡ csv_row (step_fields t x q)
+row_is t q here x value h e = cc (h.position, h.clock, h.section, h.line, e)
 
 -- no row of a question that did not change
-pub row_of_same : (t : Input) (q : ℕ) (x : Question) (before now : List ℕ) → before ≡ answer_at t x q →
-    now ≡ answer_at t x (q + 1) → bytes_eq before now ≡ true → change_row t q x ≡ []
+pub row_of_same : (t : Input) (q : ℕ) (x : Question) → changes_at t x q ≡ false → change_row t q x ≡ []
 unfolding change_row
-row_of_same t q x before now a b e =
-    let same : bytes_eq (answer_at t x q) (answer_at t x (q + 1)) ≡ true = rw (← a, ← b) e in
-    ap (λ (v : Bool). cond (not v) (csv_row (step_fields t x q)) []) same
+row_of_same t q x e = ap (λ (v : Bool). cond v (csv_row (step_fields t x q)) []) e
 
 -- the row of one that changed
-pub row_of_other : (t : Input) (q : ℕ) (x : Question) (before now : List ℕ) → before ≡ answer_at t x q →
-    now ≡ answer_at t x (q + 1) → bytes_eq before now ≡ false → change_row t q x ≡ csv_row (step_fields t x q)
+pub row_of_other : (t : Input) (q : ℕ) (x : Question) → changes_at t x q ≡ true →
+    change_row t q x ≡ csv_row (step_fields t x q)
 unfolding change_row
-row_of_other t q x before now a b e =
-    let other : bytes_eq (answer_at t x q) (answer_at t x (q + 1)) ≡ false = rw (← a, ← b) e in
-    ap (λ (v : Bool). cond (not v) (csv_row (step_fields t x q)) []) other
+row_of_other t q x e = ap (λ (v : Bool). cond v (csv_row (step_fields t x q)) []) e
 
 -- some steps behind others
 pub traced_on : (t : Input) (xs : List Question) (p q r : ℕ) (a b c : OutletState) → HasTraced t xs p q a b →
@@ -121,9 +116,9 @@ cut_at_start t xs a = (0, start_reached t, part_none _ a.taken, omega arith)
 
 -- ---- one step
 
-pub answers_still : (t u : Input) (xs : List Question) (p q : ℕ) (vs : List (Vec ℕ Global)) → u ≡ t → q ≡ p →
-    AreAnswers t xs p vs → AreAnswers u xs q vs
-answers_still t u xs p q vs e f h = rw (e, f) h
+pub kept_still : (t u : Input) (xs : List Question) (p q : ℕ) (fs : List Followed) → u ≡ t → q ≡ p →
+    AreKept t xs p fs → AreKept u xs q fs
+kept_still t u xs p q fs e f h = rw (e, f) h
 
 -- the rows of a step that was made
 pub step_traced : (t u : Input) (xs : List Question) (p q r : ℕ) (a b : OutletState) → u ≡ t → q ≡ p → r ≡ p + 1 →
@@ -134,41 +129,41 @@ step_traced t u xs p q r a b e f g h k =
 
 -- ---- all steps
 
-pub tracing_same : (a b c : Moment) (xs : List Question) (vs : List (Vec ℕ Global)) (o n : OutletState) →
-    TracesSoFar a b xs vs o n → c.input ≡ b.input → position c ≡ position b → TracesSoFar a c xs vs o n
-tracing_same a b c xs vs o n h i e = record {
+pub tracing_same : (a b c : Moment) (xs : List Question) (fs : List Followed) (o n : OutletState) →
+    TracesSoFar a b xs fs o n → c.input ≡ b.input → position c ≡ position b → TracesSoFar a c xs fs o n
+tracing_same a b c xs fs o n h i e = record {
   advanced = advanced_here a b c h.advanced i e;
-  answers = rw e h.answers;
+  kept = rw e h.kept;
   traced = rw e h.traced;
 }
 
-pub tracing_on : (a b c : Moment) (xs : List Question) (vs ws : List (Vec ℕ Global)) (o n m : OutletState) →
-    position a ≡ 0 → TracesSoFar a b xs vs o n → HasAdvanced Moved 1 b c → AreAnswers b.input xs (position c) ws →
-    HasTraced b.input xs (position b) (position c) n m → TracesSoFar a c xs ws o m
-tracing_on a b c xs vs ws o n m e h k v r = record {
+pub tracing_on : (a b c : Moment) (xs : List Question) (fs gs : List Followed) (o n m : OutletState) →
+    position a ≡ 0 → TracesSoFar a b xs fs o n → HasAdvanced Moved 1 b c → AreKept b.input xs (position c) gs →
+    HasTraced b.input xs (position b) (position c) n m → TracesSoFar a c xs gs o m
+tracing_on a b c xs fs gs o n m e h k v r = record {
   advanced = further 1 a b c e h.advanced k;
-  answers = answers_still b.input a.input xs (position c) (position c) ws (sym h.advanced.input) refl v;
+  kept = kept_still b.input a.input xs (position c) (position c) gs (sym h.advanced.input) refl v;
   traced = traced_on a.input xs 0 (position b) (position c) o n m h.traced (rw h.advanced.input at r);
 }
 
-pub tracing_ended : (a b c : Moment) (xs : List Question) (vs : List (Vec ℕ Global)) (o n m : OutletState) →
-    TracesSoFar a b xs vs o n → HasTraced b.input xs (position b) (position c) n m →
+pub tracing_ended : (a b c : Moment) (xs : List Question) (fs : List Followed) (o n m : OutletState) →
+    TracesSoFar a b xs fs o n → HasTraced b.input xs (position b) (position c) n m →
     HasTraced a.input xs 0 (position c) o m
-tracing_ended a b c xs vs o n m h r =
+tracing_ended a b c xs fs o n m h r =
     traced_on a.input xs 0 (position b) (position c) o n m h.traced (rw h.advanced.input at r)
 
 reaches_here : (a b : Moment) → position a ≡ 0 → HasAdvanced Moved (position b) a b → Reaches a.input (position b)
 reaches_here a b e h = record { within = h.within; ready = λ k g. h.ready k (omega (arith, e)) g }
 
-pub tracing_cut : (cut : RunCut) (a b : Moment) (xs : List Question) (vs : List (Vec ℕ Global)) (o n m : OutletState) →
-    position a ≡ 0 → TracesSoFar a b xs vs o n → CutsStep cut b.input xs (position b) n m → CutsRows cut a.input xs o m
-tracing_cut cut a b xs vs o n m e h k =
+pub tracing_cut : (cut : RunCut) (a b : Moment) (xs : List Question) (fs : List Followed) (o n m : OutletState) →
+    position a ≡ 0 → TracesSoFar a b xs fs o n → CutsStep cut b.input xs (position b) n m → CutsRows cut a.input xs o m
+tracing_cut cut a b xs fs o n m e h k =
     cut_on cut a.input xs (position b) o n m (reaches_here a b e h.advanced) h.traced (rw h.advanced.input at k)
 
 -- nothing more is written
-pub tracing_stopped : (a b : Moment) (xs : List Question) (vs : List (Vec ℕ Global)) (o n : OutletState) →
-    position a ≡ 0 → TracesSoFar a b xs vs o n → CutsRows Memory a.input xs o n
-tracing_stopped a b xs vs o n e h =
+pub tracing_stopped : (a b : Moment) (xs : List Question) (fs : List Followed) (o n : OutletState) →
+    position a ≡ 0 → TracesSoFar a b xs fs o n → CutsRows Memory a.input xs o n
+tracing_stopped a b xs fs o n e h =
     cut_on Memory a.input xs (position b) o n n (reaches_here a b e h.advanced) h.traced (appends_none n.taken, refl)
 
 -- the names of the columns, and the rows behind them

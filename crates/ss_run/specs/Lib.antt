@@ -8,3 +8,6 @@ pub mod Tracing
 pub mod Warned
 pub mod Watched
 pub mod Laws
+pub mod Unnamed
+pub mod Glance
+pub mod Followed

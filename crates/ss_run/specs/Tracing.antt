@@ -1,11 +1,9 @@
 -- What the private functions of a traced run rest on. No public contract cites this module.
 use Rattle.std.specs.Prelude.{ℕ, ◌+◌, ◌<◌, ◌≡◌, ◌⊎◌, true, Result, Err, List, [], ◌∷◌, ◌++◌, length, map, decimal}
 use Rattle.std.specs.Prelude.{slice_get}
-use Rattle.std.specs.declared.vec.Vec.{Vec}
-use Rattle.std.specs.Global.{Global}
 use Rattle.std.specs.Fmt.{signed_decimal}
 use Rattle.std.specs.Io.KnownBytes.{Appends}
-use Rattle.ss_program.specs.Program.{ProgramTable}
+use Rattle.ss_program.specs.Program.{ProgramTable, places_of}
 use Rattle.ss_state.specs.declared.limits.TheConstants.{LAST_POSITION}
 use Rattle.ss_state.specs.declared.stepped.Stepped.TheVariants.{Moved}
 use Rattle.ss_machine.specs.Moment.{Moment, position}
@@ -13,15 +11,16 @@ use Rattle.ss_state.specs.Run.{Input, run}
 use Rattle.ss_debug.specs.Move.{is_ready_at, line_at}
 use Rattle.ss_debug.specs.Answer.{section_name}
 use Rattle.ss_trace.specs.declared.question.Question.{Question}
-use Rattle.ss_trace.specs.Question.{answer_at, question_text}
-use Rattle.ss_trace.specs.Value.{value_in}
+use Rattle.ss_trace.specs.Question.{question_text}
 use Rattle.ss_session.specs.Texts.{OutletState}
 use Rattle.ss_session.specs.Written.{WritesPart}
+use Rattle.ss_run.specs.declared.followed.Followed.{Followed}
 use Rattle.ss_run.specs.declared.here.Here.{Here}
 use Rattle.ss_run.specs.declared.whole_run.RunCut.{RunCut}
 use Rattle.ss_run.specs.declared.whole_run.RunCut.TheVariants.{Write, Memory}
 use Rattle.ss_run.specs.declared.whole_run.WholeRun.{WholeRun}
 use Rattle.ss_run.specs.Advance.{MakesRun, HasAdvanced}
+use Rattle.ss_run.specs.Followed.{kept_in, kept_at}
 use Rattle.ss_run.specs.Trace.{csv_row, step_rows, rows_before, Reaches, cut_failures}
 use Rattle.ss_run.specs.Trace.{WritesNothing, IsTraced, IsTracedInPart}
 
@@ -35,19 +34,23 @@ pub record IsHere (input : Input) (q : ℕ) (here : Here) : Type 0 where
   pub section : here.section ≡ (run input q).frame.section
   -- there is such a section
   pub within : here.section < length input.program.sections
+  -- its place
+  pub place : here.place ≡ (run input q).frame.place
+  -- there is such a place
+  pub there : here.place < length (places_of (slice_get input.program.sections here.section))
   -- the line of its place
   pub line : here.line ≡ line_at input q
 
--- the row of a question that has this answer behind a step from there
+-- the row of a question that has this value behind a step from there
 abbrev pub row_of : ProgramTable → Here → Question → List ℕ → List ℕ
-row_of program here question answer =
+row_of program here question value =
     csv_row (decimal here.position ∷ signed_decimal here.clock
     ∷ section_name (slice_get program.sections here.section) ∷ decimal here.line ∷ question_text question
-    ∷ value_in question answer ∷ [])
+    ∷ value ∷ [])
 
--- the answers to some questions in state p
-abbrev pub AreAnswers : Input → List Question → ℕ → List (Vec ℕ Global) → Type 0
-AreAnswers input xs p answers = map (λ v. v.items) answers ≡ map (λ x. answer_at input x p) xs
+-- what is kept of some questions in state p
+abbrev pub AreKept : Input → List Question → ℕ → List Followed → Type 0
+AreKept input xs p fs = map kept_in fs ≡ map (λ x. kept_at input x p) xs
 
 -- the rows of the steps from state p to state q are written
 pub record HasTraced (input : Input) (xs : List Question) (p q : ℕ) (old new : OutletState) : Type 0 where
@@ -61,12 +64,11 @@ pub record HasTraced (input : Input) (xs : List Question) (p q : ℕ) (old new :
   pub failures : new.failures ≡ old.failures
 
 -- a run was traced from its start to where it stands now
-pub record TracesSoFar (a b : Moment) (xs : List Question) (vs : List (Vec ℕ Global)) (old new : OutletState) :
-    Type 0 where
+pub record TracesSoFar (a b : Moment) (xs : List Question) (fs : List Followed) (old new : OutletState) : Type 0 where
   -- it has made as many steps as its position says
   pub advanced : HasAdvanced Moved (position b) a b
-  -- the answers are those of now
-  pub answers : AreAnswers a.input xs (position b) vs
+  -- what is kept of the questions is that of now
+  pub kept : AreKept a.input xs (position b) fs
   -- the rows are written
   pub traced : HasTraced a.input xs 0 (position b) old new
 

@@ -17,7 +17,9 @@ pub struct Here {
     pub clock: i64,
     /// The number of the section that runs.
     pub section: usize,
-    /// The line of its present place.
+    /// The number of its present place there.
+    pub place: usize,
+    /// The line of that place.
     pub line: usize,
 }
 
@@ -36,11 +38,12 @@ pub fn read_here<S: SetBoard>(debugger: &Debugger<S>) -> Here
 {
     let machine = debugger.machine();
     machine.known();
-    let (section, _) = machine.place();
+    let (section, place) = machine.place();
     Here {
         position: machine.position(),
         clock: machine.clock(),
         section,
+        place,
         line: present_line(machine),
     }
 }

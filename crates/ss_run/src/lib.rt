@@ -3,10 +3,13 @@
 
 mod explained;
 mod fields;
+mod followed;
+mod glance;
 mod here;
 mod laws;
 mod rows;
 mod traced;
+mod unnamed;
 mod warned;
 mod watched;
 mod whole_run;
@@ -14,6 +17,7 @@ mod whole_run;
 pub use fields::{unfit_values, unfit_words};
 pub use laws::{rows_are_the_history, run_has_one_end, values_that_do_not_fit_are_counted};
 pub use traced::trace_model;
+pub use unnamed::unnamed_questions;
 pub use warned::model_warnings;
 pub use watched::push_question;
 pub use whole_run::{Progress, RunCut, RunEnd, WholeRun, report, run_model, run_status};

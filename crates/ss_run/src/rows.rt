@@ -1,17 +1,18 @@
 //! The rows of a trace.
 ghost use Rattle.std.specs.Prelude.{◌≡◌, ◌++◌, ◌+◌, ◌<◌, length, map, IfOk, OnOk};
 ghost use Rattle.ss_machine.specs.Moment.{position};
-ghost use Rattle.ss_trace.specs.Question.{answer_at};
 ghost use Rattle.ss_run.specs.Trace.{csv_row, column_names, change_row, step_rows};
-ghost use Rattle.ss_run.specs.Tracing.{IsHere, AreAnswers, row_of};
+ghost use Rattle.ss_run.specs.Followed.{kept_in, kept_at};
+ghost use Rattle.ss_run.specs.Tracing.{IsHere, AreKept, row_of};
 
+use crate::followed::Followed;
 use crate::here::Here;
 use csv::WriterBuilder;
 use itoa::Buffer;
 use ss_debug::Debugger;
 use ss_links::SetBoard;
 use ss_program::Program;
-use ss_trace::{Question, push_answer, push_asked, push_value};
+use ss_trace::{Question, push_asked};
 use std::alloc::{AllocError, Global};
 
 /// The names of the columns of a trace.
@@ -45,22 +46,20 @@ pub fn head_row(alloc: Global) -> Result<Vec<u8>, AllocError>
     csv_row(alloc, &COLUMN_NAMES)
 }
 
-/// The row of a question that has this answer behind a step from where this tells.
+/// The row of a question that has this value behind a step from where this tells.
 fn row_of(
     alloc: Global,
     program: &Program,
     here: Here,
     question: &Question,
-    answer: &[u8],
+    value: &[u8],
 ) -> Result<Vec<u8>, AllocError>
     requires { here.section < length program.now.sections }
     ensures { IfOk result (λ row. row.items
-        ≡ row_of program.now here question.now answer.now) }
+        ≡ row_of program.now here question.now value.now) }
 {
     let mut asked = Vec::new(alloc);
     push_asked(question, &mut asked)?;
-    let mut value = Vec::new(alloc);
-    push_value(question, answer, &mut value)?;
     let (mut state, mut clock, mut line) = (Buffer::new(), Buffer::new(), Buffer::new());
     csv_row(
         alloc,
@@ -70,73 +69,74 @@ fn row_of(
             program.section(here.section).name.bytes.as_slice(),
             line.format(here.line).as_bytes(),
             asked.as_slice(),
-            value.as_slice(),
+            value,
         ],
     )
 }
 
-/// Appends the row of a question that changed at the step that led to where a debugger stands;
-/// nothing where it did not.
+/// Follows a question over the step that led to where a debugger stands, and appends its row where
+/// it changed there.
 fn push_change<S: SetBoard>(
     rows: &mut Vec<u8>,
     debugger: &Debugger<S>,
     here: Here,
     question: &Question,
-    before: &[u8],
-    now: &[u8],
+    followed: &mut Followed,
 ) -> Result<(), AllocError>
     requires here { IsHere debugger.now.machine.input here.position here }
-    requires before { before.now
-        ≡ answer_at debugger.now.machine.input question.now here.position }
-    requires now { now.now
-        ≡ answer_at debugger.now.machine.input question.now (here.position + 1) }
-    ensures { OnOk result (rows.new.items ≡ rows.old.items
+    requires step { position debugger.now.machine ≡ here.position + 1 }
+    requires kept { kept_in followed.old
+        ≡ kept_at debugger.now.machine.input question.now here.position }
+    ensures kept { OnOk result (kept_in followed.new
+        ≡ kept_at debugger.now.machine.input question.now (here.position + 1)) }
+    ensures row { OnOk result (rows.new.items ≡ rows.old.items
         ++ change_row debugger.now.machine.input here.position question.now) }
 {
-    if before == now {
+    let alloc = *rows.allocator();
+    if !followed.follow(alloc, debugger, question, here)? {
         return Ok(());
     }
-    let program = debugger.machine().program();
-    let row = row_of(*rows.allocator(), program, here, question, now)?;
+    let mut value = Vec::new(alloc);
+    followed.push_value(question, &mut value)?;
+    let row = row_of(alloc, debugger.machine().program(), here, question, &value)?;
     rows.extend_from_slice(&row)
 }
 
-/// Appends the rows of the step that led to where a debugger stands, by the answers in the state
-/// before and now.
+/// Follows some questions over the step that led to where a debugger stands, and appends the rows of
+/// that step.
 pub fn push_changes<S: SetBoard>(
     rows: &mut Vec<u8>,
     debugger: &Debugger<S>,
     here: Here,
     questions: &[Question],
-    before: &[Vec<u8>],
-    now: &[Vec<u8>],
+    followed: &mut [Followed],
 ) -> Result<(), AllocError>
     requires here { IsHere debugger.now.machine.input here.position here }
-    requires before { AreAnswers debugger.now.machine.input questions.now here.position before.now }
-    requires now { AreAnswers debugger.now.machine.input questions.now (here.position + 1) now.now }
-    ensures { OnOk result (rows.new.items ≡ rows.old.items
+    requires step { position debugger.now.machine ≡ here.position + 1 }
+    requires kept { AreKept debugger.now.machine.input questions.now here.position followed.old }
+    ensures kept { OnOk result (AreKept debugger.now.machine.input questions.now
+        (here.position + 1) followed.new) }
+    ensures rows { OnOk result (rows.new.items ≡ rows.old.items
         ++ step_rows debugger.now.machine.input questions.now here.position) }
 {
     for k in 0..questions.len() {
-        push_change(rows, debugger, here, &questions[k], &before[k], &now[k])?;
+        push_change(rows, debugger, here, &questions[k], &mut followed[k])?;
     }
     Ok(())
 }
 
-/// The answers to some questions, where a debugger stands.
-pub fn answers<S: SetBoard>(
+/// What is kept of some questions where a debugger stands.
+pub fn follow_all<S: SetBoard>(
     alloc: Global,
     debugger: &Debugger<S>,
     questions: &[Question],
-) -> Result<Vec<Vec<u8>>, AllocError>
-    ensures { IfOk result (λ answers. AreAnswers debugger.now.machine.input questions.now
-        (position debugger.now.machine) answers.items) }
+) -> Result<Vec<Followed>, AllocError>
+    ensures { IfOk result (λ followed. AreKept debugger.now.machine.input questions.now
+        (position debugger.now.machine) followed.items) }
 {
-    let mut answers = Vec::new(alloc);
+    let mut followed = Vec::new(alloc);
     for question in questions {
-        let mut answer = Vec::new(alloc);
-        push_answer(debugger, question, &mut answer)?;
-        answers.push(answer)?;
+        followed.push(Followed::new(alloc, debugger, question)?)?;
     }
-    Ok(answers)
+    Ok(followed)
 }

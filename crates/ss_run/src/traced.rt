@@ -6,11 +6,12 @@ ghost use Rattle.ss_state.specs.Run.{input_with};
 ghost use Rattle.ss_run.specs.Report.{IsRunEnd};
 ghost use Rattle.ss_run.specs.Advance.{HasAdvanced};
 ghost use Rattle.ss_run.specs.Trace.{step_rows, IsTraced, IsTracedInPart, TraceSays};
-ghost use Rattle.ss_run.specs.Tracing.{IsHere, AreAnswers, HasTraced, CutsText, CutsStep};
+ghost use Rattle.ss_run.specs.Tracing.{IsHere, AreKept, HasTraced, CutsText, CutsStep};
 ghost use Rattle.ss_run.specs.Tracing.{CutsRows, MakesTrace};
 
+use crate::followed::Followed;
 use crate::here::{Here, read_here};
-use crate::rows::{answers, head_row, push_changes};
+use crate::rows::{follow_all, head_row, push_changes};
 use crate::whole_run::{
     MOST_KEPT, Progress, RunCut, STEPS_BETWEEN, WholeRun, refusal, write_report,
 };
@@ -22,7 +23,6 @@ use ss_session::{Outlet, load_program, machine, put_all};
 use ss_state::Stepped;
 use ss_trace::Question;
 use std::alloc::{AllocError, Global};
-use std::mem::replace;
 
 /// Lets go of the way back where it has become long.
 fn forget_many<S: SetBoard>(alloc: Global, debugger: &mut Debugger<S>) -> Result<(), AllocError>
@@ -52,22 +52,22 @@ fn put_text<T: Outlet>(trace: &mut T, text: &[u8]) -> Result<(), RunCut>
     }
 }
 
-/// Writes the rows of the step that led to where a debugger stands, and reads the answers there.
+/// Follows some questions over the step that led to where a debugger stands, and writes its rows.
 fn trace_change<S: SetBoard, T: Outlet>(
     alloc: Global,
     debugger: &Debugger<S>,
     here: Here,
     questions: &[Question],
-    before: &mut Vec<Vec<u8>>,
+    followed: &mut Vec<Followed>,
     trace: &mut T,
 ) -> Result<(), RunCut>
     requires here { IsHere debugger.now.machine.input here.position here }
     requires step { position debugger.now.machine ≡ here.position + 1 }
-    requires before { AreAnswers debugger.now.machine.input questions.now here.position
-        before.old.items }
+    requires kept { AreKept debugger.now.machine.input questions.now here.position
+        followed.old.items }
     requires room { T.failures trace.old < 2 ^ 64 - 1 }
-    ensures now { OnOk result (AreAnswers debugger.now.machine.input questions.now
-        (here.position + 1) before.new.items) }
+    ensures kept { OnOk result (AreKept debugger.now.machine.input questions.now
+        (here.position + 1) followed.new.items) }
     ensures rows { OnOk result (Appends (T.taken trace.old) (T.taken trace.new)
         (step_rows debugger.now.machine.input questions.now here.position)
         × (T.failures trace.new ≡ T.failures trace.old)) }
@@ -76,10 +76,8 @@ fn trace_change<S: SetBoard, T: Outlet>(
         (record { taken = T.taken trace.old; failures = T.failures trace.old })
         (record { taken = T.taken trace.new; failures = T.failures trace.new })) }
 {
-    let now = answers(alloc, debugger, questions)?;
     let mut rows = Vec::new(alloc);
-    push_changes(&mut rows, debugger, here, questions, before, &now)?;
-    drop(replace(before, now));
+    push_changes(&mut rows, debugger, here, questions, followed)?;
     put_text(trace, &rows)
 }
 
@@ -88,16 +86,16 @@ fn trace_step<S: SetBoard, T: Outlet>(
     alloc: Global,
     debugger: &mut Debugger<S>,
     questions: &[Question],
-    answers: &mut Vec<Vec<u8>>,
+    followed: &mut Vec<Followed>,
     trace: &mut T,
 ) -> Result<Stepped, RunCut>
-    requires answers { AreAnswers debugger.old.machine.input questions.now
-        (position debugger.old.machine) answers.old.items }
+    requires kept { AreKept debugger.old.machine.input questions.now
+        (position debugger.old.machine) followed.old.items }
     requires room { T.failures trace.old < 2 ^ 64 - 1 }
     ensures step { IfOk result (λ stepped. HasAdvanced stepped 1 debugger.old.machine
         debugger.new.machine) }
-    ensures answers { OnOk result (AreAnswers debugger.old.machine.input questions.now
-        (position debugger.new.machine) answers.new.items) }
+    ensures kept { OnOk result (AreKept debugger.old.machine.input questions.now
+        (position debugger.new.machine) followed.new.items) }
     ensures rows { OnOk result (HasTraced debugger.old.machine.input questions.now
         (position debugger.old.machine) (position debugger.new.machine)
         (record { taken = T.taken trace.old; failures = T.failures trace.old })
@@ -112,7 +110,7 @@ fn trace_step<S: SetBoard, T: Outlet>(
     let stepped = debugger.step_forward()?;
     debugger.machine().known();
     if let Stepped::Moved = stepped {
-        trace_change(alloc, debugger, here, questions, answers, trace)?;
+        trace_change(alloc, debugger, here, questions, followed, trace)?;
     }
     Ok(stepped)
 }
@@ -147,10 +145,10 @@ fn trace_to_end<S: SetBoard, P: Progress, T: Outlet>(
         (record { taken = T.taken trace.new; failures = T.failures trace.new })) }
 {
     debugger.machine().known();
-    let mut answers = answers(alloc, debugger, questions)?;
+    let mut followed = follow_all(alloc, debugger, questions)?;
     loop {
         forget_many(alloc, debugger)?;
-        match trace_step(alloc, debugger, questions, &mut answers, trace)? {
+        match trace_step(alloc, debugger, questions, &mut followed, trace)? {
             Stepped::Moved => tell_progress(debugger, progress),
             Stepped::AtEnd => return Ok(()),
         }
@@ -254,7 +252,8 @@ fn trace_program<P: Progress, T: Outlet, W: Outlet>(
 /// As `run_model`, and writes a trace of some questions as the run goes: comma-separated values, a
 /// row of the names of the columns, and then, for each step at which the answer to a question
 /// changes, the state before the step, its clock, section and line, the question and its value
-/// behind the step (docs/RUNS.md). Of each question the last answer is kept, and no more.
+/// behind the step (docs/RUNS.md). Of each question the last answer is kept, and no more; of the
+/// report its length alone, so that a trace of it takes no longer than the run.
 ///
 /// `Ok` where all of report and trace was written; of a refused model nothing is. `Write` where
 /// `out` counted a failure, and then the trace is whole, or where `trace` counted one: then a part of

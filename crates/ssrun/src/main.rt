@@ -6,11 +6,14 @@ ghost use Rattle.std.specs.Prelude.{◌≡◌};
 ghost use Rattle.ss_host.specs.Stops.{stop_status};
 ghost use Rattle.ss_run.specs.Report.{status_of_run};
 ghost use Rattle.ss_run.specs.WholeRun.{end_of_outcome};
+ghost use Rattle.ssrun.specs.Causes.{cause_status};
 
+mod cause;
 mod meter;
 mod questions;
 mod words;
 
+use cause::Cause;
 use clap::Error;
 use clap::error::ErrorKind;
 use meter::Meter;
@@ -18,6 +21,7 @@ use questions::read_questions;
 use ss_host::{Stop, Stream, read_arguments, read_file, read_or, stop_by, tell};
 use ss_run::{
     RunCut, RunEnd, WholeRun, model_warnings, run_model, run_status, trace_model, unfit_words,
+    unnamed_questions,
 };
 use ss_trace::Question;
 use std::alloc::Global;
@@ -33,11 +37,23 @@ type Ran = (Result<WholeRun, RunCut>, Vec<u8>);
 const USAGE: &str = "ssrun [--watch QUESTION --trace FILE] MODEL [DATA]";
 
 /// The questions that are traced.
-fn watched<'a, R: AllocGlobal>(rt: &R, words: &Words<'a>) -> Result<Vec<Question>, Stop<'a>> {
+fn watched<'a, R: AllocGlobal>(rt: &R, words: &Words<'a>) -> Result<Vec<Question>, Cause<'a>> {
     match read_questions(rt.alloc(), &words.watched) {
-        Ok(Some(questions)) => Ok(questions),
-        Ok(None) => Err(Stop::Usage),
-        Err(_) => Err(Stop::Memory),
+        Ok(Ok(questions)) => Ok(questions),
+        Ok(Err(text)) => Err(Cause::NoQuestion(text)),
+        Err(_) => Err(Cause::Stop(Stop::Memory)),
+    }
+}
+
+/// Refuses questions that name nothing of a model.
+fn check_names<'a>(alloc: Global, model: &[u8], questions: &[Question]) -> Result<(), Cause<'a>> {
+    if questions.is_empty() {
+        return Ok(());
+    }
+    match unnamed_questions(alloc, model, questions) {
+        Ok(lines) if lines.is_empty() => Ok(()),
+        Ok(lines) => Err(Cause::Unnamed(lines)),
+        Err(_) => Err(Cause::Stop(Stop::Memory)),
     }
 }
 
@@ -67,13 +83,14 @@ fn run_traced<'a>(
     ))
 }
 
-/// Reads model and data, in that order, and runs the model where both were read; gives its warnings
-/// too.
-fn run<'a>(rt: &HostRuntime, words: &Words<'a>) -> Result<Ran, Stop<'a>> {
+/// Reads model and data, in that order, and runs the model where both were read and each question
+/// names something; gives its warnings too.
+fn run<'a>(rt: &HostRuntime, words: &Words<'a>) -> Result<Ran, Cause<'a>> {
     let questions = watched(rt, words)?;
-    let model = read_file(rt, words.model)?;
-    let input = read_or(rt, words.input, b"")?;
-    let outcome = run_over(rt, words, &questions, &model, &input)?;
+    let model = read_file(rt, words.model).map_err(Cause::Stop)?;
+    let input = read_or(rt, words.input, b"").map_err(Cause::Stop)?;
+    check_names(rt.alloc(), &model, &questions)?;
+    let outcome = run_over(rt, words, &questions, &model, &input).map_err(Cause::Stop)?;
     let warnings = warnings_of(rt.alloc(), &model, &outcome);
     Ok((outcome, warnings))
 }
@@ -111,6 +128,23 @@ fn stopped<R: Eprint>(rt: &R, stop: Stop<'_>) -> u8
 {
     tell(rt, stop, USAGE);
     stop.status()
+}
+
+/// Says why no run is made, and gives the exit status.
+fn unmade(rt: &HostRuntime, cause: Cause<'_>) -> u8
+    ensures { result ≡ cause_status cause.entry }
+{
+    match cause {
+        Cause::Stop(stop) => stopped(rt, stop),
+        Cause::NoQuestion(text) => {
+            let _ = eprintln!(rt; "NO QUESTION {text}");
+            1
+        }
+        Cause::Unnamed(lines) => {
+            put_lines(rt, &lines);
+            1
+        }
+    }
 }
 
 /// Says on standard error how a run ended, and gives the exit status.
@@ -189,7 +223,7 @@ fn started(rt: &HostRuntime, arguments: &[String]) -> u8 {
             put_lines(rt, &warnings);
             status
         }
-        Err(stop) => stopped(rt, stop),
+        Err(cause) => unmade(rt, cause),
     }
 }
 

@@ -1,24 +1,35 @@
-use Rattle.std.proofs.Common.{◌≡◌, ◌∙◌, [], true, false, sym, append-nil, bytes_eq, rules}
+use Rattle.std.proofs.Common.{◌≡◌, ◌+◌, ◌++◌, ◌∙◌, [], true, false, sym, ap, append-nil, rules}
+use Rattle.ss_trace.specs.Question.{changes_at}
+use Rattle.ss_trace.specs.Value.{value_at}
+use Rattle.ss_run.specs.Followed.{value_kept}
 use Rattle.ss_run.specs.Trace.{change_row}
 use Rattle.ss_run.specs.Tracing.{row_of}
+use Rattle.ss_run.proofs.Following.{kept_value}
 use Rattle.ss_run.proofs.Traces.{row_is, row_of_same, row_of_other}
 use Rattle.ss_run.proofs.rows.push_change.Goals as goal
 
-pub returns-then-eq : goal.returns-then-eq
-returns-then-eq g c =
+pub returns-then-not-branch-clause-row : goal.returns-then-not-branch-clause-row
+returns-then-not-branch-clause-row g c =
     let t = c.args.debugger.now.machine.input in
-    let same : bytes_eq c.args.before.now c.args.now.now ≡ true = search rules in
-    let none : change_row t c.args.here.position c.args.question.now ≡ [] =
-    row_of_same t _ _ _ _ c.requires.before c.requires.now same in
+    let p = c.args.here.position in
+    let x = c.args.question.now in
+    let same : changes_at t x p ≡ false = sym c.in_ok-follow.ensures.changed ∙ c.if-not-branch.true in
+    let none : change_row t p x ≡ [] = row_of_same t p x same in
     rw none (sym (append-nil _))
 
-pub returns : goal.returns
-returns g c =
+pub returns-clause-row : goal.returns-clause-row
+returns-clause-row g c =
     let t = c.args.debugger.now.machine.input in
-    let other : bytes_eq c.args.before.now c.args.now.now ≡ false = search rules in
-    let row : c.in_ok-row.row.items ≡ row_of t.program c.args.here c.args.question.now c.args.now.now =
-    rw (c.program-program.ensures, c.machine.ensures) at c.in_ok-row.ensures in
-    let told : c.in_ok-row.row.items ≡ change_row t c.args.here.position c.args.question.now =
-    row ∙ row_is t _ _ _ _ c.requires.here c.requires.now
-    ∙ sym (row_of_other t _ _ _ _ c.requires.before c.requires.now other) in
+    let p = c.args.here.position in
+    let x = c.args.question.now in
+    let f = c.follow.new.self in
+    let other : changes_at t x p ≡ true = sym c.in_ok-follow.ensures.changed ∙ c.if-not-branch.false in
+    let value : c.push_value.new.bytes.items ≡ value_at t x (p + 1) =
+    c.in_ok-push_value.ensures ∙ ap (λ text. text ++ value_kept x f.glance f.answer.items) c.new-value.ensures.items
+    ∙ kept_value t x (p + 1) f c.in_ok-follow.ensures.kept in
+    let row : c.in_ok-row.row.items ≡ row_of t.program c.args.here x c.deref.result.now =
+    rw (c.program.ensures, c.machine.ensures) at c.in_ok-row.ensures in
+    let told : c.in_ok-row.row.items ≡ change_row t p x =
+    row ∙ row_is t p c.args.here x c.deref.result.now c.requires.here (c.deref.ensures.value ∙ value)
+    ∙ sym (row_of_other t p x other) in
     rw (← told) (search rules)

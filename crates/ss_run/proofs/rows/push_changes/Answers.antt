@@ -1,23 +1,31 @@
-use Rattle.std.proofs.Common.{◌+◌, ◌<◌, ◌∙◌, length, arith}
-use Rattle.ss_trace.specs.Question.{answer_at}
-use Rattle.ss_run.proofs.Parts.{answer_of}
+use Rattle.std.proofs.Common.{◌+◌, ◌<◌, ◌∙◌, length, sym, ap, arith}
+use Rattle.ss_run.specs.Followed.{kept_in, kept_at}
+use Rattle.ss_run.specs.Trace.{change_row}
+use Rattle.ss_run.proofs.Turns.{next_there, turned, told_more}
 use Rattle.ss_run.proofs.rows.push_changes.Goals as goal
 
-pub push_change-requires-clause-before : goal.push_change-requires-clause-before
-push_change-requires-clause-before g c =
+pub push_change-requires-clause-kept : goal.push_change-requires-clause-kept
+push_change-requires-clause-kept g c =
     let t = c.args.debugger.now.machine.input in
+    let p = c.args.here.position in
     let xs = c.args.questions.now in
     let within : c.loop-k.k < length xs = omega arith in
-    c.deref.ensures.value
-    ∙ answer_of (λ v. v.items) (λ x. answer_at t x c.args.here.position) c.args.before.now xs c.loop-k.k
-    c.index-before-k.result c.index-questions-k.result c.requires.before within c.index-before-k.is
-    c.index-questions-k.is
+    ap kept_in (sym c.index-followed-k.is)
+    ∙ next_there (λ x. kept_at t x p) (λ x. kept_at t x (p + 1)) kept_in xs c.loop-k.followed c.loop-k.k
+    c.index-followed-k.result c.index-questions-k.result within c.index-followed-k.is c.index-questions-k.is
+    c.loop-k.invariant.kept
 
-pub push_change-requires-clause-now : goal.push_change-requires-clause-now
-push_change-requires-clause-now g c =
+pub loop-k-preserved : goal.loop-k-preserved
+loop-k-preserved g c =
     let t = c.args.debugger.now.machine.input in
+    let p = c.args.here.position in
     let xs = c.args.questions.now in
     let within : c.loop-k.k < length xs = omega arith in
-    c.deref-in-loop-k.ensures.value
-    ∙ answer_of (λ v. v.items) (λ x. answer_at t x (c.args.here.position + 1)) c.args.now.now xs c.loop-k.k
-    c.index-now-k.result c.index-questions-k.result c.requires.now within c.index-now-k.is c.index-questions-k.is
+    record {
+      kept = turned (λ x. kept_at t x p) (λ x. kept_at t x (p + 1)) kept_in xs c.loop-k.followed c.loop-k.k
+          c.push_change.new.followed c.index-questions-k.result within c.index-questions-k.is
+          c.in_ok-push_change.ensures.kept c.loop-k.invariant.kept;
+      rows = told_more (change_row t p) xs c.loop-k.k c.index-questions-k.result c.args.rows.now.items
+          c.loop-k.rows.items c.push_change.new.rows.items within c.index-questions-k.is c.loop-k.invariant.rows
+          c.in_ok-push_change.ensures.row;
+    }

@@ -1,0 +1,34 @@
+-- Private: what is kept of a question that is traced, from state to state.
+use Rattle.std.specs.Prelude.{ℕ, Bool, true, false, List, [], ◌++◌, codes, decimal, if◌then◌else◌}
+use Rattle.ss_state.specs.Run.{Input}
+use Rattle.ss_debug.specs.declared.commands.Question.TheVariants as shown
+use Rattle.ss_trace.specs.declared.question.Question.{Question}
+use Rattle.ss_trace.specs.declared.question.Question.TheVariants.{Shown}
+use Rattle.ss_trace.specs.Question.{answer_at}
+use Rattle.ss_trace.specs.Value.{value_in}
+use Rattle.ss_run.specs.declared.glance.Glance.{Glance}
+use Rattle.ss_run.specs.declared.glance.Glance.TheVariants.{Length}
+use Rattle.ss_run.specs.declared.followed.Followed.{Followed}
+use Rattle.ss_run.specs.Glance.{glance_at}
+
+-- whether a question asks for the report
+abbrev pub is_report : Question → Bool
+is_report (Shown shown.Report) = true
+is_report question = false
+
+-- the answer that is kept in state p: none of the report, of which its length is seen
+abbrev pub answer_kept : Input → Question → ℕ → List ℕ
+answer_kept input question p = if is_report question then [] else answer_at input question p
+
+-- what is kept in state p: what is seen, and the answer
+abbrev pub kept_at : Input → Question → ℕ → Glance × List ℕ
+kept_at input question p = (glance_at input question p, answer_kept input question p)
+
+-- what is kept there
+abbrev pub kept_in : Followed → Glance × List ℕ
+kept_in followed = (followed.glance, followed.answer.items)
+
+-- the value of a question by what is kept of it
+abbrev pub value_kept : Question → Glance → List ℕ → List ℕ
+value_kept question (Length n) answer = decimal n ++ codes " BYTES"
+value_kept question _ answer = value_in question answer
