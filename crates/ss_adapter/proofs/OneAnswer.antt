@@ -13,8 +13,10 @@ use Rattle.ss_messages.specs.declared.request.Command.{Command}
 use Rattle.ss_messages.specs.declared.request.Command.TheVariants.{ConfigurationDone, Obey, Ask, Source}
 use Rattle.ss_messages.specs.declared.request.Command.TheVariants.{ExceptionInfo, Terminate}
 use Rattle.ss_messages.specs.Messages.{Sent, reply, failure, event}
-use Rattle.ss_messages.specs.Bodies.{output_body, content_body, without_last}
+use Rattle.ss_messages.specs.Bodies.{output_body, content_body, result_body, without_last}
 use Rattle.ss_adapter.specs.declared.going.Going.{Going}
+use Rattle.ss_trace.specs.Value.{value_at}
+use Rattle.ss_adapter.specs.Named.{is_named}
 use Rattle.ss_adapter.specs.Desk.{DeskView}
 use Rattle.ss_adapter.specs.Looking.{reason_at, hit_at, is_over, exception_by, question_of}
 use Rattle.ss_adapter.specs.Going.{going_of, going_answer, state_behind, watched_by}
@@ -22,9 +24,9 @@ use Rattle.ss_adapter.specs.Console.{point_told}
 use Rattle.ss_adapter.specs.Turn.{AdapterState, report_at, untold_output, stop_events, end_by, end_of}
 use Rattle.ss_adapter.specs.Turn.{behind_movement, behind_going, going_to_stop, point_behind, behind_command}
 use Rattle.ss_adapter.specs.Turn.{console_after, answer_to_question, answer_on_fault}
-use Rattle.ss_adapter.specs.Turn.{answer_about_run, told_of, answers_by, answer_to_configuration}
+use Rattle.ss_adapter.specs.Turn.{answer_about_run, told_debugged, told_by, undebugged_count, answers_by, answer_to_configuration}
 use Rattle.ss_adapter.specs.Turn.{exit_events, stopped_event, reply_with_stop, reply_with_going, source_messages}
-use Rattle.ss_adapter.specs.Before.{answers_before}
+use Rattle.ss_adapter.specs.Before.{answers_before, warning_events}
 use Rattle.ss_adapter.specs.Laws.{AreEvents, AreOneAnswer, HaveOneAnswer}
 
 -- ---- lists of messages
@@ -105,7 +107,9 @@ command_told state command false = line_told state command (point_of state.input
 
 question_answered : (input : Input) (p : ℕ) (question : Option Question) →
     AreOneAnswer (answer_to_question input p question)
-question_answered input p (Some q) = tt
+question_answered input p (Some q) =
+    answer_by (is_named input.program q) (reply (result_body (value_at input q p)) ∷ [])
+    (failure (codes "nothing has this name") ∷ []) tt tt
 question_answered input p None = tt
 
 fault_answered : (body : Option (List ℕ)) → AreOneAnswer (answer_on_fault body)
@@ -123,8 +127,8 @@ source_answered : (report : List ℕ) (reference : ℕ) → AreOneAnswer (source
 source_answered report reference =
     answer_by (nat_eq reference 1) (reply (content_body report) ∷ []) (failure (codes "no source") ∷ []) tt tt
 
-standing_answered : (state : AdapterState) (command : Command) → AreOneAnswer (told_of state command)
-unfolding told_of answer_about_run
+standing_answered : (state : AdapterState) (command : Command) → AreOneAnswer (told_debugged state command)
+unfolding told_debugged answer_about_run
 standing_answered state ConfigurationDone = configuration_answered state
 standing_answered state (Obey text) =
     command_told state (prompt_command_of text) (is_movement (prompt_command_of text))
@@ -134,22 +138,31 @@ standing_answered state ExceptionInfo =
     fault_answered (exception_by (run state.input state.debugger.position).status)
 standing_answered state _ = tt
 
+answered_by : (state : AdapterState) (command : Command) (unset : Option ℕ) →
+    AreOneAnswer (told_by state command unset)
+answered_by state command None = standing_answered state command
+answered_by state command (Some n) = tt
+
 request_answered : (state : AdapterState) (command : Command) (going : Option Going) →
     AreOneAnswer (answers_by state command going)
 request_answered state command (Some g) =
     going_told state g (going_answer state.input state.debugger g)
-request_answered state command None = standing_answered state command
+request_answered state command None = answered_by state command (undebugged_count state command)
 
 before_answered : (command : Command) → AreOneAnswer (answers_before command)
 unfolding answers_before
 before_answered Terminate = tt
 before_answered _ = tt
 
+warned : (warnings : List ℕ) → AreEvents (warning_events warnings)
+warned [] = tt
+warned (b ∷ bs) = tt
+
 pub one_answer : HaveOneAnswer
 one_answer = record {
   after = λ state command. request_answered state command
       (going_of state.input state.debugger state.desk.watched command);
   before = before_answered;
-  accepted = tt;
-  refused = λ line. tt;
+  accepted = λ warnings. events_more (warning_events warnings) _ (warned warnings) tt;
+  refused = λ line said. tt;
 }

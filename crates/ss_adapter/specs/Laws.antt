@@ -26,6 +26,6 @@ pub record HaveOneAnswer : Type 0 where
   -- before
   pub before : (command : Command) → AreOneAnswer (answers_before command)
   -- launch, where the model is accepted
-  pub accepted : AreOneAnswer answer_to_launch
+  pub accepted : (warnings : List ℕ) → AreOneAnswer (answer_to_launch warnings)
   -- where it is refused
-  pub refused : (line : List ℕ) → AreOneAnswer (answer_to_refused_launch line)
+  pub refused : (line said : List ℕ) → AreOneAnswer (answer_to_refused_launch line said)
