@@ -1,11 +1,12 @@
 -- the values of a frame's locals
-use Rattle.std.proofs.Common.{◌≡◌, ◌≤◌, ◌<◌, ℕ, ℤ, zero, suc, pos, Bool, true, false, List, [], ◌∷◌, length, take, nat_le}
-use Rattle.std.proofs.Common.{get_or, set, slice_index_or, min, refl, ap, sym, ◌∙◌, arith, length-take}
-use Rattle.std.proofs.lemmas.Bool.{leb-true}
-use Rattle.std.proofs.lemmas.List.{get_or-take}
+use Rattle.std.proofs.Common.{◌≡◌, ◌≤◌, ◌<◌, ◌+◌, ◌-◌, ◌++◌, ℕ, ℤ, zero, suc, pos, Bool, true, false, List, [], ◌∷◌}
+use Rattle.std.proofs.Common.{length, take, replicate, nat_le, get_or, set, slice_index_or, min, refl, ap, sym, ◌∙◌}
+use Rattle.std.proofs.Common.{arith, length-append, length-take}
+use Rattle.std.proofs.lemmas.Bool.{leb-true, leb-false}
+use Rattle.std.proofs.lemmas.List.{get_or-take, length-replicate}
 use Rattle.std.proofs.Math.Seq.{take-set-lt}
 use Rattle.ss_state.proofs.Sets.{set_back}
-use Rattle.ss_machine.specs.Locals.{padded, values_by, IsPaddedBy}
+use Rattle.ss_machine.specs.Locals.{padded, values_by, IsPaddedBy, HasCountBy}
 
 -- the values given, and 0 behind them
 front_is : (count : ℕ) (given : List ℤ) → count ≤ 4 → length given ≤ count →
@@ -60,3 +61,24 @@ few_back count xs i x there =
     get_or-take count xs i (pos 0) (omega (arith, there, long)) in
     ap (λ (ys : List ℤ). set ys i (get_or xs i (pos 0))) first
     ∙ (ap (λ (y : ℤ). set (set (take count xs) i x) i y) (sym held) ∙ set_back (take count xs) i x (pos 0))
+
+padded_length : (given : List ℤ) (count : ℕ) → length given ≤ count → length (padded given count) ≡ count
+padded_length given count fits =
+    let rest : List ℤ = replicate (count - length given) (pos 0) in
+    let both : length (given ++ rest) ≡ length given + length rest = length-append given rest in
+    let long : length rest ≡ count - length given = length-replicate (count - length given) (pos 0) in
+    omega (arith, both, long, fits)
+
+-- memory with the values given has so many
+pub has_count : (b : Bool) (count : ℕ) (given many : List ℤ) → length given ≤ count →
+    IsPaddedBy b given count many → HasCountBy b count many
+has_count true count given many fits are = tt
+has_count false count given many fits are = ap length are ∙ padded_length given count fits
+
+-- values that are few are those that lie within
+pub few_are : (b : Bool) (count : ℕ) (few many : List ℤ) → nat_le count 4 ≡ b → HasCountBy b count many →
+    length (values_by b count few many) ≤ 4 → take count few ≡ values_by b count few many
+few_are true count few many is has short = refl
+few_are false count few many is has short =
+    let greater : 4 < count = leb-false count 4 is in
+    absurd (omega (arith, greater, has, short))

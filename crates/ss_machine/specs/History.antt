@@ -2,7 +2,7 @@
 pub mod Kinds
 pub mod Numbers
 use Rattle.std.specs.Prelude.{◌≡◌, ℕ, ℤ, pos, negsuc, ◌-◌, ◌/◌, ◌%◌, ◌^◌, ◌≤◌, ◌+◌, ◌==◌, not, min, zero, suc, Bool}
-use Rattle.std.specs.Prelude.{List, [], ◌∷◌, ◌++◌, drop, slice_index, MatchOption, Option, Some, None, if◌then◌else◌}
+use Rattle.std.specs.Prelude.{List, [], ◌∷◌, ◌++◌, drop, take, slice_index, Some, None, if◌then◌else◌}
 use Rattle.std.specs.declared.vec.Vec.{Vec}
 use Rattle.std.specs.Global.{Global}
 use Rattle.ss_journal.specs.Log.{Log}
@@ -16,9 +16,8 @@ use Rattle.ss_state.specs.declared.entry.Entry.TheVariants as entry
 use Rattle.ss_events.specs.declared.pending_notice.PendingNotice.{PendingNotice}
 use Rattle.ss_machine.specs.declared.history.tape.Tape.{Tape}
 use Rattle.ss_state.specs.Change.{Change}
+use Rattle.ss_state.specs.State.{FrameState, no_statistics}
 use Rattle.ss_state.specs.Change as changes
-use Rattle.ss_machine.specs.declared.state.change.Change.{Change as CodeChange}
-use Rattle.ss_machine.specs.ChangeView.{as_change}
 use Rattle.ss_machine.specs.declared.history.tape.Owned.{Owned}
 use Rattle.ss_machine.specs.declared.history.tape.Owned.TheVariants as owned
 use Rattle.ss_machine.specs.declared.history.kinds.ChangeKind.{ChangeKind}
@@ -132,22 +131,37 @@ abbrev pub text_change : TextChangeKind → List ℕ → Change
 text_change texts.Taken ns = changes.Taken (at 0 ns)
 text_change texts.Report ns = changes.Report (at 0 ns)
 
+-- a small frame, from its section, its place, how many locals it has, whether FIND found a case, and its values
+abbrev pub small_frame_of : List ℕ → List ℤ → FrameState
+small_frame_of ns values = record {
+  section = at 0 ns;
+  place = at 1 ns;
+  locals = take (at 2 ns) values;
+  loops = [];
+  found = is_set (at 3 ns);
+  statistics = no_statistics;
+}
+
 -- of where the run stands
 abbrev pub control_change : ControlChangeKind → List ℕ → List Owned → Change
 control_change controls.Place ns os = changes.Place (at 0 ns)
 control_change controls.FrameDropped ns (owned.Frame frame ∷ os) = changes.FrameDropped frame
 control_change controls.Status ns (owned.Status status ∷ os) = changes.Status status
+control_change controls.SmallFrameDropped ns (owned.Locals values ∷ os) =
+    changes.FrameDropped (small_frame_of ns values)
 control_change other ns os = changes.FrameOpened
 
 -- how many numbers tell such a change
 abbrev pub control_numbers : ControlChangeKind → ℕ
 control_numbers controls.Place = 1
+control_numbers controls.SmallFrameDropped = 4
 control_numbers other = 0
 
 -- and how much of it is kept as it is
 abbrev pub control_kept : ControlChangeKind → ℕ
 control_kept controls.FrameDropped = 1
 control_kept controls.Status = 1
+control_kept controls.SmallFrameDropped = 1
 control_kept other = 0
 
 -- of open loops
@@ -263,6 +277,11 @@ abbrev pub IsFrame : List Owned → Type 0
 IsFrame (owned.Frame frame ∷ os) = Unit {0}
 IsFrame other = ⊥
 
+-- the first one kept is the locals of a small frame
+abbrev pub AreLocals : List Owned → Type 0
+AreLocals (owned.Locals values ∷ os) = Unit {0}
+AreLocals other = ⊥
+
 -- the first one kept is a status
 abbrev pub IsStatus : List Owned → Type 0
 IsStatus (owned.Status status ∷ os) = Unit {0}
@@ -282,11 +301,17 @@ AreValues other = ⊥
 abbrev pub HasKept : ChangeKind → List Owned → Type 0
 HasKept (kinds.Control controls.FrameDropped) os = IsFrame os
 HasKept (kinds.Control controls.Status) os = IsStatus os
+HasKept (kinds.Control controls.SmallFrameDropped) os = AreLocals os
 HasKept (kinds.Loop loops.Closed) os = IsLoop os
 HasKept (kinds.Entity entities.Ended) os = AreValues os
 HasKept (kinds.Time times.FirstTakenOff) os = AreValues os
 HasKept (kinds.Time times.TakenOff) os = AreValues os
 HasKept other os = Unit {0}
+
+-- a kind of which a change is read; that a small frame was dropped is taken back at once
+abbrev pub IsOfChange : ChangeKind → Type 0
+IsOfChange (kinds.Control controls.SmallFrameDropped) = ⊥
+IsOfChange other = Unit {0}
 
 -- it is so of each change, and nothing else is kept
 abbrev pub IsWritten : ℕ → List ℕ → List Owned → Type 0
@@ -323,29 +348,6 @@ pub record IsRead (kind : ChangeKind) (change : Change) (old new : Tape) : Type 
   pub numbers_left : new.numbers.current ≡ behind (number_count kind) old.numbers.current
   -- and what is kept of it
   pub kept_left : new.kept.current ≡ behind (kept_count kind) old.kept.current
-  -- the closed steps stay
-  pub number_steps : new.numbers.steps ≡ old.numbers.steps
-  -- and what is kept of them
-  pub kept_steps : new.kept.steps ≡ old.kept.steps
-  -- no room for a close is lost
-  pub number_closes : new.numbers.closes ≡ old.numbers.closes
-  -- nor beside
-  pub kept_closes : new.kept.closes ≡ old.kept.closes
-  -- no room for numbers is lost
-  pub numbers : old.numbers.notes ≤ new.numbers.notes
-  -- nor for what is kept
-  pub kept : old.kept.notes ≤ new.kept.notes
-
--- the newest change was taken off, if there is one, and nothing else changed but the room
-pub record IsPopped (change : Option CodeChange) (old new : Tape) : Type 0 where
-  -- the newest change is taken off, if there is one
-  pub current : MatchOption change
-      ((changes_of old.numbers.current old.kept.current ≡ [])
-      × (changes_of new.numbers.current new.kept.current ≡ []))
-      (λ c. changes_of old.numbers.current old.kept.current
-      ≡ as_change c ∷ changes_of new.numbers.current new.kept.current)
-  -- the open step is of whole changes, if it was
-  pub written : IsWritten 0 new.numbers.current new.kept.current
   -- the closed steps stay
   pub number_steps : new.numbers.steps ≡ old.numbers.steps
   -- and what is kept of them

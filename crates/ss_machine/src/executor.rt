@@ -345,9 +345,7 @@ impl<S: SetBoard> Executor<S> {
         ensures notes { self.old.journal.notes ≤ self.new.journal.notes }
         ensures closes { self.new.journal.closes ≡ self.old.journal.closes }
     {
-        while let Some(change) = self.journal.pop_open() {
-            self.held.undo(change);
-        }
+        while self.journal.undo_newest(&mut self.held) {}
     }
 }
 

@@ -8,11 +8,19 @@ pub mod writing;
 
 ghost use Rattle.std.specs.Prelude.{◌≡◌, ◌+◌, ◌<◌, ◌≤◌, ◌∷◌, [], length, IsOk, OnOk, MatchBool, MatchOption};
 ghost use Rattle.ss_machine.specs.ChangeView.{as_change};
+ghost use Rattle.ss_machine.specs.Locals.{small_frame};
+ghost use Rattle.ss_journal.specs.Undoing.{unapply_all, FitsAll};
+ghost use Rattle.ss_state.specs.Change.{Fits, unapply, FrameDropped};
 
+use crate::history::kinds::ChangeKind;
 use crate::history::numbers::Numbers;
 use crate::history::tape::Tape;
+use crate::state::State;
 use crate::state::change::Change;
+use crate::state::frame::SmallFrame;
 use ss_byte_journal::SparseJournal;
+use ss_journal::Undo;
+use ss_links::SetBoard;
 use std::alloc::{AllocError, Global};
 use std::marker::Model;
 
@@ -99,6 +107,46 @@ impl History {
         self.tape.note(change);
     }
 
+    /// Notes that a small frame was dropped.
+    #[inline(always)]
+    pub fn note_dropped(&mut self, frame: &SmallFrame)
+        requires { 0 < self.old.notes }
+        ensures steps { self.new.steps ≡ self.old.steps }
+        ensures current { self.new.current
+            ≡ FrameDropped (small_frame frame.now) ∷ self.old.current }
+        ensures notes { self.old.notes ≤ self.new.notes + 1 }
+        ensures closes { self.new.closes ≡ self.old.closes }
+    {
+        self.tape.note_dropped(frame);
+    }
+
+    /// Takes the newest change of the open step back; false where that step is empty.
+    #[inline(always)]
+    pub fn undo_newest<S: SetBoard>(&mut self, held: &mut State<S>) -> bool
+        requires { FitsAll Fits unapply self.old.current held.old }
+        ensures steps { self.new.steps ≡ self.old.steps }
+        ensures current { MatchBool result
+            (length self.old.current ≡ length self.new.current + 1)
+            ((self.old.current ≡ []) × (self.new.current ≡ [])) }
+        ensures leads { unapply_all unapply self.new.current held.new
+            ≡ unapply_all unapply self.old.current held.old }
+        ensures fit { FitsAll Fits unapply self.new.current held.new }
+        ensures notes { self.old.notes ≤ self.new.notes }
+        ensures closes { self.new.closes ≡ self.old.closes }
+    {
+        let Some(number) = self.tape.numbers.pop_open() else {
+            return false;
+        };
+        let kind = ChangeKind::of_number(number);
+        if kind.is_small_frame() {
+            self.tape.undo_dropped(held);
+        } else {
+            let change = self.tape.read(kind);
+            held.undo(change);
+        }
+        true
+    }
+
     /// Makes the open step the newest closed one, and opens an empty step. It uses up the room of
     /// one close.
     pub fn close(&mut self)
@@ -110,18 +158,6 @@ impl History {
     {
         self.tape.numbers.close();
         self.tape.kept.close();
-    }
-
-    /// Takes the newest change off the open step; `None` where that step is empty. No room is lost.
-    pub fn pop_open(&mut self) -> Option<Change>
-        ensures steps { self.new.steps ≡ self.old.steps }
-        ensures current { MatchOption result
-            ((self.old.current ≡ []) × (self.new.current ≡ []))
-            (λ change. self.old.current ≡ as_change change ∷ self.new.current) }
-        ensures notes { self.old.notes ≤ self.new.notes }
-        ensures closes { self.new.closes ≡ self.old.closes }
-    {
-        self.tape.pop()
     }
 
     /// Makes the newest closed step the open one again; false where no step is closed, and then

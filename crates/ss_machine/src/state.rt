@@ -21,12 +21,14 @@ ghost use Rattle.ss_state.specs.Held.{store_of, agenda_of};
 ghost use Rattle.ss_state.specs.Readings.{readings, variable_in, HasVariable};
 ghost use Rattle.ss_state.specs.Statements.{state_after_assignment};
 ghost use Rattle.ss_state.specs.Run.{start};
-ghost use Rattle.ss_state.specs.Change.{Fits, unapply};
+ghost use Rattle.ss_state.specs.Change.{Fits, unapply, FrameDropped};
+ghost use Rattle.ss_state.specs.declared.limits.TheConstants.{MOST_BELOW};
+ghost use Rattle.ss_machine.specs.Locals.{small_frame};
 ghost use Rattle.ss_machine.specs.ChangeView.{as_change};
 ghost use Rattle.ss_program.specs.declared.variable.Variable.TheVariants as variable;
 
 use crate::state::change::Change;
-use crate::state::frame::{Frame, FrameBox};
+use crate::state::frame::{Frame, FrameBox, SmallFrame};
 use crate::state::statistics::Statistics;
 use ss_data::Feed;
 use ss_events::Agenda;
@@ -45,8 +47,8 @@ use std::mem;
 #[derive(Drop)]
 pub struct State<S: SetBoard> {
     variables: Vec<i64>,
-    frame: FrameBox,
-    below: Vec<FrameBox>,
+    frame: Frame,
+    below: Vec<Frame>,
     clock: i64,
     store: Store<S>,
     agenda: Agenda<S>,
@@ -54,6 +56,7 @@ pub struct State<S: SetBoard> {
     report: Report,
     status: Status,
     entry: Entry,
+    alloc: Global,
 }
 
 impl<S: SetBoard> Model for State<S> {
@@ -107,7 +110,7 @@ impl<S: SetBoard> State<S> {
         let variables = vec![in alloc; 0; program.globals.len()]?;
         let mut below = Vec::new(alloc);
         below.reserve(MOST_BELOW)?;
-        let frame = FrameBox::new(alloc, program, program.main(), &[])?;
+        let frame = Frame::new(alloc, program, program.main(), &[])?;
         let agenda = Agenda::new(alloc, program, pending)?;
         let store = Store::new(alloc, program, sets)?;
         Ok(State {
@@ -121,6 +124,7 @@ impl<S: SetBoard> State<S> {
             report: Report::new(alloc),
             status: Status::Ready,
             entry: Entry::Absent,
+            alloc,
         })
     }
 
@@ -246,7 +250,7 @@ impl<S: SetBoard> State<S> {
         ensures fits { Fits (as_change result) self.new }
         ensures back { unapply (as_change result) self.new ≡ self.old }
     {
-        let frame = &mut *self.frame.frame;
+        let frame = &mut self.frame;
         let old = frame.assign(number, value);
         Change::Local { number, old }
     }
@@ -255,7 +259,7 @@ impl<S: SetBoard> State<S> {
     fn last(&self) -> &Frame
         ensures { result.now ≡ self.now.state.frame }
     {
-        &self.frame.frame
+        &self.frame
     }
 
     /// Gives the state another status.
@@ -296,6 +300,28 @@ impl<S: SetBoard> State<S> {
     }
 }
 
+impl<S: SetBoard> State<S> {
+    /// A small frame that was dropped is the last one again.
+    pub fn take_up_small(&mut self, dropped: &SmallFrame)
+        requires { length self.old.state.below < MOST_BELOW }
+        ensures { self.new ≡ unapply (FrameDropped (small_frame dropped.now)) self.old }
+    {
+        let frame = Frame::of_small(self.alloc, dropped);
+        let last = mem::replace(&mut self.frame, frame);
+        self.below.push_reserved(last);
+    }
+
+    /// A frame that was dropped is the last one again.
+    #[inline(never)]
+    fn take_up(&mut self, dropped: FrameBox)
+        requires { length self.old.state.below < MOST_BELOW }
+        ensures { self.new ≡ unapply (FrameDropped dropped) self.old }
+    {
+        let last = mem::replace(&mut self.frame, dropped.frame());
+        self.below.push_reserved(last);
+    }
+}
+
 impl<S: SetBoard> Undo for State<S> {
     type Change = Change;
 
@@ -318,32 +344,29 @@ impl<S: SetBoard> Undo for State<S> {
                     self.frame = frame;
                 }
             }
-            Change::FrameDropped(dropped) => {
-                let last = mem::replace(&mut self.frame, dropped);
-                self.below.push_reserved(last);
-            }
+            Change::FrameDropped(dropped) => self.take_up(dropped),
             Change::Local { number, old } => {
-                let frame = &mut *self.frame.frame;
+                let frame = &mut self.frame;
                 let _ = frame.locals.set(number, old);
             }
             Change::Place(old) => {
-                let frame = &mut *self.frame.frame;
+                let frame = &mut self.frame;
                 frame.place = old;
             }
             Change::LoopOpened => {
-                let frame = &mut *self.frame.frame;
+                let frame = &mut self.frame;
                 let _ = frame.loops.close();
             }
             Change::LoopMoved(old) => {
-                let frame = &mut *self.frame.frame;
+                let frame = &mut self.frame;
                 frame.loops.set_candidate(old);
             }
             Change::LoopClosed(closed) => {
-                let frame = &mut *self.frame.frame;
+                let frame = &mut self.frame;
                 frame.loops.reopen(closed);
             }
             Change::Found(old) => {
-                let frame = &mut *self.frame.frame;
+                let frame = &mut self.frame;
                 frame.found = old;
             }
             Change::Statistics {
@@ -352,7 +375,7 @@ impl<S: SetBoard> Undo for State<S> {
                 greatest,
                 least,
             } => {
-                let frame = &mut *self.frame.frame;
+                let frame = &mut self.frame;
                 frame.statistics = Statistics {
                     number,
                     sum,

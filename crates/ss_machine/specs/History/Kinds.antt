@@ -30,7 +30,9 @@ value_kind_of n =
 abbrev pub control_kind_of : ℕ → ControlChangeKind
 control_kind_of n =
     if n == 0 then controls.Place
-    else (if n == 1 then controls.FrameOpened else (if n == 2 then controls.FrameDropped else controls.Status))
+    else (if n == 1 then controls.FrameOpened
+    else (if n == 2 then controls.FrameDropped
+    else (if n == 3 then controls.Status else controls.SmallFrameDropped)))
 
 -- the same of open loops
 abbrev pub loop_kind_of : ℕ → LoopChangeKind
@@ -76,4 +78,4 @@ kind_by sort which =
 
 -- the kind that a number tells
 abbrev pub kind_of : ℕ → ChangeKind
-kind_of n = kind_by (n / 4) (n % 4)
+kind_of n = kind_by (n / 8) (n % 8)

@@ -1,4 +1,7 @@
-ghost use Rattle.std.specs.Prelude.{◌≡◌};
+ghost use Rattle.std.specs.Prelude.{◌≡◌, MatchBool};
+ghost use Rattle.ss_machine.specs.History.{IsOfChange};
+ghost use Rattle.ss_machine.specs.declared.history.kinds.ChangeKind.TheVariants as kinds;
+ghost use Rattle.ss_machine.specs.declared.history.kinds.ControlChangeKind.TheVariants as controls;
 ghost use Rattle.ss_machine.specs.History.Kinds.{
   kind_of,
   value_kind_of,
@@ -41,6 +44,7 @@ pub enum ControlChangeKind {
     FrameOpened,
     FrameDropped,
     Status,
+    SmallFrameDropped,
 }
 
 /// Changes of open loops.
@@ -94,7 +98,7 @@ pub enum TextChangeKind {
 }
 
 /// How many kinds there may be of each sort.
-const SORT: u64 = 4;
+const SORT: u64 = 8;
 
 impl ChangeKind {
     /// The number that tells the kind.
@@ -111,6 +115,18 @@ impl ChangeKind {
             ChangeKind::Time(kind) => 5 * SORT + kind as u64,
             ChangeKind::Entry(kind) => 6 * SORT + kind as u64,
             ChangeKind::Text(kind) => 7 * SORT + kind as u64,
+        }
+    }
+
+    /// Whether this is that a small frame was dropped.
+    #[inline(always)]
+    pub fn is_small_frame(self) -> bool
+        ensures { MatchBool result
+            (self ≡ kinds.Control controls.SmallFrameDropped) (IsOfChange self) }
+    {
+        match self {
+            ChangeKind::Control(ControlChangeKind::SmallFrameDropped) => true,
+            _ => false,
         }
     }
 
@@ -150,7 +166,8 @@ fn control_kind(which: u64) -> ControlChangeKind
         0 => ControlChangeKind::Place,
         1 => ControlChangeKind::FrameOpened,
         2 => ControlChangeKind::FrameDropped,
-        _ => ControlChangeKind::Status,
+        3 => ControlChangeKind::Status,
+        _ => ControlChangeKind::SmallFrameDropped,
     }
 }
 

@@ -1,11 +1,16 @@
-ghost use Rattle.std.specs.Prelude.{◌≡◌, ◌≤◌, ◌∷◌};
+ghost use Rattle.std.specs.Prelude.{◌≡◌, ◌≤◌, ◌<◌, ◌∷◌, length};
+ghost use Rattle.ss_state.specs.Change.{unapply};
+ghost use Rattle.ss_state.specs.declared.limits.TheConstants.{MOST_BELOW};
 ghost use Rattle.ss_machine.specs.History as pure;
-ghost use Rattle.ss_machine.specs.History.{IsTaken, value_numbers, set_numbers, entry_numbers, HasKept, AreValues};
+ghost use Rattle.ss_machine.specs.History.{IsTaken, value_numbers, set_numbers, entry_numbers};
+ghost use Rattle.ss_machine.specs.History.{HasKept, IsOfChange, AreValues};
 ghost use Rattle.ss_machine.specs.History.{IsRead, IsNoticeRead};
 ghost use Rattle.ss_state.specs.Change as changes;
 ghost use Rattle.ss_machine.specs.ChangeView.{as_change};
 ghost use Rattle.ss_machine.specs.declared.history.tape.Owned.TheVariants as owned;
 ghost use Rattle.ss_machine.specs.declared.history.kinds.ChangeKind.TheVariants as kinds;
+ghost use Rattle.ss_machine.specs.declared.history.kinds.ControlChangeKind.TheVariants as controls;
+ghost use Rattle.ss_machine.specs.Locals.{small_frame};
 
 use crate::history::kinds::{
     ChangeKind, ControlChangeKind, EntityChangeKind, EntryChangeKind, LoopChangeKind,
@@ -13,9 +18,13 @@ use crate::history::kinds::{
 };
 use crate::history::numbers::Numbers;
 use crate::history::tape::{Owned, Tape};
+use crate::state::State;
 use crate::state::change::Change;
+use crate::state::frame::SmallFrame;
+use crate::state::locals::FewValues;
 use ss_byte_journal::SparseJournal;
 use ss_events::{AgendaChange, PendingNotice};
+use ss_links::SetBoard;
 use ss_program::Owner;
 use ss_state::Entry;
 use ss_store::StoreChange;
@@ -128,7 +137,8 @@ fn text_change(kind: TextChangeKind, numbers: &mut Numbers) -> Change
 impl Tape {
     /// Reads the newest change of this kind, of which the number of its kind was taken off.
     pub fn read(&mut self, kind: ChangeKind) -> Change
-        requires { HasKept kind self.old.kept.current }
+        requires kind { IsOfChange kind }
+        requires kept { HasKept kind self.old.kept.current }
         ensures { IsRead kind (as_change result) self.old self.new }
     {
         match kind {
@@ -145,7 +155,8 @@ impl Tape {
 
     /// A change of where the run stands.
     fn control_change(&mut self, kind: ControlChangeKind) -> Change
-        requires { HasKept (kinds.Control kind) self.old.kept.current }
+        requires kind { IsOfChange (kinds.Control kind) }
+        requires kept { HasKept (kinds.Control kind) self.old.kept.current }
         ensures { IsRead (kinds.Control kind) (as_change result) self.old self.new }
     {
         match kind {
@@ -159,6 +170,43 @@ impl Tape {
                 Some(Owned::Status(status)) => Change::Status(status),
                 _ => unreachable!(),
             },
+            ControlChangeKind::SmallFrameDropped => unreachable!(),
+        }
+    }
+
+    /// Takes back that a small frame was dropped.
+    #[inline(never)]
+    pub fn undo_dropped<S: SetBoard>(&mut self, held: &mut State<S>)
+        requires kept { HasKept (kinds.Control controls.SmallFrameDropped) self.old.kept.current }
+        requires room { length held.old.state.below < MOST_BELOW }
+        ensures read { IsRead (kinds.Control controls.SmallFrameDropped)
+            (changes.FrameDropped held.new.state.frame) self.old self.new }
+        ensures undone { held.new
+            ≡ unapply (changes.FrameDropped held.new.state.frame) held.old }
+    {
+        let dropped = self.small_frame();
+        held.take_up_small(&dropped);
+    }
+
+    /// A small frame that was dropped.
+    pub fn small_frame(&mut self) -> SmallFrame
+        requires { HasKept (kinds.Control controls.SmallFrameDropped) self.old.kept.current }
+        ensures { IsRead (kinds.Control controls.SmallFrameDropped)
+            (changes.FrameDropped (small_frame result)) self.old self.new }
+    {
+        let section = self.numbers.take() as usize;
+        let place = self.numbers.take() as usize;
+        let count = self.numbers.take() as usize;
+        let found = self.numbers.take_flag();
+        let values = match self.kept.pop_open() {
+            Some(Owned::Locals(values)) => values,
+            _ => unreachable!(),
+        };
+        SmallFrame {
+            section,
+            place,
+            locals: FewValues { count, values },
+            found,
         }
     }
 

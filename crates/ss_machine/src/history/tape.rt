@@ -1,4 +1,4 @@
-ghost use Rattle.std.specs.Prelude.{◌≡◌, ◌+◌, ◌<◌, ◌≤◌, ◌∷◌, ◌++◌, [], length, MatchOption};
+ghost use Rattle.std.specs.Prelude.{◌≡◌, ◌+◌, ◌<◌, ◌≤◌, ◌∷◌, ◌++◌, length};
 ghost use Rattle.ss_machine.specs.History.{
   change_of,
   number_count,
@@ -7,7 +7,6 @@ ghost use Rattle.ss_machine.specs.History.{
   HasKept,
   IsWritten,
   IsNoted,
-  IsPopped,
   IsHeaded,
 };
 
@@ -15,6 +14,7 @@ use crate::history::kinds::ChangeKind;
 use crate::history::numbers::Numbers;
 use crate::state::change::Change;
 use crate::state::frame::FrameBox;
+use crate::state::locals::MOST_WITHIN;
 use crate::state::loops::ClosedLoop;
 use ss_byte_journal::SparseJournal;
 use ss_state::Status;
@@ -29,6 +29,8 @@ pub enum Owned {
     Loop(ClosedLoop),
     /// A frame that was dropped.
     Frame(FrameBox),
+    /// The locals of a small frame that was dropped.
+    Locals([i64; MOST_WITHIN]),
     /// A status.
     Status(Status),
 }
@@ -74,15 +76,6 @@ impl Tape {
     {
         put(&mut self.numbers, kind, fields);
         self.kept.note(kept);
-    }
-
-    /// Takes the newest change off.
-    pub fn pop(&mut self) -> Option<Change>
-        requires { IsWritten 0 self.old.numbers.current self.old.kept.current }
-        ensures { IsPopped result self.old self.new }
-    {
-        let number = self.numbers.pop_open()?;
-        Some(self.read(ChangeKind::of_number(number)))
     }
 }
 

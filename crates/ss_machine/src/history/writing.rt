@@ -2,6 +2,7 @@ ghost use Rattle.std.specs.Prelude.{◌<◌};
 ghost use Rattle.ss_machine.specs.History.{IsNoted};
 ghost use Rattle.ss_state.specs.Change as changes;
 ghost use Rattle.ss_machine.specs.ChangeView.{as_change};
+ghost use Rattle.ss_machine.specs.Locals.{small_frame};
 ghost use Rattle.ss_store.specs.declared.change.StoreChange.TheVariants as stores;
 ghost use Rattle.ss_events.specs.declared.agenda.AgendaChange.TheVariants as notices;
 
@@ -12,6 +13,7 @@ use crate::history::kinds::{
 };
 use crate::history::tape::{Owned, Tape};
 use crate::state::change::Change;
+use crate::state::frame::SmallFrame;
 use ss_events::{AgendaChange, PendingNotice};
 use ss_program::Owner;
 use ss_state::Entry;
@@ -96,6 +98,26 @@ impl Tape {
                 &[fold(number), fold(sum), fold(greatest), fold(least)],
             ),
         }
+    }
+
+    /// Writes that a small frame was dropped.
+    #[inline(always)]
+    pub fn note_dropped(&mut self, frame: &SmallFrame)
+        requires numbers { 7 < self.old.numbers.notes }
+        requires kept { 0 < self.old.kept.notes }
+        ensures { IsNoted (changes.FrameDropped (small_frame frame.now)) self.old self.new }
+    {
+        let values = frame.locals.values;
+        self.write_kept(
+            ChangeKind::Control(ControlChangeKind::SmallFrameDropped),
+            &[
+                frame.section as u64,
+                frame.place as u64,
+                frame.locals.count as u64,
+                flag(frame.found),
+            ],
+            Owned::Locals(values),
+        );
     }
 
     #[inline(never)]

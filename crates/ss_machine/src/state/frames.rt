@@ -1,18 +1,22 @@
 //! The frames of a state: where the last one stands, its loops, and those below it.
-ghost use Rattle.std.specs.Prelude.{◌≡◌, ◌<◌, ◌≤◌, ◌∷◌, [], length, drop, OnOk, IfOk, OnErr, ◌++◌, MatchOption};
-ghost use Rattle.ss_state.specs.Change.{Fits, unapply};
+ghost use Rattle.std.specs.Prelude.{◌≡◌, ◌<◌, ◌≤◌, ◌∷◌, [], length, drop, OnOk, IfOk};
+ghost use Rattle.std.specs.Prelude.{OnErr, ◌++◌, MatchOption, MatchBool, slice_get};
+ghost use Rattle.ss_program.specs.Program.{locals_of};
+ghost use Rattle.ss_state.specs.Change.{Fits, unapply, FrameOpened, FrameDropped};
+ghost use Rattle.ss_machine.specs.Locals.{small_frame, IsSmall};
 ghost use Rattle.ss_machine.specs.Dropping.{HasDropped};
 ghost use Rattle.ss_state.specs.Loops.{innermost, loops_with_candidate, loop_of_phrase};
-ghost use Rattle.ss_state.specs.Statements.{state_at_place};
+ghost use Rattle.ss_state.specs.Statements.{state_at_place, state_with_frame};
 ghost use Rattle.ss_state.specs.Statements.Looping.{state_with_loops, state_with_found, state_with_statistics};
 ghost use Rattle.ss_machine.specs.ChangeView.{as_change};
 
 use crate::state::State;
 use crate::state::change::Change;
-use crate::state::frame::FrameBox;
+use crate::state::frame::{Frame, FrameBox, SmallFrame};
 use crate::state::loops::OpenLoop;
 use crate::state::statistics::Statistics;
 use ss_links::SetBoard;
+use ss_program::Program;
 use ss_state::MOST_BELOW;
 use std::alloc::{AllocError, Global};
 use std::mem;
@@ -71,7 +75,7 @@ impl<S: SetBoard> State<S> {
         ensures fits { Fits (as_change result) self.new }
         ensures back { unapply (as_change result) self.new ≡ self.old }
     {
-        let frame = &mut *self.frame.frame;
+        let frame = &mut self.frame;
         let old = frame.place;
         frame.place = place;
         Change::Place(old)
@@ -84,7 +88,7 @@ impl<S: SetBoard> State<S> {
         ensures fits { Fits (as_change result) self.new }
         ensures back { unapply (as_change result) self.new ≡ self.old }
     {
-        let frame = &mut *self.frame.frame;
+        let frame = &mut self.frame;
         let old = frame.found;
         frame.found = found;
         Change::Found(old)
@@ -97,7 +101,7 @@ impl<S: SetBoard> State<S> {
         ensures fits { Fits (as_change result) self.new }
         ensures back { unapply (as_change result) self.new ≡ self.old }
     {
-        let frame = &mut *self.frame.frame;
+        let frame = &mut self.frame;
         let old = frame.statistics;
         frame.statistics = statistics;
         Change::Statistics {
@@ -117,7 +121,7 @@ impl<S: SetBoard> State<S> {
         ensures back { IfOk result (λ c. unapply (as_change c) self.new ≡ self.old) }
         ensures err { OnErr result (self.new ≡ self.old) }
     {
-        let frame = &mut *self.frame.frame;
+        let frame = &mut self.frame;
         frame.loops.open(alloc, open_loop)?;
         Ok(Change::LoopOpened)
     }
@@ -133,7 +137,7 @@ impl<S: SetBoard> State<S> {
         ensures fits { Fits (as_change result) self.new }
         ensures back { unapply (as_change result) self.new ≡ self.old }
     {
-        let frame = &mut *self.frame.frame;
+        let frame = &mut self.frame;
         let old = match frame.loops.top() {
             None => None,
             Some(top) => top.candidate,
@@ -151,46 +155,91 @@ impl<S: SetBoard> State<S> {
         ensures back { MatchOption result (self.new ≡ self.old)
             (λ c. unapply (as_change c) self.new ≡ self.old) }
     {
-        let frame = &mut *self.frame.frame;
+        let frame = &mut self.frame;
         match frame.loops.close() {
             None => None,
             Some(closed) => Some(Change::LoopClosed(closed)),
         }
     }
 
-    /// A frame becomes the last one.
+    /// The frame of a section with these values in its first locals becomes the last one. After an
+    /// error nothing has changed.
     #[inline(always)]
-    pub fn open_frame(&mut self, frame: FrameBox) -> Change
-        requires { length self.old.state.below < MOST_BELOW }
-        ensures state { self.new.state
-            ≡ record self.old.state {
-              frame = frame;
-              below = self.old.state.frame
-                  ∷ self.old.state.below;
-            } }
-        ensures fits { Fits (as_change result) self.new }
-        ensures back { unapply (as_change result) self.new ≡ self.old }
+    pub fn open_frame(
+        &mut self,
+        program: &Program,
+        section: usize,
+        given: &[i64],
+    ) -> Result<(), AllocError>
+        requires room { length self.old.state.below < MOST_BELOW }
+        requires section { section < length program.now.sections }
+        requires few { length given.now
+            ≤ length (locals_of (slice_get program.now.sections section)) }
+        ensures state { OnOk result (self.new.state
+            ≡ state_with_frame program.now self.old.state section given.now) }
+        ensures beside { self.new.beside ≡ self.old.beside }
+        ensures fits { OnOk result (Fits FrameOpened self.new) }
+        ensures back { OnOk result (unapply FrameOpened self.new ≡ self.old) }
+        ensures err { OnErr result (self.new ≡ self.old) }
     {
+        let frame = Frame::new(self.alloc, program, section, given)?;
         let last = mem::replace(&mut self.frame, frame);
         self.below.push_reserved(last);
-        Change::FrameOpened
+        Ok(())
     }
 
-    /// Drops the last frame; none where none stands below it, and then nothing changes.
+    /// Whether the last frame is small.
     #[inline(always)]
-    pub fn drop_frame(&mut self) -> Option<Change>
-        requires { length self.old.state.below ≤ MOST_BELOW }
-        ensures state { MatchOption result ((self.old.state.below ≡ []) × (self.new ≡ self.old))
-            (λ _. HasDropped self.old.state self.new.state) }
+    pub fn is_small(&self) -> bool
+        ensures { MatchBool result (IsSmall self.now.state.frame) (Unit {0}) }
+    {
+        self.frame.is_small()
+    }
+
+    /// The last frame, which is small.
+    #[inline(always)]
+    pub fn small_frame(&self) -> SmallFrame
+        requires { IsSmall self.now.state.frame }
+        ensures { small_frame result ≡ self.now.state.frame }
+    {
+        self.frame.small()
+    }
+
+    /// Drops the last frame, which is given back whole by its undo.
+    #[inline(always)]
+    pub fn drop_small(&mut self)
+        requires some { 0 < length self.old.state.below }
+        requires few { length self.old.state.below ≤ MOST_BELOW }
+        ensures state { HasDropped self.old.state self.new.state }
         ensures beside { self.new.beside ≡ self.old.beside }
-        ensures fits { MatchOption result (Unit {0}) (λ c. Fits (as_change c) self.new) }
-        ensures back { MatchOption result (Unit {0})
-            (λ c. unapply (as_change c) self.new ≡ self.old) }
+        ensures fits { Fits (FrameDropped self.old.state.frame) self.new }
+        ensures back { unapply (FrameDropped self.old.state.frame) self.new ≡ self.old }
     {
         match self.below.pop() {
-            None => None,
-            Some(next) => Some(Change::FrameDropped(mem::replace(&mut self.frame, next))),
+            Some(next) => self.frame = next,
+            None => unreachable!(),
         }
+    }
+
+    /// Drops the last frame; answers it in memory of its own. After an error nothing has changed.
+    #[cold]
+    #[inline(never)]
+    pub fn drop_large(&mut self) -> Result<FrameBox, AllocError>
+        requires some { 0 < length self.old.state.below }
+        requires few { length self.old.state.below ≤ MOST_BELOW }
+        ensures state { IfOk result (λ _. HasDropped self.old.state self.new.state) }
+        ensures beside { self.new.beside ≡ self.old.beside }
+        ensures fits { IfOk result (λ dropped. Fits (FrameDropped dropped) self.new) }
+        ensures back { IfOk result
+            (λ dropped. unapply (FrameDropped dropped) self.new ≡ self.old) }
+        ensures err { OnErr result (self.new ≡ self.old) }
+    {
+        let mut dropped = FrameBox::new(self.alloc)?;
+        match self.below.pop() {
+            Some(next) => dropped.put(mem::replace(&mut self.frame, next)),
+            None => unreachable!(),
+        }
+        Ok(dropped)
     }
 }
 

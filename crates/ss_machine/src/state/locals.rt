@@ -1,12 +1,20 @@
 //! The values of a frame's locals.
-ghost use Rattle.std.specs.Prelude.{◌≡◌, ◌<◌, ◌≤◌, length, pos, slice_index_or, slice_set, IfOk};
-ghost use Rattle.ss_machine.specs.Locals.{padded, IsPadded};
+ghost use Rattle.std.specs.Prelude.{◌≡◌, ◌<◌, ◌≤◌, length, pos, slice_index_or, slice_set, IfOk, MatchBool};
+ghost use Rattle.ss_machine.specs.Locals.{padded, few_values, IsPadded};
+ghost use Rattle.ss_machine.specs.declared.state.locals.TheConstants.{MOST_WITHIN};
 
 use std::alloc::{AllocError, Global};
 use std::marker::Model;
 
 /// So many locals lie within their frame; more have memory of their own.
-const MOST_WITHIN: usize = 4;
+pub const MOST_WITHIN: usize = 4;
+
+/// Values of few locals: the first `count` of these.
+#[derive(Clone, Copy)]
+pub struct FewValues {
+    pub count: usize,
+    pub values: [i64; MOST_WITHIN],
+}
 
 /// The values of the locals of a frame, in the order of its section's table.
 #[derive(Drop)]
@@ -20,11 +28,13 @@ pub struct Locals {
 
 impl Model for Locals {
     ghost use Rattle.std.specs.Prelude.{List, ℤ};
-    ghost use Rattle.ss_machine.specs.Locals.{values_of};
+    ghost use Rattle.ss_machine.specs.Locals.{values_of, HasCount};
 
     ghost Value = { List ℤ };
 
     ghost view = { λ a. values_of a.count a.few a.many.items };
+
+    ghost invariant = { λ a. HasCount a.count a.many.items };
 }
 
 impl Locals {
@@ -42,6 +52,40 @@ impl Locals {
             value_or_zero(given, 3),
         ];
         Ok(Locals { count, few, many })
+    }
+
+    /// Few locals. They take no memory.
+    #[inline(always)]
+    pub fn of_few(alloc: Global, few: FewValues) -> Self
+        ensures { result ≡ few_values few }
+    {
+        let FewValues { count, values } = few;
+        Locals {
+            count: count.min(MOST_WITHIN),
+            few: values,
+            many: Vec::new(alloc),
+        }
+    }
+
+    /// Whether the locals are few.
+    #[inline(always)]
+    pub fn are_few(&self) -> bool
+        ensures { MatchBool result (length self.now ≤ MOST_WITHIN) (Unit {0}) }
+    {
+        self.count <= MOST_WITHIN
+    }
+
+    /// The values of few locals.
+    #[inline(always)]
+    pub fn few(&self) -> FewValues
+        requires { length self.now ≤ MOST_WITHIN }
+        ensures { few_values result ≡ self.now }
+    {
+        let values = self.few;
+        FewValues {
+            count: self.count,
+            values,
+        }
     }
 
     #[inline(always)]

@@ -1,4 +1,4 @@
-ghost use Rattle.std.specs.Prelude.{◌≡◌, ◌∷◌, [], MatchOption, OnOk, OnErr, IfOk};
+ghost use Rattle.std.specs.Prelude.{◌≡◌, ◌∷◌, [], MatchBool, MatchOption, OnOk, OnErr, IfOk};
 ghost use Rattle.ss_state.specs.Loops.{innermost, loops_with_candidate};
 
 use ss_program::Direction;
@@ -108,6 +108,14 @@ impl Loops {
             None => None,
             Some(node) => Some(node.open_loop),
         }
+    }
+
+    /// Whether no loop is open.
+    #[inline(always)]
+    pub fn are_none(&self) -> bool
+        ensures { MatchBool result (self.now ≡ []) (Unit {0}) }
+    {
+        self.top.is_none()
     }
 
     /// Opens a loop within the others.

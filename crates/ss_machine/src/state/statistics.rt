@@ -1,4 +1,4 @@
-ghost use Rattle.std.specs.Prelude.{◌≡◌};
+ghost use Rattle.std.specs.Prelude.{◌≡◌, MatchBool};
 ghost use Rattle.ss_state.specs.Statements.Looping as steps;
 ghost use Rattle.ss_state.specs.State as states;
 
@@ -37,7 +37,18 @@ impl Model for Statistics {
     } };
 }
 
+impl Statistics {
+    /// Whether these are the statistics over no case.
+    #[inline(always)]
+    pub fn are_none(&self) -> bool
+        ensures { MatchBool result (self.now ≡ states.no_statistics) (Unit {0}) }
+    {
+        self.number == 0 && self.sum == 0 && self.greatest == 0 && self.least == 0
+    }
+}
+
 /// The statistics over no case.
+#[inline(always)]
 pub fn no_statistics() -> Statistics
     ensures { result ≡ states.no_statistics }
 {

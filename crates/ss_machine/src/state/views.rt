@@ -4,12 +4,12 @@ ghost use Rattle.std.specs.Option.{option_map};
 ghost use Rattle.ss_state.specs.Frames.{frame_at, frame_place, frame_local};
 
 use crate::state::State;
-use crate::state::frame::{Frame, FrameBox};
+use crate::state::frame::Frame;
 use ss_links::SetBoard;
 
 /// The frame at this place from the end of some frames, the last of which is at place 1.
 #[tactic(auto, using(ss_state::proofs::Frames::from_end))]
-fn from_end(frames: &[FrameBox], place: usize) -> Option<&FrameBox>
+fn from_end(frames: &[Frame], place: usize) -> Option<&Frame>
     requires { 0 < place }
     ensures { option_map (λ f. f.now) result ≡ slice_get (reverse frames.now) (place - 1) }
 {
@@ -28,9 +28,7 @@ impl<S: SetBoard> State<S> {
         if depth == 0 {
             return Some(self.last());
         }
-        let below = from_end(&self.below, depth)?;
-        let frame: &Frame = &below.frame;
-        Some(frame)
+        from_end(&self.below, depth)
     }
 
     /// The section of the frame on which so many others stand, and the place where it stands.

@@ -1,7 +1,7 @@
 //! CALL, RETURN, END and STOP.
 ghost use Rattle.std.specs.Prelude.{◌≡◌, ◌+◌, ◌<◌, ◌≤◌, [], length, slice_get, OnOk, OnErr};
 ghost use Rattle.ss_words.specs.declared.limits.TheConstants.{MOST_PARAMETERS};
-ghost use Rattle.ss_program.specs.Program.{section_of, spot_at};
+ghost use Rattle.ss_program.specs.Program.{section_of, spot_at, locals_of};
 ghost use Rattle.ss_program.specs.ProgramSound.{IsSoundPlace, AreSoundExprs, IsCalledBy};
 ghost use Rattle.ss_store.specs.Tables.{tables_of};
 ghost use Rattle.ss_machine.specs.Executor.{state, tables};
@@ -15,9 +15,11 @@ ghost use Rattle.ss_state.specs.Statements.Calling.{step_control, step_call, sta
 ghost use Rattle.ss_state.specs.Statements.Calling.{state_after_return, state_without_entry, state_after_event};
 ghost use Rattle.ss_state.specs.Statements.Calling.{state_after_section};
 ghost use Rattle.ss_state.specs.Well.{IsInBounds, IsWellFrame};
+ghost use Rattle.ss_state.specs.Statements.{state_with_frame};
+ghost use Rattle.ss_state.specs.declared.limits.TheConstants.{MOST_BELOW};
 
 use crate::executor::{Executor, ways_at};
-use crate::state::frame::FrameBox;
+use crate::state::change::Change;
 use ss_links::SetBoard;
 use ss_program::{Call, Control, Place, Program, Section, SectionKind};
 use ss_state::{Entry, MOST_BELOW, Status};
@@ -49,26 +51,46 @@ impl<S: SetBoard> Executor<S> {
             self.mark(Status::Faulted(RunFault::TooManyFrames));
             return Ok(());
         }
-        let given = self.values.as_slice();
-        let frame = FrameBox::new(self.alloc, program, call.section, given)?;
-        let change = self.held.open_frame(frame);
-        self.journal.note(change);
+        self.open_frame(program, call.section)
+    }
+
+    /// Opens the frame of a section, with the values kept for this in its first locals.
+    #[inline(always)]
+    pub fn open_frame(&mut self, program: &Program, section: usize) -> Result<(), AllocError>
+        requires below { length (state self.old).below < MOST_BELOW }
+        requires section { section < length program.now.sections }
+        requires few { length self.old.values.items
+            ≤ length (locals_of (slice_get program.now.sections section)) }
+        requires room { 0 < self.old.journal.notes }
+        ensures state { OnOk result (state self.new
+            ≡ state_with_frame program.now (state self.old) section self.old.values.items) }
+        ensures tables { tables self.new ≡ tables self.old }
+        ensures notes { Notes 1 self.old self.new }
+        ensures none { OnErr result (Notes 0 self.old self.new) }
+    {
+        self.held
+            .open_frame(program, section, self.values.as_slice())?;
+        self.journal.note(Change::FrameOpened);
         Ok(())
     }
 
-    fn drop_frame(&mut self)
+    fn drop_frame(&mut self) -> Result<(), AllocError>
         requires some { 0 < length (state self.old).below }
         requires few { length (state self.old).below ≤ MOST_BELOW }
         requires room { 0 < self.old.journal.notes }
-        ensures state { HasDropped (state self.old) (state self.new) }
+        ensures state { OnOk result (HasDropped (state self.old) (state self.new)) }
         ensures beside { self.new.held.beside ≡ self.old.held.beside }
         ensures values { self.new.values ≡ self.old.values }
         ensures notes { Notes 1 self.old self.new }
     {
-        match self.held.drop_frame() {
-            Some(change) => self.journal.note(change),
-            None => unreachable!(),
+        if self.held.is_small() {
+            self.journal.note_dropped(&self.held.small_frame());
+            self.held.drop_small();
+        } else {
+            let dropped = self.held.drop_large()?;
+            self.journal.note(Change::FrameDropped(dropped));
         }
+        Ok(())
     }
 
     /// Behind a CALL, to which the values kept from number `first` on came back.
@@ -131,7 +153,7 @@ impl<S: SetBoard> Executor<S> {
         }
         self.values.clear();
         self.held.append_locals(&mut self.values)?;
-        self.drop_frame();
+        self.drop_frame()?;
         if let Err(fault) = self.come_back(program, given) {
             self.roll_back();
             self.mark(Status::Faulted(fault));
@@ -156,21 +178,23 @@ impl<S: SetBoard> Executor<S> {
     }
 
     /// RETURN or END of an event.
-    fn end_event(&mut self)
+    fn end_event(&mut self) -> Result<(), AllocError>
         requires few { length (state self.old).below ≤ MOST_BELOW }
         requires none { self.old.journal.current ≡ [] }
         requires room { 2 < self.old.journal.notes }
-        ensures state { state self.new ≡ state_after_event (state self.old) (state self.old).below }
+        ensures state { OnOk result
+            (state self.new ≡ state_after_event (state self.old) (state self.old).below) }
         ensures notes { Notes 3 self.old self.new }
     {
         if self.held.below() == 0 {
-            return;
+            return Ok(());
         }
         match self.end_entry() {
             Ok(()) => self.drop_frame(),
             Err(fault) => {
                 self.roll_back();
                 self.mark(Status::Faulted(fault));
+                Ok(())
             }
         }
     }
@@ -218,10 +242,7 @@ impl<S: SetBoard> Executor<S> {
                 Ok(())
             }
             SectionKind::Routine => self.run_return(program, given),
-            SectionKind::Event => {
-                self.end_event();
-                Ok(())
-            }
+            SectionKind::Event => self.end_event(),
         }
     }
 }

@@ -20,7 +20,6 @@ ghost use Rattle.ss_state.specs.Statements.Timing as steps;
 
 use crate::executor::Executor;
 use crate::state::external::has_external;
-use crate::state::frame::FrameBox;
 use crate::statements::timing::event_class;
 use ss_events::Slot;
 use ss_links::SetBoard;
@@ -111,10 +110,7 @@ impl<S: SetBoard> Executor<S> {
         self.advance(notice, slot.time);
         self.end_unless_saved(slot.class, notice, section.saving)?;
         self.assign(Variable::Global(variable), i64::from(notice));
-        let parameters = self.values.as_slice();
-        let frame = FrameBox::new(self.alloc, program, number, parameters)?;
-        let change = self.held.open_frame(frame);
-        self.journal.note(change);
+        self.open_frame(program, number)?;
         Ok(())
     }
 

@@ -4,8 +4,8 @@ use Rattle.ss_state.specs.Change.{Fits, unapply}
 use Rattle.ss_machine.proofs.executor.Executor.roll_back.Given as goal
 
 -- what is left to take back fits, and leads to the same state
-abbrev pub invariant-loop-change : goal.invariant-loop-change
-invariant-loop-change g l = record {
+abbrev pub invariant-loop : goal.invariant-loop
+invariant-loop g l = record {
   leads : unapply_all unapply l.self.journal.current l.self.held
       ≡ unapply_all unapply l.initial.self.journal.current l.initial.self.held;
   fit : FitsAll Fits unapply l.self.journal.current l.self.held;
@@ -14,5 +14,5 @@ invariant-loop-change g l = record {
   closes : l.self.journal.closes ≡ l.initial.self.journal.closes;
 }
 
-abbrev pub decreases-loop-change : goal.decreases-loop-change
-decreases-loop-change g l = length l.self.journal.current
+abbrev pub decreases-loop : goal.decreases-loop
+decreases-loop g l = length l.self.journal.current

@@ -1,4 +1,4 @@
-use Rattle.std.proofs.Common.{◌≡◌, ◌<◌, ◌^◌, pos, length, arith, sym, ap, rules, Ok, ◌∙◌, w64, FitsSigned, to_z}
+use Rattle.std.proofs.Common.{refl, ◌≡◌, ◌<◌, ◌^◌, pos, length, arith, sym, ap, rules, Ok, ◌∙◌, w64, FitsSigned, to_z}
 use Rattle.std.proofs.Common.{of_z}
 use Rattle.std.specs.List.{range_with_len}
 use Rattle.std.proofs.lemmas.Int.{to_z-of_z}
@@ -6,7 +6,7 @@ use Rattle.std.proofs.lemmas.List.FromFn.{length-range_with_len}
 use Rattle.ss_program.specs.Program.{class_of, section_of}
 use Rattle.ss_program.specs.declared.variable.Variable.TheVariants.{Global}
 use Rattle.ss_store.specs.Tables.{tables_of}
-use Rattle.ss_state.specs.State.{State}
+use Rattle.ss_state.specs.State.{State, new_frame}
 use Rattle.ss_state.proofs.Sounds.{section_found}
 use Rattle.ss_state.specs.Statements.{state_with_frame, state_after_assignment}
 use Rattle.ss_state.specs.Statements.Timing.{attributes_now, event_section, store_at_start, state_at_time}
@@ -32,8 +32,8 @@ assign-requires-clause-target g c =
     ap (λ (s : State). length s.variables) c.end_unless_saved.ensures.rest in
     omega (arith, c.class_variable-variable.ensures.there, m, u, c.requires.variables)
 
-pub new-requires-clause-few : goal.new-requires-clause-few
-new-requires-clause-few g c =
+pub open_frame-requires-clause-few : goal.open_frame-requires-clause-few
+open_frame-requires-clause-few g c =
     let p = c.args.program.now in
     let xs = c.first_attributes.new.values.items in
     let given = c.section.inside.given in
@@ -43,8 +43,8 @@ new-requires-clause-few g c =
     let n : length xs ≡ length (range_with_len 0 given) =
     attributes_count c.args.self.now.held.state.store c.args.slot.class c.args.notice (range_with_len 0 given) xs
     c.in_ok-first_attributes.ensures.ok in
-    let kept : c.as_slice-parameters.result.now ≡ xs = search rules in
-    let m : length c.as_slice-parameters.result.now ≡ length xs = ap length kept in
+    let kept : c.assign.new.self.values.items ≡ xs = search rules in
+    let m : length c.assign.new.self.values.items ≡ length xs = ap length kept in
     omega (arith, n, m, length-range_with_len 0 given, e, c.event_section-number.ensures.few)
 
 pub returns-clause-outcome : goal.returns-clause-outcome
@@ -74,13 +74,14 @@ returns-clause-outcome g c =
     let store : m.state.store ≡ s.store = ap (λ (x : State). x.store) at in
     let b : store_at_start p s.store class k ≡ Ok u.store =
     rw (saving, tables, store) at c.in_ok-end_unless_saved.ensures.outcome in
-    let kept : c.as_slice-parameters.result.now ≡ xs = search rules in
-    let left : c.open_frame-change.new.self.state
+    let kept : c.assign.new.self.values.items ≡ xs = search rules in
+    let opened = rw kept at c.in_ok-open_frame.ensures.state in
+    let left : c.open_frame.new.self.held.state
     ≡ state_with_frame p (state_after_assignment (state_at_time s k c.args.slot.time u.store)
     (Global (class_of p class).variable) (pos k)) (event_section p class) xs =
-    start_left p s m.state u w c.open_frame-change.new.self.state c.in_ok-frame.frame k class i
+    start_left p s m.state u w c.open_frame.new.self.held.state (new_frame p i xs) k class i
     c.class_variable-variable.result c.args.slot.time c.from.result xs
-    u.store at c.end_unless_saved.ensures.rest (rw z at c.assign.ensures.state) c.open_frame-change.ensures.state
-    (rw kept at c.in_ok-frame.ensures)
+    u.store at c.end_unless_saved.ensures.rest (rw z at c.assign.ensures.state) opened
+    refl
     c.from.ensures c.class_variable-variable.ensures.number c.event_section-number.ensures.number in
     start_done p s k class c.args.slot.time xs u.store a b (counted_small k small) ∙ ap Ok (sym left)

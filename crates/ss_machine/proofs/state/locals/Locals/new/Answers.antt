@@ -1,4 +1,4 @@
-use Rattle.std.proofs.Common.{rules, refl, nat_le, w64, FitsSigned, to_z, of_z}
+use Rattle.std.proofs.Common.{rules, refl, nat_le, w64, FitsSigned}
 use Rattle.std.proofs.lemmas.Int.{to_z-of_z}
 use Rattle.ss_machine.proofs.Locals.{locals_given}
 use Rattle.ss_machine.specs.Locals.{IsPadded}
