@@ -107,7 +107,7 @@ get_range f a (suc n) (suc i) h =
     get_range f (a + 1) n i (omega (arith, h)) ∙ ap (λ k. Some (f k)) same
 
 -- a set as the store has it
-shape_is : (p : ProgramTable) (set : ℕ) → nat_lt set (length p.sets) ≡ true → shape_of p set ≡ set_shape p set
+pub shape_is : (p : ProgramTable) (set : ℕ) → nat_lt set (length p.sets) ≡ true → shape_of p set ≡ set_shape p set
 shape_is p set h =
     let same : 0 + set ≡ set = omega arith in
     ap (λ o. unwrap_or o no_set)

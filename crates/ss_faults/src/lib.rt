@@ -14,6 +14,6 @@ mod texts;
 mod told;
 
 pub use asked::push_asked_of_fault;
-pub use laws::what_is_missing_is_not_there;
+pub use laws::{what_is_missing_faults, what_is_missing_is_not_there};
 pub use sentence::push_fault_sentence;
 pub use told::Told;

@@ -2,3 +2,4 @@ pub mod Parts
 pub mod WordLists
 pub mod Gaps
 pub mod Sayings
+pub mod OneSaying

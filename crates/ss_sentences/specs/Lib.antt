@@ -9,3 +9,4 @@ pub mod Meant
 pub mod Breach
 pub mod Unread
 pub mod Refusals
+pub mod Laws

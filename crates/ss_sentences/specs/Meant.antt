@@ -1,9 +1,9 @@
 -- Hints at what is often meant by the words of other languages, and by a misspelt one.
-use Rattle.std.specs.Prelude.{ℕ, ◌-◌, ◌&&◌, Bool, true, false, List, [], ◌∷◌, ◌++◌, length, take, map, codes}
+use Rattle.std.specs.Prelude.{ℕ, ◌-◌, ◌&&◌, Bool, true, false, List, [], ◌++◌, length, take, map, codes}
 use Rattle.std.specs.Prelude.{Option, Some, None, if◌then◌else◌}
 use Rattle.ss_words.specs.declared.word.Sign.{Sign}
 use Rattle.ss_words.specs.declared.word.Sign.TheVariants.{Less, Greater, Equal}
-use Rattle.ss_words.specs.Words.{Kind, name, number, sign, picture, WordAt}
+use Rattle.ss_words.specs.Words.{Kind, name, sign, WordAt}
 use Rattle.ss_words.specs.Spellings.{is_reserved_name}
 use Rattle.ss_columns.specs.Reserved.{is_kind_among}
 use Rattle.ss_sentences.specs.declared.candidate.Judgement.{Judgement}

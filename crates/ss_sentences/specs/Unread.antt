@@ -1,7 +1,7 @@
 -- What is said of a text that a rule L refuses.
 use Rattle.std.specs.Prelude.{ℕ, ◌+◌, ◌-◌, ◌&&◌, ◌||◌, ◌==◌, Bool, true, false, not, nat_lt, nat_le, List, [], ◌∷◌}
 use Rattle.std.specs.Prelude.{◌++◌, length, take, drop, take_while, slice_index, map, codes, decimal, if◌then◌else◌}
-use Rattle.std.specs.Prelude.{Option, Some, None, bytes_eq}
+use Rattle.std.specs.Prelude.{Some, bytes_eq}
 use Rattle.std.specs.List.{list_any, list_all}
 use Rattle.ss_words.specs.declared.characters.TheConstants.{BLANK, CARRIAGE_RETURN, LINE_FEED, STOP, TILDE}
 use Rattle.ss_words.specs.declared.fault.TextRule.{TextRule}
@@ -59,8 +59,8 @@ unfoldable pub line_count : List ℕ → ℕ
 line_count [] = 0
 line_count (b ∷ bs) = elim (b == LINE_FEED || ends_last_line b bs) [ true ↦ 1 + line_count bs | false ↦ line_count bs ]
 
--- what is said of a byte that may stand in no line, with which the rest of its line begins: it begins a byte order mark,
--- or is of a letter outside ASCII
+-- what is said of a byte that may stand in no line, with which the rest of its line begins: it begins a byte order
+-- mark, or is of a letter outside ASCII
 abbrev pub outside_hint : ℕ → List ℕ → List ℕ
 outside_hint b rest =
     if bytes_eq (take (length BYTE_ORDER_MARK) rest) BYTE_ORDER_MARK then MARK_HINT.now

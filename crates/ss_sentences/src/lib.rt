@@ -7,6 +7,7 @@ mod candidate;
 mod expected;
 mod grammar;
 mod hints;
+mod laws;
 mod meant;
 mod near;
 mod pieces;
@@ -15,6 +16,7 @@ mod unread;
 mod wording;
 
 pub use candidate::{Judgement, Tried};
+pub use laws::one_thing_is_said;
 pub use pieces::{push_place, push_shown, push_source};
 pub use refusal::{LONGEST_TEXT_JUDGED, text_refusal};
 pub use wording::{fault_sentence, rule_sentence};
