@@ -1,6 +1,8 @@
 -- What stops a program before its work, and the exit status of that.
-use Rattle.std.specs.Prelude.{◌≡◌, ℕ, List, Option, Some, None}
+use Rattle.std.specs.Prelude.{◌≡◌, ℕ, List, [], Option, Some, None, codes}
 use Rattle.std.specs.Borrow.{Bor}
+use Rattle.ss_host.specs.declared.stop.Unread.{Unread}
+use Rattle.ss_host.specs.declared.stop.Unread.TheVariants.{Missing, Forbidden, Folder, TooLong, Unknown}
 use Rattle.ss_host.specs.declared.stop.Stop.{Stop}
 use Rattle.ss_host.specs.declared.stop.Stop.TheVariants.{Usage, Memory, CannotRead, CannotWrite}
 
@@ -8,22 +10,37 @@ use Rattle.ss_host.specs.declared.stop.Stop.TheVariants.{Usage, Memory, CannotRe
 abbrev pub stop_status : Stop → ℕ
 stop_status Usage = 1
 stop_status Memory = 5
-stop_status (CannotRead path) = 2
+stop_status (CannotRead path reason) = 2
 stop_status CannotWrite = 2
 
 -- what stops the reading of the words
 abbrev pub IsOfWords : Stop → Type 0
 IsOfWords Usage = Unit {0}
 IsOfWords Memory = Unit {0}
-IsOfWords (CannotRead path) = ⊥
+IsOfWords (CannotRead path reason) = ⊥
 IsOfWords CannotWrite = ⊥
 
 -- what stops the reading of the file of a path: it names that path
 abbrev pub IsOfFile : List ℕ → Stop → Type 0
 IsOfFile path Usage = ⊥
 IsOfFile path Memory = Unit {0}
-IsOfFile path (CannotRead named) = named.now ≡ path
+IsOfFile path (CannotRead named reason) = named.now ≡ path
 IsOfFile path CannotWrite = ⊥
+
+-- a file that is not read: the very path is named
+abbrev pub IsUnread : Bor (List ℕ) → Stop → Type 0
+IsUnread path Usage = ⊥
+IsUnread path Memory = ⊥
+IsUnread path (CannotRead named reason) = named ≡ path
+IsUnread path CannotWrite = ⊥
+
+-- why, after the words that say that it cannot be read
+abbrev pub unread_words : Unread → List ℕ
+unread_words Missing = codes ": there is no such file"
+unread_words Forbidden = codes ": it is not permitted"
+unread_words Folder = codes ": it is a folder"
+unread_words TooLong = codes ": it is over 64 MiB"
+unread_words Unknown = []
 
 -- what stops the reading of the file of a path that may be left out: without a path, memory alone
 abbrev pub IsOfPath : Option (Bor (List ℕ)) → Stop → Type 0

@@ -1,8 +1,8 @@
 ghost use Rattle.std.specs.Prelude.{◌≡◌, ◌≢◌, ◌≤◌, ◌^◌, [], length, IfOk, IfErr, IfSome, None, codes};
 ghost use Rattle.std.specs.IoError.{error_kind};
-ghost use Rattle.ss_host.specs.Stops.{IsOfFile, IsOfPath, path_or};
+ghost use Rattle.ss_host.specs.Stops.{IsOfFile, IsOfPath, IsUnread, path_or};
 
-use crate::stop::{Stop, stop_by};
+use crate::stop::{Stop, Unread, stop_by};
 use std::alloc::Global;
 use std::io::{ErrorKind, Read};
 use std::rt::Files;
@@ -27,10 +27,10 @@ fn read_all<R: Read + Drop>(alloc: Global, reader: R) -> io::Result<Vec<u8>>
 /// Why the file of a path was not read.
 fn stop_at<'a>(error: io::Error, path: &'a str) -> Stop<'a>
     ensures memory { error_kind error ≡ ErrorKind.OutOfMemory → result ≡ Stop.Memory }
-    ensures other { error_kind error ≢ ErrorKind.OutOfMemory → result ≡ Stop.CannotRead path.entry }
+    ensures other { error_kind error ≢ ErrorKind.OutOfMemory → IsUnread path.entry result }
     ensures names { IsOfFile path.now result }
 {
-    stop_by(&error, Stop::CannotRead(path))
+    stop_by(&error, Stop::CannotRead(path, Unread::of(&error)))
 }
 
 /// The bytes of the file of a path; at most 64 MiB.

@@ -9,5 +9,5 @@ mod stream;
 
 pub use arguments::read_arguments;
 pub use files::{read_file, read_model, read_or};
-pub use stop::{Stop, stop_by, tell};
+pub use stop::{Stop, Unread, explain, stop_by, tell};
 pub use stream::Stream;

@@ -12,9 +12,10 @@ use Rattle.ss_prompt.specs.declared.commands.PromptCommand.TheVariants.{Plain}
 use Rattle.ss_prompt.specs.PromptState.{PromptState}
 use Rattle.ss_prompt.specs.Plain.{plain_next, plain_said, plain_stop}
 use Rattle.ss_prompt.specs.Prompting.{prompt_meaning, prompt_answer, prompt_state_after}
-use Rattle.ss_prompt.specs.Reading.{prompt_command_of}
-use Rattle.ss_prompt.specs.Laws.{ArePlain, AnswersFirst, PlainLinesAnswerTheBatch, PlainLinesLeadAsTheBatch}
-use Rattle.ss_prompt.proofs.Plains.{plain_lines}
+use Rattle.ss_program.specs.Program.{ProgramTable}
+use Rattle.ss_prompt.specs.Reading.{plain_command_of, prompt_command_of}
+use Rattle.ss_prompt.specs.Laws.{IsPlain, ArePlain, AnswersFirst, PlainLinesAnswerTheBatch, PlainLinesLeadAsTheBatch}
+use Rattle.ss_prompt.proofs.Plains.{plain_read, plain_lines}
 
 -- behind a line that ends none counts
 up_to : (ends : Bool) (t : Input) (d : DebuggerState) (lines : List (List ℕ)) (text : List ℕ) →
@@ -30,10 +31,15 @@ with_rest s c lines =
 
 -- the answers to a line and to those behind it
 answered_line : (s : PromptState) (line : List ℕ) (lines : List (List ℕ)) →
-    prompt_command_of line ≡ Plain (command_of line) →
+    prompt_command_of s.input.program line ≡ Plain (command_of line) → plain_command_of line ≡ command_of line →
     answers prompt_meaning s (line ∷ lines) ≡ with_rest s (command_of line) lines
 unfolding answers prompt_answer prompt_state_after
-answered_line s line lines e = rw e refl
+answered_line s line lines e f = rw (e, f) refl
+
+-- a line that is meant so is that command
+meant : (program : ProgramTable) (line : List ℕ) → IsPlain program line →
+    prompt_command_of program line ≡ Plain (command_of line)
+meant program line h = plain_lines program line h.0 ∙ h.1
 
 pub plain_batch : PlainLinesAnswerTheBatch
 unfolding ArePlain AnswersFirst answers
@@ -43,14 +49,15 @@ plain_batch s (line ∷ lines) h =
     let rest : List ℕ = if is_quit c then [] else answers prompt_meaning (plain_next s c) lines in (
       plain_stop s c,
       rest,
-      answered_line s line lines (plain_lines line h.0),
+      answered_line s line lines (meant s.input.program line h.0) (plain_read line h.0.0),
       up_to (is_quit c) s.input (debugger_state_after s.input s.debugger c) (obeyed_lines lines)
           (answers prompt_meaning (plain_next s c) lines) (plain_batch (plain_next s c) lines h.1),
     )
 
 -- the state behind a line
-led_line : (s : PromptState) (line : List ℕ) → prompt_command_of line ≡ Plain (command_of line) →
-    prompt_state_after s (prompt_command_of line) ≡ plain_next s (command_of line)
+led_line : (s : PromptState) (line : List ℕ) →
+    prompt_command_of s.input.program line ≡ Plain (command_of line) →
+    prompt_state_after s (prompt_command_of s.input.program line) ≡ plain_next s (command_of line)
 unfolding prompt_state_after
 led_line s line e = rw e refl
 
@@ -59,5 +66,5 @@ unfolding ArePlain state_after_all debugger_state_after_lines
 plain_led s [] h = refl
 plain_led s (line ∷ lines) h =
     ap (λ (v : PromptState). (state_after_all prompt_meaning v (map answered lines)).debugger)
-    (led_line s line (plain_lines line h.0))
+    (led_line s line (meant s.input.program line h.0))
     ∙ plain_led (plain_next s (command_of line)) lines h.1

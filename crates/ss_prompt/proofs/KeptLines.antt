@@ -15,7 +15,9 @@ use Rattle.ss_debug.specs.CommandLines.{separates, word_separators, is_written, 
 use Rattle.ss_debug.specs.CommandLines.{command_lines}
 use Rattle.ss_debug.specs.Command.{command_of, command_of_long_line}
 use Rattle.ss_prompt.specs.PromptState.{PromptState}
-use Rattle.ss_prompt.specs.Reading.{or_own, bad, own_command_of, prompt_command_of}
+use Rattle.ss_program.specs.Program.{ProgramTable}
+use Rattle.ss_prompt.specs.Reading.{or_own, or_else, bad, own_command_of, prompt_command_of}
+use Rattle.ss_prompt.specs.Reading.{plain_command_of, first_whole_command_of}
 use Rattle.ss_prompt.specs.Prompting.{prompt_meaning, prompt_state_after}
 use Rattle.ss_prompt.specs.Laws.{KeptLinesSayTheSame, LinesAreThoseOfTheBatch, PlainTextsAnswerTheBatch}
 use Rattle.ss_prompt.proofs.Batches.{plain_batch}
@@ -145,25 +147,50 @@ words_in line =
     words_there (separates word_separators) line
     ∙ any_same (λ b. not (separates word_separators b)) (λ b. not (is_stop b)) (λ b. ap not (separates_is_stop b)) line
 
--- what a line says that is too long
-long_says : (line : List ℕ) → nat_lt LONGEST_LINE (length line) ≡ true →
-    prompt_command_of line ≡ or_own (says (list_any (λ b. not (is_stop b)) line)) bad
-unfolding prompt_command_of own_command_of command_of
-long_says line e = rw (e, long_words (command_words line), words_in line) refl
+-- what a line says in docs/DEBUGGER.md that is too long
+long_plain : (line : List ℕ) → nat_lt LONGEST_LINE (length line) ≡ true →
+    plain_command_of line ≡ or_else (says (list_any (λ b. not (is_stop b)) line)) Bad
+unfolding plain_command_of first_whole_command_of command_of
+long_plain line e = rw (e, long_words (command_words line), words_in line) refl
 
-kept_at : (line : List ℕ) (b : Bool) → nat_lt LONGEST_LINE (length line) ≡ b →
-    prompt_command_of (kept_part line) ≡ prompt_command_of line
-kept_at line false e =
+-- what a line says that is too long
+long_says : (program : ProgramTable) (line : List ℕ) → nat_lt LONGEST_LINE (length line) ≡ true →
+    prompt_command_of program line
+    ≡ or_own program (or_else (says (list_any (λ b. not (is_stop b)) line)) Bad) bad
+unfolding prompt_command_of own_command_of
+long_says program line e = rw (e, long_plain line e) refl
+
+-- what is kept of a line says the same in docs/DEBUGGER.md
+plain_at : (line : List ℕ) (b : Bool) → nat_lt LONGEST_LINE (length line) ≡ b →
+    plain_command_of (kept_part line) ≡ plain_command_of line
+plain_at line false e =
     let short : length line ≤ LONGEST_LINE = grind (arith, nat_tests) in
-    ap prompt_command_of (short_lines_are_kept line short)
-kept_at line true e =
+    ap plain_command_of (short_lines_are_kept line short)
+plain_at line true e =
     let long : LONGEST_LINE < length line = grind (arith, nat_tests) in
     let cut : length (kept_part line) ≡ LONGEST_LINE + 1 = long_lines_are_cut line long in
     let past : nat_lt LONGEST_LINE (length (kept_part line)) ≡ true = rw cut refl in
-    long_says (kept_part line) past ∙ ap (λ some. or_own (says some) bad) (words_are_kept line) ∙ sym (long_says line e)
+    long_plain (kept_part line) past ∙ ap (λ some. or_else (says some) Bad) (words_are_kept line)
+    ∙ sym (long_plain line e)
+
+kept_at : (program : ProgramTable) (line : List ℕ) (b : Bool) → nat_lt LONGEST_LINE (length line) ≡ b →
+    prompt_command_of program (kept_part line) ≡ prompt_command_of program line
+kept_at program line false e =
+    let short : length line ≤ LONGEST_LINE = grind (arith, nat_tests) in
+    ap (prompt_command_of program) (short_lines_are_kept line short)
+kept_at program line true e =
+    let long : LONGEST_LINE < length line = grind (arith, nat_tests) in
+    let cut : length (kept_part line) ≡ LONGEST_LINE + 1 = long_lines_are_cut line long in
+    let past : nat_lt LONGEST_LINE (length (kept_part line)) ≡ true = rw cut refl in
+    long_says program (kept_part line) past
+    ∙ ap (λ some. or_own program (or_else (says some) Bad) bad) (words_are_kept line)
+    ∙ sym (long_says program line e)
 
 pub kept_says : KeptLinesSayTheSame
-kept_says line = kept_at line (nat_lt LONGEST_LINE (length line)) refl
+kept_says program line = (
+  kept_at program line (nat_lt LONGEST_LINE (length line)) refl,
+  plain_at line (nat_lt LONGEST_LINE (length line)) refl,
+)
 
 -- so they are answered the same
 answers_kept : (s : PromptState) (ls : List (List ℕ)) →
@@ -171,7 +198,8 @@ answers_kept : (s : PromptState) (ls : List (List ℕ)) →
 unfolding answers
 answers_kept s [] = refl
 answers_kept s (line ∷ ls) =
-    rw (kept_says line, answers_kept (prompt_state_after s (prompt_command_of line)) ls) refl
+    let same = kept_says s.input.program line in
+    rw (same.0, same.1, answers_kept (prompt_state_after s (prompt_command_of s.input.program line)) ls) refl
 
 pub plain_texts : PlainTextsAnswerTheBatch
 plain_texts s text h = rw (answers_kept s (lines text), lines_same text) (plain_batch s (command_lines text) h)

@@ -9,6 +9,9 @@ pub mod NeighbourStates
 pub mod SameRuns
 pub mod Desks
 pub mod SourceLines
+pub mod Nearest
+pub mod Quits
 pub mod Others
 pub mod Searches
 pub mod StopRefusals
+pub mod MissingLaws

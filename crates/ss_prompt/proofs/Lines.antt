@@ -1,5 +1,6 @@
 -- Lines are made word by word.
 use Rattle.std.proofs.Common.{◌≡◌, ℕ, List, [], ◌∷◌, refl, fold, None}
+use Rattle.ss_program.specs.Program.{ProgramTable}
 use Rattle.ss_prompt.specs.Words.{with_word}
 use Rattle.ss_prompt.specs.Cuts.{all_whole, made_whole, behind}
 use Rattle.ss_prompt.specs.declared.cuts.Standing.{Standing}
@@ -16,15 +17,16 @@ unfolding with_word
 one_too_long word = refl
 
 -- one word made whole, and those behind it
-pub one_whole : (at : Standing) (word : List ℕ) (more : List (List ℕ)) →
-    all_whole at (word ∷ more) ≡ made_whole at word more ∷ all_whole (behind at (made_whole at word more)) more
+pub one_whole : (program : ProgramTable) (at : Standing) (word : List ℕ) (more : List (List ℕ)) →
+    all_whole program at (word ∷ more)
+    ≡ made_whole program at word ∷ all_whole program (behind at (made_whole program at word)) more
 unfolding all_whole
-one_whole at word more = refl
+one_whole program at word more = refl
 
 -- none made whole
-pub none_whole : (at : Standing) → all_whole at [] ≡ []
+pub none_whole : (program : ProgramTable) (at : Standing) → all_whole program at [] ≡ []
 unfolding all_whole
-none_whole at = refl
+none_whole program at = refl
 
 -- words made whole, one by one
 pub ruleset whole_words = (too_long, one_whole, none_whole)

@@ -44,8 +44,10 @@ unfolding prompt_state_after
 breaks s (prompt.Plain command) h = plain_breaks s command h
 breaks s (prompt.Travel movement) h = refl
 breaks s (prompt.Lines line) h = refl
+breaks s (prompt.LinesBetween from to) h = refl
 breaks s (prompt.SectionLines name) h = refl
 breaks s (prompt.BreakSection name) h = on_line s plain.Break (line_of_section s.input.program name) h
+breaks s (prompt.NoPlace line next) h = refl
 breaks s (prompt.ClearSection name) h = on_line s plain.Clear (line_of_section s.input.program name) h
 breaks s prompt.Breaks h = refl
 breaks s (prompt.Ask question) h = refl
@@ -55,6 +57,9 @@ breaks s (prompt.Why question) h = refl
 breaks s (prompt.History question rows) h = refl
 breaks s (prompt.Display question) h = refl
 breaks s prompt.Undisplay h = refl
+breaks s (prompt.UndisplayOne question) h = refl
+breaks s (prompt.Unread word numbered) h = refl
+breaks s (prompt.Missing missing) h = refl
 breaks s (prompt.Names name) h = refl
 breaks s prompt.Warnings h = refl
 breaks s (prompt.Help word) h = refl
@@ -92,9 +97,11 @@ unfolding prompt_state_after
 position s (prompt.Plain command) h = plain_position s command h
 position s (prompt.Travel movement) h = absurd (cc)
 position s (prompt.Lines line) h = refl
+position s (prompt.LinesBetween from to) h = refl
 position s (prompt.SectionLines name) h = refl
 position s (prompt.BreakSection name) h =
     stands_on s plain.Break (line_of_section s.input.program name) (λ l. plain_position s (plain.Break l) refl)
+position s (prompt.NoPlace line next) h = refl
 position s (prompt.ClearSection name) h =
     stands_on s plain.Clear (line_of_section s.input.program name) (λ l. plain_position s (plain.Clear l) refl)
 position s prompt.Breaks h = refl
@@ -105,6 +112,9 @@ position s (prompt.Why question) h = refl
 position s (prompt.History question rows) h = refl
 position s (prompt.Display question) h = refl
 position s prompt.Undisplay h = refl
+position s (prompt.UndisplayOne question) h = refl
+position s (prompt.Unread word numbered) h = refl
+position s (prompt.Missing missing) h = refl
 position s (prompt.Names name) h = refl
 position s prompt.Warnings h = refl
 position s (prompt.Help word) h = refl

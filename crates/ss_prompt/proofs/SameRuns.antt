@@ -41,8 +41,10 @@ unfolding prompt_state_after
 obeyed s (prompt.Plain command) = record { input = refl; model = refl; lines = refl }
 obeyed s (prompt.Travel movement) = record { input = refl; model = refl; lines = refl }
 obeyed s (prompt.Lines line) = record { input = refl; model = refl; lines = refl }
+obeyed s (prompt.LinesBetween from to) = record { input = refl; model = refl; lines = refl }
 obeyed s (prompt.SectionLines name) = record { input = refl; model = refl; lines = refl }
 obeyed s (prompt.BreakSection name) = on_line s plain.Break (line_of_section s.input.program name)
+obeyed s (prompt.NoPlace line next) = record { input = refl; model = refl; lines = refl }
 obeyed s (prompt.ClearSection name) = on_line s plain.Clear (line_of_section s.input.program name)
 obeyed s prompt.Breaks = record { input = refl; model = refl; lines = refl }
 obeyed s (prompt.Ask question) = record { input = refl; model = refl; lines = refl }
@@ -52,6 +54,9 @@ obeyed s (prompt.Why question) = record { input = refl; model = refl; lines = re
 obeyed s (prompt.History question rows) = record { input = refl; model = refl; lines = refl }
 obeyed s (prompt.Display question) = record { input = refl; model = refl; lines = refl }
 obeyed s prompt.Undisplay = record { input = refl; model = refl; lines = refl }
+obeyed s (prompt.UndisplayOne question) = record { input = refl; model = refl; lines = refl }
+obeyed s (prompt.Unread word numbered) = record { input = refl; model = refl; lines = refl }
+obeyed s (prompt.Missing missing) = record { input = refl; model = refl; lines = refl }
 obeyed s (prompt.Names name) = record { input = refl; model = refl; lines = refl }
 obeyed s prompt.Warnings = record { input = refl; model = refl; lines = refl }
 obeyed s (prompt.Help word) = record { input = refl; model = refl; lines = refl }
@@ -73,8 +78,10 @@ unfolding IsRefused IsTravelRefused HasLookedBeside HasLookedBack
 refused s after (prompt.Plain command) h = refused_plain s after command h
 refused s after (prompt.Travel movement) h = beside s after h.0
 refused s after (prompt.Lines line) h = unchanged s after h
+refused s after (prompt.LinesBetween from to) h = unchanged s after h
 refused s after (prompt.SectionLines name) h = unchanged s after h
 refused s after (prompt.BreakSection name) h = unchanged s after h
+refused s after (prompt.NoPlace line next) h = unchanged s after h
 refused s after (prompt.ClearSection name) h = unchanged s after h
 refused s after prompt.Breaks h = unchanged s after h
 refused s after (prompt.Ask question) h = unchanged s after h
@@ -84,6 +91,9 @@ refused s after (prompt.Why question) h = beside s after h.0
 refused s after (prompt.History question rows) h = beside s after h.0
 refused s after (prompt.Display question) h = unchanged s after h
 refused s after prompt.Undisplay h = unchanged s after h
+refused s after (prompt.UndisplayOne question) h = unchanged s after h
+refused s after (prompt.Unread word numbered) h = unchanged s after h
+refused s after (prompt.Missing missing) h = unchanged s after h
 refused s after (prompt.Names name) h = unchanged s after h
 refused s after prompt.Warnings h = unchanged s after h
 refused s after (prompt.Help word) h = unchanged s after h

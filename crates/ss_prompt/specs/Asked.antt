@@ -1,5 +1,5 @@
 -- Questions whose answers may change: those of docs/DEBUGGER.md, one attribute, how many members.
-use Rattle.std.specs.Prelude.{ℕ, List, [], ◌∷◌, codes, Option, Some, None, if◌then◌else◌}
+use Rattle.std.specs.Prelude.{ℕ, List, [], ◌∷◌, codes, Option, Some, None, option_map, Result, if◌then◌else◌}
 use Rattle.std.specs.Str.{bytes_eq}
 use Rattle.ss_debug.specs.declared.commands.Command.{Command}
 use Rattle.ss_debug.specs.declared.commands.Command.TheVariants.{Show}
@@ -7,6 +7,9 @@ use Rattle.ss_debug.specs.declared.commands.Question.{Question as PlainQuestion}
 use Rattle.ss_debug.specs.declared.commands.Question.TheVariants.{Entity, Set}
 use Rattle.ss_trace.specs.declared.question.Question.{Question}
 use Rattle.ss_trace.specs.declared.question.Question.TheVariants.{Shown, Attribute, Count}
+use Rattle.ss_program.specs.Program.{ProgramTable}
+use Rattle.ss_prompt.specs.declared.missing.Missing.{Missing}
+use Rattle.ss_prompt.specs.Missing.{asked_of_program, bare_asked}
 use Rattle.ss_prompt.specs.Words.{command_behind, question_of, only_name_of}
 
 -- the first that is there
@@ -48,3 +51,16 @@ shown_or None other = other
 -- the question that some words ask
 abbrev pub asked_of : List (List ℕ) → Option Question
 asked_of words = shown_or (question_of (command_behind (codes "SHOW") words)) (own_asked words)
+
+-- what the only word asks, if it is a name: a set, or else a variable
+abbrev pub bare_of : ProgramTable → Option (List ℕ) → Option Question
+bare_of program None = None
+bare_of program (Some name) = Some (bare_asked program name)
+
+-- the question that some words ask, a bare name too
+abbrev pub asked_or_bare : ProgramTable → List (List ℕ) → Option Question
+asked_or_bare program words = first_there (asked_of words) (bare_of program (only_name_of words))
+
+-- the same as a program has its names, or which of them it hasn't
+abbrev pub asked_in : ProgramTable → List (List ℕ) → Option (Result Question Missing)
+asked_in program words = option_map (asked_of_program program) (asked_or_bare program words)

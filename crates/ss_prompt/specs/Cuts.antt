@@ -1,10 +1,11 @@
 -- Words that are cut, made whole.
 use Rattle.std.specs.Prelude.{ℕ, Bool, true, false, ◌&&◌, List, [], ◌∷◌, ◌++◌, length, take, codes, if◌then◌else◌}
-use Rattle.std.specs.Prelude.{Option, get_or, nat_le, nat_lt}
+use Rattle.std.specs.Prelude.{Option, nat_le, nat_lt}
 use Rattle.std.specs.List.{filter}
 use Rattle.std.specs.Str.{bytes_eq}
-use Rattle.std.specs.Char.{is_ascii_digit}
 use Rattle.ss_debug.specs.CommandLines.{command_words}
+use Rattle.ss_program.specs.Program.{ProgramTable}
+use Rattle.ss_prompt.specs.Missing.{is_declared}
 use Rattle.ss_prompt.specs.Words.{line_behind}
 use Rattle.ss_prompt.specs.declared.cuts.Standing.{Standing}
 use Rattle.ss_prompt.specs.declared.cuts.Standing.TheVariants.{First, BehindRun, BehindBack, BehindShow, Asked, Free}
@@ -80,28 +81,47 @@ abbrev pub whole : List ℕ → List ℕ → List ℕ
 whole table word =
     if nat_lt (length word) 3 then word else only_one word (filter (begins word) (command_words table))
 
+-- the word for which a letter stands that begins a line; another word as it is
+abbrev pub word_of_letter : List ℕ → List ℕ
+word_of_letter word =
+    if bytes_eq word (codes "S") then codes "STEP" else
+    if bytes_eq word (codes "N") then codes "NEXT" else
+    if bytes_eq word (codes "C") then codes "RUN" else
+    if bytes_eq word (codes "B") then codes "BREAK" else
+    if bytes_eq word (codes "Q") then codes "QUIT" else word
+
+-- a word with its letter spelled, where it begins a line
+abbrev pub spelled : Standing → List ℕ → List ℕ
+spelled First word = word_of_letter word
+spelled at word = word
+
 -- whether a question may stand here
 abbrev pub is_asked : Standing → Bool
 is_asked BehindShow = true
 is_asked Asked = true
 is_asked _ = false
 
--- whether the first of some words begins with a digit
-abbrev pub begins_with_digit : List (List ℕ) → Bool
-begins_with_digit [] = false
-begins_with_digit (word ∷ more) = is_ascii_digit (get_or word 0 0)
-
--- a word made whole by where it stands; a class in front of a number is none
-abbrev pub made_whole : Standing → List ℕ → List (List ℕ) → List ℕ
-made_whole at word more =
-    if is_asked at && begins_with_digit more then word else whole (words_at at) word
+-- a word made whole by where it stands: one letter or more of it; where a question may stand, a name of the program
+-- stays what it is
+abbrev pub made_whole : ProgramTable → Standing → List ℕ → List ℕ
+made_whole program at word =
+    if is_asked at && is_declared program word then word else whole (words_at at) (spelled at word)
 
 -- the words of a line made whole, one after the other
-unfoldable pub all_whole : Standing → List (List ℕ) → List (List ℕ)
-all_whole at [] = []
-all_whole at (word ∷ more) =
-    let it : List ℕ = made_whole at word more in it ∷ all_whole (behind at it) more
+unfoldable pub all_whole : ProgramTable → Standing → List (List ℕ) → List (List ℕ)
+all_whole program at [] = []
+all_whole program at (word ∷ more) =
+    let it : List ℕ = made_whole program at word in it ∷ all_whole program (behind at it) more
 
 -- a line whose words are made whole
-abbrev pub whole_line : List ℕ → Option (List ℕ)
-whole_line line = line_behind [] (all_whole First (command_words line))
+abbrev pub whole_line : ProgramTable → List ℕ → Option (List ℕ)
+whole_line program line = line_behind [] (all_whole program First (command_words line))
+
+-- some words, the first made whole
+abbrev pub first_whole : List (List ℕ) → List (List ℕ)
+first_whole [] = []
+first_whole (word ∷ more) = whole first_words (word_of_letter word) ∷ more
+
+-- a line whose first word is made whole
+abbrev pub first_whole_line : List ℕ → Option (List ℕ)
+first_whole_line line = line_behind [] (first_whole (command_words line))

@@ -1,6 +1,6 @@
 -- Questions that are answered at each stop.
-use Rattle.std.specs.Prelude.{ℕ, Bool, List, [], ◌∷◌, ◌++◌, length, codes, decimal, if◌then◌else◌, nat_le}
-use Rattle.std.specs.List.{list_any}
+use Rattle.std.specs.Prelude.{ℕ, Bool, Option, Some, None, is_some, position, List, [], ◌∷◌, ◌++◌, length, codes, decimal, if◌then◌else◌, nat_le}
+use Rattle.std.specs.List.{list_any, remove}
 use Rattle.std.specs.Str.{bytes_eq}
 use Rattle.ss_trace.specs.declared.question.Question.{Question}
 use Rattle.ss_trace.specs.Question.{question_text}
@@ -50,3 +50,30 @@ undisplay_said state = cleared_text state.displays
 -- the state behind it
 abbrev pub undisplay_next : PromptState → PromptState
 undisplay_next state = with_displays state []
+
+-- the place among some of a question that is asked so
+abbrev pub place_among : List Question → List ℕ → Option ℕ
+place_among displays text = position (λ d. bytes_eq (question_text d) text) displays
+
+-- the questions but the one in this place
+abbrev pub without_place : List Question → Option ℕ → List Question
+without_place displays None = displays
+without_place displays (Some i) = remove displays i
+
+-- the questions but the one that is asked so
+abbrev pub displays_without : List Question → List ℕ → List Question
+displays_without displays text = without_place displays (place_among displays text)
+
+-- that a question is not answered at stops any more, or that it was not
+abbrev pub undisplay_text : List Question → List ℕ → List ℕ
+undisplay_text displays text =
+    if is_some (place_among displays text) then codes "DISPLAY " ++ text ++ codes " CLEARED\n"
+    else codes "NO DISPLAY " ++ text ++ 10 ∷ []
+
+-- what UNDISPLAY x answers
+abbrev pub undisplay_one_said : PromptState → Question → List ℕ
+undisplay_one_said state question = undisplay_text state.displays (question_text question)
+
+-- the state behind it
+abbrev pub undisplay_one_next : PromptState → Question → PromptState
+undisplay_one_next state question = with_displays state (displays_without state.displays (question_text question))

@@ -1,5 +1,5 @@
 -- What HELP tells: the rows of the table of src/help.rt.
-use Rattle.std.specs.Prelude.{ℕ, List, [], ◌∷◌, ◌++◌, map, codes, Option, Some, None, if◌then◌else◌}
+use Rattle.std.specs.Prelude.{ℕ, Bool, true, false, List, [], ◌∷◌, ◌++◌, map, codes, Option, Some, None, if◌then◌else◌}
 use Rattle.std.specs.Str.{bytes_eq}
 use Rattle.ss_prompt.specs.declared.help.TheConstants.{HELP_ROWS}
 
@@ -24,6 +24,11 @@ row_of word row = if bytes_eq row.0 word then row_text row else []
 abbrev pub rows_of : List ℕ → List Row → List ℕ
 rows_of word [] = []
 rows_of word (row ∷ rows) = row_of word row ++ rows_of word rows
+
+-- whether some rows have one of a word
+abbrev pub has_row : List ℕ → List Row → Bool
+has_row word [] = false
+has_row word (row ∷ rows) = if bytes_eq word row.0 then true else has_row word rows
 
 -- the rows of the table
 abbrev pub help_rows : List Row

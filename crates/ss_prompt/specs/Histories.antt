@@ -1,15 +1,15 @@
 -- WHY and HISTORY: what they read, what they answer.
-use Rattle.std.specs.Prelude.{ℕ, ◌≡◌, ◌≤◌, Bool, true, false, List, [], ◌∷◌, ◌++◌, codes, Option, Some, None}
-use Rattle.std.specs.Prelude.{if◌then◌else◌}
+use Rattle.std.specs.Prelude.{ℕ, ◌≡◌, ◌≤◌, List, [], ◌∷◌, ◌++◌, codes, Option, Some, None, Result}
 use Rattle.ss_debug.specs.CommandLines.{command_words}
 use Rattle.ss_debug.specs.Turn.{debugger_state_at}
 use Rattle.ss_debug.specs.declared.commands.Command.{Command}
 use Rattle.ss_debug.specs.declared.commands.Command.TheVariants.{Forget}
 use Rattle.ss_trace.specs.declared.question.Question.{Question}
 use Rattle.ss_trace.specs.History.{history_text, newest_change, why_head, why_line, why_change}
-use Rattle.ss_prompt.specs.declared.histories.TheConstants.{ROWS_UNLESS_SAID}
+use Rattle.ss_program.specs.Program.{ProgramTable}
+use Rattle.ss_prompt.specs.declared.missing.Missing.{Missing}
 use Rattle.ss_prompt.specs.Words.{line_behind, command_behind}
-use Rattle.ss_prompt.specs.Asked.{asked_of, first_there}
+use Rattle.ss_prompt.specs.Asked.{asked_in}
 use Rattle.ss_prompt.specs.Source.{marked_line}
 use Rattle.ss_prompt.specs.PromptState.{PromptState, IsSameBeside}
 
@@ -30,37 +30,21 @@ abbrev pub rows_in : Command → Option ℕ
 rows_in (Forget n) = Some n
 rows_in _ = None
 
--- a question with a number of rows, where both are there
-abbrev pub question_with_rows : Option Question → Option ℕ → Option (Question × ℕ)
-question_with_rows (Some x) (Some n) = Some (x, n)
-question_with_rows _ _ = None
+-- a question and a number of rows, where both are there
+abbrev pub with_number : Option (Result Question Missing) → Option ℕ → Option (Result Question Missing × ℕ)
+with_number (Some x) (Some n) = Some (x, n)
+with_number _ _ = None
 
 -- the question of a line, if it is not too long
-abbrev pub asked_in : Option (List ℕ) → Option Question
-asked_in None = None
-asked_in (Some line) = asked_of (command_words line)
-
--- a question, with as many rows as there are unless it is said
-abbrev pub plainly : List (List ℕ) → Option (Question × ℕ)
-plainly words = question_with_rows (asked_of words) (Some ROWS_UNLESS_SAID)
+abbrev pub asked_in_line : ProgramTable → Option (List ℕ) → Option (Result Question Missing)
+asked_in_line program None = None
+asked_in_line program (Some line) = asked_in program (command_words line)
 
 -- a question and, as its last word, a number of rows
-abbrev pub with_rows : List (List ℕ) → Option (Question × ℕ)
-with_rows words =
-    question_with_rows (asked_in (line_behind [] (all_but_last words)))
+abbrev pub with_rows : ProgramTable → List (List ℕ) → Option (Result Question Missing × ℕ)
+with_rows program words =
+    with_number (asked_in_line program (line_behind [] (all_but_last words)))
     (rows_in (command_behind (codes "FORGET") (only_last words)))
-
--- whether some words are two
-abbrev pub is_pair : List (List ℕ) → Bool
-is_pair (word ∷ next ∷ []) = true
-is_pair _ = false
-
--- what stands behind HISTORY: the longest question counts, but a number behind a single word is one of rows where that
--- word is a question
-unfoldable pub history_wanted : List (List ℕ) → Option (Question × ℕ)
-history_wanted words =
-    if is_pair words then first_there (with_rows words) (plainly words)
-    else first_there (plainly words) (with_rows words)
 
 -- ---- answers
 

@@ -1,33 +1,57 @@
 -- Laws of the prompt, in other words than those of its definitions.
-use Rattle.std.specs.Prelude.{ℕ, ◌≡◌, false, List, [], ◌∷◌, ◌++◌, map, ⊤, None}
+use Rattle.std.specs.Prelude.{ℕ, ℤ, ◌≡◌, ◌⊎◌, true, false, List, [], ◌∷◌, ◌++◌, map, ⊤, Option, Some, None, Err, is_some}
+use Rattle.ss_program.specs.Program.{ProgramTable}
 use Rattle.ss_debug.specs.declared.commands.Command.{Command}
-use Rattle.ss_debug.specs.declared.commands.Command.TheVariants.{Bad}
+use Rattle.ss_debug.specs.declared.commands.Command.TheVariants.{Bad, Break, Show}
+use Rattle.ss_debug.specs.declared.commands.Question.TheVariants.{Variable, Entity, Set}
+use Rattle.ss_debug.specs.Entities.{class_named, set_named}
 use Rattle.ss_debug.specs.CommandLines.{command_lines}
 use Rattle.ss_debug.specs.Command.{command_of}
-use Rattle.ss_state.specs.Run.{Input}
-use Rattle.ss_debug.specs.Turn.{DebuggerState, answer, debugger_state_after, debugger_state_after_lines, obeyed_lines}
+use Rattle.ss_state.specs.Run.{Input, run}
+use Rattle.ss_store.specs.Store.{number_of, exists}
+use Rattle.ss_trace.specs.Question.{attribute_text, count_text}
+use Rattle.ss_debug.specs.Turn.{DebuggerState, show_answer, answer, debugger_state_after, debugger_state_after_lines, obeyed_lines}
 use Rattle.ss_console.specs.Dialogue.{answered, state_after_all}
 use Rattle.ss_console.specs.Lines.{lines, kept_part}
 use Rattle.ss_console.specs.Laws.{answers}
 use Rattle.ss_prompt.specs.declared.commands.PromptCommand.{PromptCommand}
 use Rattle.ss_prompt.specs.declared.commands.PromptCommand.TheVariants.{Plain}
 use Rattle.ss_prompt.specs.Points.{is_movement, point_of}
-use Rattle.ss_prompt.specs.Reading.{prompt_command_of}
+use Rattle.ss_prompt.specs.declared.missing.Missing.{Missing}
+use Rattle.ss_prompt.specs.declared.missing.Missing.TheVariants as missing
+use Rattle.ss_prompt.specs.Missing.{is_variable, has_attribute, listed, missing_text}
+use Rattle.ss_prompt.specs.Places.{next_line}
+use Rattle.ss_prompt.specs.Reading.{plain_meant, plain_command_of, prompt_command_of}
 use Rattle.ss_prompt.specs.PromptState.{PromptState}
 use Rattle.ss_prompt.specs.Prompting.{prompt_answer, prompt_state_after, prompt_meaning}
 
--- a line is a command of docs/DEBUGGER.md
-abbrev pub IsPlain : List ℕ → Type 0
-IsPlain line = command_of line ≡ Bad → ⊥
+-- a line is a command of docs/DEBUGGER.md that is meant so at the prompt: none but BREAK of a line without a place and
+-- SHOW of an entity of a set
+abbrev pub IsPlain : ProgramTable → List ℕ → Type 0
+IsPlain program line = (command_of line ≡ Bad → ⊥) × (plain_meant program (command_of line) ≡ Plain (command_of line))
 
 -- each of some lines is one
-unfoldable pub ArePlain : List (List ℕ) → Type 0
-ArePlain [] = ⊤
-ArePlain (line ∷ lines) = IsPlain line × ArePlain lines
+unfoldable pub ArePlain : ProgramTable → List (List ℕ) → Type 0
+ArePlain program [] = ⊤
+ArePlain program (line ∷ lines) = IsPlain program line × ArePlain program lines
 
--- a line that is a command of docs/DEBUGGER.md is that command at the prompt
+-- a line that is a command of docs/DEBUGGER.md is that command at the prompt, as it is meant there
 abbrev pub PlainLinesStay : Type 0
-PlainLinesStay = (line : List ℕ) → IsPlain line → prompt_command_of line ≡ Plain (command_of line)
+PlainLinesStay =
+    (program : ProgramTable) (line : List ℕ) → (command_of line ≡ Bad → ⊥) →
+    prompt_command_of program line ≡ plain_meant program (command_of line)
+
+-- a command is meant so, or it is BREAK of a line without a place, or SHOW c k where c is no class, and a set
+abbrev pub IsMeant : ProgramTable → Command → Type 0
+IsMeant program command =
+    (plain_meant program command ≡ Plain command)
+    ⊎ (((line : ℕ) × (command ≡ Break line) × (next_line program line ≡ Some line → ⊥))
+    ⊎ ((name : List ℕ) × (x : ℤ) × (command ≡ Show (Entity name x)) × (class_named program name ≡ None)
+    × (is_some (set_named program name) ≡ true)))
+
+-- so it is with every one
+abbrev pub FewAreMeantOtherwise : Type 0
+FewAreMeantOtherwise = (program : ProgramTable) (command : Command) → IsMeant program command
 
 -- what is written begins with the answer of docs/DEBUGGER.md, and the debugger goes where it goes there
 abbrev pub PlainAnswersComeFirst : Type 0
@@ -47,13 +71,13 @@ AnswersFirst input debugger (line ∷ lines) text =
 -- a transcript
 abbrev pub PlainLinesAnswerTheBatch : Type 0
 PlainLinesAnswerTheBatch =
-    (s : PromptState) (lines : List (List ℕ)) → ArePlain lines →
+    (s : PromptState) (lines : List (List ℕ)) → ArePlain s.input.program lines →
     AnswersFirst s.input s.debugger (obeyed_lines lines) (answers prompt_meaning s lines)
 
 -- and they lead to the state of which a transcript tells the report
 abbrev pub PlainLinesLeadAsTheBatch : Type 0
 PlainLinesLeadAsTheBatch =
-    (s : PromptState) (lines : List (List ℕ)) → ArePlain lines →
+    (s : PromptState) (lines : List (List ℕ)) → ArePlain s.input.program lines →
     (state_after_all prompt_meaning s (map answered lines)).debugger
     ≡ debugger_state_after_lines s.input s.debugger lines
 
@@ -63,12 +87,15 @@ LinesAreThoseOfTheBatch = (text : List ℕ) → lines text ≡ command_lines tex
 
 -- what is kept of a line says what the line says
 abbrev pub KeptLinesSayTheSame : Type 0
-KeptLinesSayTheSame = (line : List ℕ) → prompt_command_of (kept_part line) ≡ prompt_command_of line
+KeptLinesSayTheSame =
+    (program : ProgramTable) (line : List ℕ) →
+    (prompt_command_of program (kept_part line) ≡ prompt_command_of program line)
+    × (plain_command_of (kept_part line) ≡ plain_command_of line)
 
 -- so a text whose lines are all such commands is answered with the answers of its transcript
 abbrev pub PlainTextsAnswerTheBatch : Type 0
 PlainTextsAnswerTheBatch =
-    (s : PromptState) (text : List ℕ) → ArePlain (command_lines text) →
+    (s : PromptState) (text : List ℕ) → ArePlain s.input.program (command_lines text) →
     AnswersFirst s.input s.debugger (obeyed_lines (command_lines text))
     (answers prompt_meaning s (map kept_part (lines text)))
 
@@ -83,3 +110,30 @@ abbrev pub OthersStandStill : Type 0
 OthersStandStill =
     (s : PromptState) (command : PromptCommand) → is_movement command ≡ false →
     (prompt_state_after s command).debugger.position ≡ s.debugger.position
+
+-- a variable that no section has is missing in every state
+abbrev pub MissingVariablesAreAnsweredSo : Type 0
+MissingVariablesAreAnsweredSo =
+    (input : Input) (name : List ℕ) (p : ℕ) → is_variable input.program name ≡ false →
+    show_answer input p (Variable name) ≡ missing_text (missing.Variable name)
+
+-- so is a list that no set has, or none for an owner
+abbrev pub MissingListsAreAnsweredSo : Type 0
+MissingListsAreAnsweredSo =
+    (input : Input) (name : List ℕ) (owner : Option ℤ) (m : Missing) (p : ℕ) →
+    listed input.program name owner ≡ Err m →
+    (show_answer input p (Set name owner) ≡ missing_text m) × (count_text name owner input p ≡ missing_text m)
+
+-- a class
+abbrev pub MissingClassesAreAnsweredSo : Type 0
+MissingClassesAreAnsweredSo =
+    (input : Input) (class : List ℕ) (x : ℤ) (name : List ℕ) (p : ℕ) → class_named input.program class ≡ None →
+    (show_answer input p (Entity class x) ≡ missing_text (missing.Class class))
+    × (attribute_text class x name input p ≡ missing_text (missing.Class class))
+
+-- and an attribute, where its entity is there
+abbrev pub MissingAttributesAreAnsweredSo : Type 0
+MissingAttributesAreAnsweredSo =
+    (input : Input) (class : List ℕ) (x : ℤ) (name : List ℕ) (c p : ℕ) → class_named input.program class ≡ Some c →
+    has_attribute input.program c name ≡ false → exists (run input p).store c (number_of x) ≡ true →
+    attribute_text class x name input p ≡ missing_text (missing.Attribute name)

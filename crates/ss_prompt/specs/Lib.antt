@@ -1,7 +1,10 @@
 pub mod Source
 pub mod Names
+pub mod Explained
 pub mod Refusal
 pub mod Words
+pub mod Missing
+pub mod Places
 pub mod Cuts
 pub mod Completions
 pub mod Asked
@@ -18,6 +21,7 @@ pub mod Displays
 pub mod Histories
 pub mod Past
 pub mod Help
+pub mod Advice
 pub mod Points
 pub mod Prompting
 pub mod Laws

@@ -25,16 +25,29 @@ present_line state = line_at state.input state.debugger.position
 abbrev pub listed_to : List (List ℕ) → ℕ → ℕ → ℕ → List ℕ
 listed_to lines present from to = listed_lines lines present from (min (length lines) to + 1 - from)
 
+-- that there is no line l
+abbrev pub no_line_text : ℕ → List ℕ
+no_line_text l = codes "NO LINE " ++ decimal l ++ 10 ∷ []
+
 -- line l with the five before it and the five behind it
 abbrev pub listed_about : List (List ℕ) → ℕ → ℕ → List ℕ
 listed_about lines present l =
-    if nat_eq l 0 || nat_lt (length lines) l then codes "NO LINE " ++ decimal l ++ 10 ∷ []
+    if nat_eq l 0 || nat_lt (length lines) l then no_line_text l
     else listed_to lines present (max 1 (l - 5)) (l + 5)
 
 -- what LIST answers, with a line or without
 abbrev pub lines_said : PromptState → Option ℕ → List ℕ
 lines_said state (Some l) = listed_about state.lines (present_line state) l
 lines_said state None = listed_about state.lines (present_line state) (present_line state)
+
+-- the lines from one to another that there are, or that the first is none
+abbrev pub listed_between : List (List ℕ) → ℕ → ℕ → ℕ → List ℕ
+listed_between lines present from to =
+    if nat_lt (length lines) from then no_line_text from else listed_to lines present from to
+
+-- what LIST l m answers
+abbrev pub lines_between_said : PromptState → ℕ → ℕ → List ℕ
+lines_between_said state from to = listed_between state.lines (present_line state) from to
 
 -- the lines of section number n, from its head to its last place
 abbrev pub section_listed : PromptState → List ℕ → Option ℕ → List ℕ

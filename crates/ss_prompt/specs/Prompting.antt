@@ -7,21 +7,25 @@ use Rattle.ss_console.specs.Meaning.{Meaning}
 use Rattle.ss_prompt.specs.declared.commands.PromptCommand.{PromptCommand}
 use Rattle.ss_prompt.specs.declared.commands.PromptCommand.TheVariants.{Plain, Travel, Lines, SectionLines}
 use Rattle.ss_prompt.specs.declared.commands.PromptCommand.TheVariants.{BreakSection, ClearSection, Breaks}
-use Rattle.ss_prompt.specs.declared.commands.PromptCommand.TheVariants.{Changed}
+use Rattle.ss_prompt.specs.declared.commands.PromptCommand.TheVariants.{Changed, Missing, NoPlace, LinesBetween, UndisplayOne, Unread}
 use Rattle.ss_prompt.specs.declared.commands.PromptCommand.TheVariants.{Ask, See, Why, History, Display, Undisplay}
 use Rattle.ss_prompt.specs.declared.commands.PromptCommand.TheVariants.{Names, Warnings, Help}
-use Rattle.ss_prompt.specs.Reading.{prompt_command_of}
+use Rattle.ss_prompt.specs.Reading.{plain_command_of, prompt_command_of}
 use Rattle.ss_prompt.specs.PromptState.{PromptState}
 use Rattle.ss_prompt.specs.Plain.{plain_next, plain_said, IsPlainRefused}
 use Rattle.ss_prompt.specs.Travel.{travel_next, travel_said, IsTravelRefused}
 use Rattle.ss_prompt.specs.Sections.{on_section_said, on_section_next}
 use Rattle.ss_prompt.specs.Breaks.{breaks_said}
-use Rattle.ss_prompt.specs.Listing.{lines_said, section_lines_said}
+use Rattle.ss_prompt.specs.Listing.{lines_said, lines_between_said, section_lines_said}
+use Rattle.ss_prompt.specs.Missing.{missing_text}
+use Rattle.ss_prompt.specs.Places.{no_place_text}
 use Rattle.ss_prompt.specs.Displays.{display_said, display_next, undisplay_said, undisplay_next}
+use Rattle.ss_prompt.specs.Displays.{undisplay_one_said, undisplay_one_next}
 use Rattle.ss_prompt.specs.Sights.{sight_said}
 use Rattle.ss_prompt.specs.Histories.{why_said, history_said, HasLookedBack}
 use Rattle.ss_prompt.specs.Stops.{changed_said, HasLookedBeside}
 use Rattle.ss_prompt.specs.Names.{names_said, warnings_said}
+use Rattle.ss_prompt.specs.Advice.{unread_text}
 use Rattle.ss_prompt.specs.Help.{help_said}
 use Rattle.ss_prompt.specs.Refusal.{refusal_at}
 
@@ -30,8 +34,10 @@ unfoldable pub prompt_answer : PromptState → PromptCommand → List ℕ
 prompt_answer state (Plain command) = plain_said state command
 prompt_answer state (Travel m) = travel_said state m
 prompt_answer state (Lines line) = lines_said state line
+prompt_answer state (LinesBetween from to) = lines_between_said state from to
 prompt_answer state (SectionLines name) = section_lines_said state name
 prompt_answer state (BreakSection name) = on_section_said state Break name
+prompt_answer state (NoPlace line next) = no_place_text line next
 prompt_answer state (ClearSection name) = on_section_said state Clear name
 prompt_answer state Breaks = breaks_said state
 prompt_answer state (Ask x) = answer_at state.input x state.debugger.position
@@ -41,6 +47,9 @@ prompt_answer state (Why x) = why_said state x
 prompt_answer state (History x rows) = history_said state x rows
 prompt_answer state (Display q) = display_said state q
 prompt_answer state Undisplay = undisplay_said state
+prompt_answer state (UndisplayOne q) = undisplay_one_said state q
+prompt_answer state (Missing m) = missing_text m
+prompt_answer state (Unread word numbered) = unread_text word numbered
 prompt_answer state (Names name) = names_said state.model name
 prompt_answer state Warnings = warnings_said state.input.program state.model
 prompt_answer state (Help word) = help_said word
@@ -53,6 +62,7 @@ prompt_state_after state (BreakSection name) = on_section_next state Break name
 prompt_state_after state (ClearSection name) = on_section_next state Clear name
 prompt_state_after state (Display q) = display_next state q
 prompt_state_after state Undisplay = undisplay_next state
+prompt_state_after state (UndisplayOne q) = undisplay_one_next state q
 prompt_state_after state _ = state
 
 -- whether a command ends the dialogue: QUIT alone
@@ -76,14 +86,18 @@ IsRefused state _ after = after ≡ state
 abbrev pub refusal_text : PromptState → List ℕ
 refusal_text state = refusal_at state.input state.debugger.position
 
+-- what a line says, by the names of the program
+abbrev pub command_in : PromptState → List ℕ → PromptCommand
+command_in state line = prompt_command_of state.input.program line
+
 -- a dialogue with the debugger
 abbrev pub prompt_meaning : Meaning
 prompt_meaning = record {
   State = PromptState;
   position = λ s. s.debugger.position;
-  said = λ s line. prompt_answer s (prompt_command_of line);
-  next = λ s line. prompt_state_after s (prompt_command_of line);
-  ends = λ line. is_quit (prompt_command_of line);
+  said = λ s line. prompt_answer s (command_in s line);
+  next = λ s line. prompt_state_after s (command_in s line);
+  ends = λ line. is_plain_quit (plain_command_of line);
   refusal = refusal_text;
-  MayBeLeft = λ s line after. IsRefused s (prompt_command_of line) after;
+  MayBeLeft = λ s line after. IsRefused s (command_in s line) after;
 }

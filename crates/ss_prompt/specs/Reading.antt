@@ -1,25 +1,35 @@
 -- What a line of the prompt says.
-use Rattle.std.specs.Prelude.{ℕ, List, [], ◌∷◌, length, map, Option, Some, None, if◌then◌else◌, nat_lt, codes}
+use Rattle.std.specs.Prelude.{ℕ, ℤ, List, [], ◌∷◌, length, map, Option, Some, None, if◌then◌else◌, nat_lt, codes}
+use Rattle.std.specs.Prelude.{nat_eq, nat_le, is_some, Result, Ok, Err}
 use Rattle.std.specs.Char.{to_ascii_uppercase}
 use Rattle.std.specs.Str.{bytes_eq}
 use Rattle.ss_console.specs.declared.lines.TheConstants.{LONGEST_LINE}
 use Rattle.ss_debug.specs.CommandLines.{command_words}
 use Rattle.ss_debug.specs.Command.{command_of}
 use Rattle.ss_debug.specs.declared.commands.Command.{Command}
-use Rattle.ss_debug.specs.declared.commands.Command.TheVariants.{Bad, Move, Break}
+use Rattle.ss_debug.specs.declared.commands.Command.TheVariants.{Bad, Move, Break, Show}
+use Rattle.ss_debug.specs.declared.commands.Question.TheVariants.{Entity, Set}
+use Rattle.ss_debug.specs.Entities.{class_named, set_named}
 use Rattle.ss_debug.specs.declared.commands.Movement.TheVariants.{Step, RunTo}
 use Rattle.ss_trace.specs.declared.movement.Movement.TheVariants.{Over, Out, BackOver, BackOut, BackTo, Go, GoEnd}
 use Rattle.ss_trace.specs.declared.movement.Movement.TheVariants.{RunChange, BackChange}
 use Rattle.ss_trace.specs.declared.question.Question.{Question as AskedQuestion}
-use Rattle.ss_prompt.specs.Words.{command_behind, only_name_of}
-use Rattle.ss_prompt.specs.Asked.{own_asked, asked_of}
-use Rattle.ss_prompt.specs.Histories.{history_wanted}
+use Rattle.ss_program.specs.Program.{ProgramTable}
+use Rattle.ss_prompt.specs.declared.histories.TheConstants.{ROWS_UNLESS_SAID}
+use Rattle.ss_prompt.specs.declared.missing.Missing.{Missing as Unknown}
+use Rattle.ss_prompt.specs.declared.sight.Sight.TheVariants.{Living}
+use Rattle.ss_prompt.specs.Missing.{asked_of_program, bare_asked, is_declared}
+use Rattle.ss_prompt.specs.Advice.{verb_of, has_number}
+use Rattle.ss_prompt.specs.Places.{next_line}
+use Rattle.ss_prompt.specs.Words.{command_or_bad, command_behind, only_name_of}
+use Rattle.ss_prompt.specs.Asked.{own_asked, asked_in}
+use Rattle.ss_prompt.specs.Histories.{with_rows}
 use Rattle.ss_prompt.specs.Sights.{sight_of}
-use Rattle.ss_prompt.specs.Cuts.{whole_line}
+use Rattle.ss_prompt.specs.Cuts.{whole_line, first_whole_line}
 use Rattle.ss_prompt.specs.declared.commands.PromptCommand.{PromptCommand}
 use Rattle.ss_prompt.specs.declared.commands.PromptCommand.TheVariants.{Plain, Travel, Lines, SectionLines}
 use Rattle.ss_prompt.specs.declared.commands.PromptCommand.TheVariants.{BreakSection, ClearSection, Breaks}
-use Rattle.ss_prompt.specs.declared.commands.PromptCommand.TheVariants.{Changed}
+use Rattle.ss_prompt.specs.declared.commands.PromptCommand.TheVariants.{Changed, Missing, NoPlace, LinesBetween, UndisplayOne, Unread}
 use Rattle.ss_prompt.specs.declared.commands.PromptCommand.TheVariants.{Ask, See, Why, History, Display, Undisplay}
 use Rattle.ss_prompt.specs.declared.commands.PromptCommand.TheVariants.{Names, Warnings, Help}
 
@@ -64,20 +74,42 @@ go_command (word ∷ rest) =
     if bytes_eq word (codes "END") then alone (Travel GoEnd) rest
     else go_of (command_behind (codes "RUN TO") (word ∷ rest))
 
+-- a command on a question as a program has its names, or which of them it hasn't
+abbrev pub asked_command : (AskedQuestion → PromptCommand) → Result AskedQuestion Unknown → PromptCommand
+asked_command make (Ok x) = make x
+asked_command make (Err m) = Missing m
+
+-- the same of some words, if they ask something
+abbrev pub question_command : ProgramTable → (AskedQuestion → PromptCommand) → List (List ℕ) → PromptCommand
+question_command program make words = made_or_bad (asked_command make) (asked_in program words)
+
 -- what stands behind BACK
-abbrev pub back_command : List (List ℕ) → PromptCommand
-back_command [] = bad
-back_command (word ∷ rest) =
+abbrev pub back_command : ProgramTable → List (List ℕ) → PromptCommand
+back_command program [] = bad
+back_command program (word ∷ rest) =
     if bytes_eq word (codes "OVER") then back_over_of (command_behind (codes "STEP") rest) else
     if bytes_eq word (codes "OUT") then alone (Travel BackOut) rest else
     if bytes_eq word (codes "TO") then back_to_of (command_behind (codes "RUN TO") rest) else
-    if bytes_eq word (codes "CHANGE") then made_or_bad (λ x. Travel (BackChange x)) (asked_of rest) else bad
+    if bytes_eq word (codes "CHANGE") then question_command program (λ x. Travel (BackChange x)) rest else bad
 
 -- what stands behind RUN
-abbrev pub run_command : List (List ℕ) → PromptCommand
-run_command [] = bad
-run_command (word ∷ rest) =
-    if bytes_eq word (codes "CHANGE") then made_or_bad (λ x. Travel (RunChange x)) (asked_of rest) else bad
+abbrev pub run_command : ProgramTable → List (List ℕ) → PromptCommand
+run_command program [] = bad
+run_command program (word ∷ rest) =
+    if bytes_eq word (codes "CHANGE") then question_command program (λ x. Travel (RunChange x)) rest else bad
+
+-- HISTORY: the longest question whose names the program has counts; else what the longest one misses is told
+abbrev pub history_by : Option (Result AskedQuestion Unknown) → Option (Result AskedQuestion Unknown × ℕ) →
+    PromptCommand
+history_by (Some (Ok x)) other = History x ROWS_UNLESS_SAID
+history_by longest (Some (Ok x, rows)) = History x rows
+history_by (Some (Err m)) other = Missing m
+history_by None (Some (Err m, rows)) = Missing m
+history_by None None = bad
+
+-- what stands behind HISTORY: a question, and perhaps a number of rows
+unfoldable pub history_command : ProgramTable → List (List ℕ) → PromptCommand
+history_command program words = history_by (asked_in program words) (with_rows program words)
 
 -- what stands behind SHOW that is no question: CHANGED, or what else is seen
 abbrev pub sight_command : List (List ℕ) → PromptCommand
@@ -85,68 +117,131 @@ sight_command [] = bad
 sight_command (word ∷ rest) =
     if bytes_eq word (codes "CHANGED") then alone Changed rest else made_or_bad See (sight_of (word ∷ rest))
 
+-- a bare name: the entities of a class, or else a set or a variable
+abbrev pub bare_command : ProgramTable → List ℕ → PromptCommand
+bare_command program name =
+    if is_some (class_named program name) then See (Living name) else
+    if is_declared program name then Ask (bare_asked program name) else See (Living name)
+
+-- what is seen, where a bare name is what it is declared as
+abbrev pub seen_command : ProgramTable → PromptCommand → PromptCommand
+seen_command program (See (Living name)) = bare_command program name
+seen_command program command = command
+
 -- what stands behind SHOW: a question, or what else is seen
-abbrev pub show_command : Option AskedQuestion → List (List ℕ) → PromptCommand
-show_command (Some x) words = Ask x
-show_command None words = sight_command words
+abbrev pub show_command : ProgramTable → Option AskedQuestion → List (List ℕ) → PromptCommand
+show_command program (Some x) words = asked_command Ask (asked_of_program program x)
+show_command program None words = seen_command program (sight_command words)
 
 -- LIST: a line as BREAK takes it, or the name of a section
 abbrev pub lines_of : Command → Option (List ℕ) → PromptCommand
 lines_of (Break line) name = Lines (Some line)
 lines_of _ name = made_or_bad SectionLines name
 
+-- the lines from one to another, each as BREAK takes it
+abbrev pub lines_between : Command → Command → PromptCommand
+lines_between (Break from) (Break to) = if nat_le from to then LinesBetween from to else bad
+lines_between _ _ = bad
+
 -- what stands behind LIST
 abbrev pub list_command : List (List ℕ) → PromptCommand
 list_command [] = Lines None
-list_command (word ∷ rest) = lines_of (command_behind (codes "BREAK") (word ∷ rest)) (only_name_of (word ∷ rest))
+list_command (word ∷ []) = lines_of (command_behind (codes "BREAK") (word ∷ [])) (only_name_of (word ∷ []))
+list_command (word ∷ next ∷ rest) =
+    lines_between (command_behind (codes "BREAK") (word ∷ [])) (command_behind (codes "BREAK") (next ∷ rest))
 
 -- what stands behind NAMES
 abbrev pub names_command : List (List ℕ) → PromptCommand
 names_command [] = Names None
 names_command (word ∷ rest) = made_or_bad (λ name. Names (Some name)) (only_name_of (word ∷ rest))
 
--- what stands behind HELP
+-- what stands behind HELP: the first word counts
 abbrev pub help_command : List (List ℕ) → PromptCommand
 help_command [] = Help None
-help_command (word ∷ rest) = made_or_bad (λ name. Help (Some name)) (only_name_of (word ∷ rest))
+help_command (word ∷ rest) = made_or_bad (λ name. Help (Some name)) (only_name_of (word ∷ []))
+
+-- what stands behind UNDISPLAY: nothing, or a question
+abbrev pub undisplay_command : ProgramTable → List (List ℕ) → PromptCommand
+undisplay_command program [] = Undisplay
+undisplay_command program (word ∷ rest) = question_command program UndisplayOne (word ∷ rest)
 
 -- what the words of a line say that is none of docs/DEBUGGER.md
-unfoldable pub own_in_words : List (List ℕ) → PromptCommand
-own_in_words [] = bad
-own_in_words (verb ∷ rest) =
+unfoldable pub own_in_words : ProgramTable → List (List ℕ) → PromptCommand
+own_in_words program [] = bad
+own_in_words program (verb ∷ rest) =
     if bytes_eq verb (codes "OVER") then over_of (command_behind (codes "STEP") rest) else
     if bytes_eq verb (codes "OUT") then alone (Travel Out) rest else
-    if bytes_eq verb (codes "BACK") then back_command rest else
-    if bytes_eq verb (codes "RUN") then run_command rest else
-    if bytes_eq verb (codes "SHOW") then show_command (own_asked rest) rest else
-    if bytes_eq verb (codes "WHY") then made_or_bad Why (asked_of rest) else
-    if bytes_eq verb (codes "HISTORY") then made_or_bad (λ w. History w.0 w.1) (history_wanted rest) else
+    if bytes_eq verb (codes "BACK") then back_command program rest else
+    if bytes_eq verb (codes "RUN") then run_command program rest else
+    if bytes_eq verb (codes "SHOW") then show_command program (own_asked rest) rest else
+    if bytes_eq verb (codes "WHY") then question_command program Why rest else
+    if bytes_eq verb (codes "HISTORY") then history_command program rest else
     if bytes_eq verb (codes "GO") then go_command rest else
     if bytes_eq verb (codes "LIST") then list_command rest else
     if bytes_eq verb (codes "BREAK") then made_or_bad BreakSection (only_name_of rest) else
     if bytes_eq verb (codes "CLEAR") then made_or_bad ClearSection (only_name_of rest) else
     if bytes_eq verb (codes "BREAKS") then alone Breaks rest else
-    if bytes_eq verb (codes "DISPLAY") then made_or_bad Display (asked_of rest) else
-    if bytes_eq verb (codes "UNDISPLAY") then alone Undisplay rest else
+    if bytes_eq verb (codes "DISPLAY") then question_command program Display rest else
+    if bytes_eq verb (codes "UNDISPLAY") then undisplay_command program rest else
     if bytes_eq verb (codes "NAMES") then names_command rest else
     if bytes_eq verb (codes "WARNINGS") then alone Warnings rest else
     if bytes_eq verb (codes "HELP") then help_command rest else bad
 
--- what is a command of docs/DEBUGGER.md stays it; else another is tried
-abbrev pub or_own : Command → PromptCommand → PromptCommand
-or_own Bad own = own
-or_own command own = Plain command
+-- BREAK of a line with a place, or the next one that has one
+abbrev pub break_command : ℕ → Option ℕ → PromptCommand
+break_command line None = NoPlace line None
+break_command line (Some next) = if nat_eq next line then Plain (Break line) else NoPlace line (Some next)
+
+-- c k, where c may be a set
+abbrev pub entity_command : ProgramTable → List ℕ → ℤ → PromptCommand
+entity_command program name x =
+    if is_some (class_named program name) then Plain (Show (Entity name x)) else
+    if is_some (set_named program name) then Plain (Show (Set name (Some x))) else Plain (Show (Entity name x))
+
+-- a command of docs/DEBUGGER.md as it is meant at the prompt, where BREAK wants a line with a place, and a set may
+-- stand in the place of a class
+unfoldable pub plain_meant : ProgramTable → Command → PromptCommand
+plain_meant program (Break line) = break_command line (next_line program line)
+plain_meant program (Show (Entity name x)) = entity_command program name x
+plain_meant program command = Plain command
+
+-- what is a command of docs/DEBUGGER.md stays one; else another is tried
+abbrev pub or_own : ProgramTable → Command → PromptCommand → PromptCommand
+or_own program Bad own = own
+or_own program command own = plain_meant program command
+
+-- a command, or what is to be told of words that are none
+abbrev pub advised : List (List ℕ) → PromptCommand → PromptCommand
+advised words (Plain Bad) = Unread (verb_of words) (has_number words)
+advised words command = command
 
 -- what a line says whose words are whole, if it is not too long
-abbrev pub own_of_whole : Option (List ℕ) → PromptCommand
-own_of_whole None = bad
-own_of_whole (Some line) = or_own (command_of line) (own_in_words (command_words line))
+abbrev pub own_of_whole : ProgramTable → Option (List ℕ) → PromptCommand
+own_of_whole program None = bad
+own_of_whole program (Some line) =
+    or_own program (command_of line) (advised (command_words line) (own_in_words program (command_words line)))
 
 -- what a line in upper case says that is none of docs/DEBUGGER.md as it stands: its words are made whole
-unfoldable pub own_command_of : List ℕ → PromptCommand
-own_command_of line =
-    if nat_lt LONGEST_LINE (length line) then bad else own_of_whole (whole_line (map to_ascii_uppercase line))
+unfoldable pub own_command_of : ProgramTable → List ℕ → PromptCommand
+own_command_of program line =
+    if nat_lt LONGEST_LINE (length line) then bad
+    else own_of_whole program (whole_line program (map to_ascii_uppercase line))
 
--- what a line says
-unfoldable pub prompt_command_of : List ℕ → PromptCommand
-prompt_command_of line = or_own (command_of line) (own_command_of line)
+-- a command of docs/DEBUGGER.md, or else another
+abbrev pub or_else : Command → Command → Command
+or_else Bad other = other
+or_else command other = command
+
+-- what a line says in docs/DEBUGGER.md with its first word made whole
+unfoldable pub first_whole_command_of : List ℕ → Command
+first_whole_command_of line =
+    if nat_lt LONGEST_LINE (length line) then Bad
+    else command_or_bad (first_whole_line (map to_ascii_uppercase line))
+
+-- what a line says in docs/DEBUGGER.md as it stands, or else with its first word made whole
+unfoldable pub plain_command_of : List ℕ → Command
+plain_command_of line = or_else (command_of line) (first_whole_command_of line)
+
+-- what a line says about a program
+unfoldable pub prompt_command_of : ProgramTable → List ℕ → PromptCommand
+prompt_command_of program line = or_own program (plain_command_of line) (own_command_of program line)

@@ -2,10 +2,13 @@
 ghost use Rattle.std.specs.Prelude.{◌≡◌};
 ghost use Rattle.ss_debug.specs.CommandLines.{command_words};
 ghost use Rattle.ss_prompt.specs.Asked.{attribute_asked, count_asked, own_asked, asked_of};
+ghost use Rattle.ss_prompt.specs.Asked.{asked_or_bare, asked_in};
 
 use crate::line::{command_behind, command_of_two, only_name};
+use crate::missing::{Missing, asked_of_program, bare};
 use crate::pieces::next_word;
 use ss_debug::{Command, Question as PlainQuestion};
+use ss_program::Program;
 use ss_trace::Question;
 
 /// `c k a`: an entity as SHOW takes it, and the name of an attribute.
@@ -52,4 +55,23 @@ pub(crate) fn asked(words: &[u8]) -> Option<Question>
         Command::Show(question) => Some(Question::Shown(question)),
         _ => own_asked(words),
     }
+}
+
+/// What the words of a line ask, a bare name too.
+fn asked_or_bare(program: &Program, words: &[u8]) -> Option<Question>
+    ensures { result ≡ asked_or_bare program.now (command_words words.now) }
+{
+    if let Some(question) = asked(words) {
+        return Some(question);
+    }
+    let name = only_name(words)?;
+    Some(bare(program, name))
+}
+
+/// The same as a program has its names, or which of them it hasn't.
+pub(crate) fn asked_in(program: &Program, words: &[u8]) -> Option<Result<Question, Missing>>
+    ensures { result ≡ asked_in program.now (command_words words.now) }
+{
+    let question = asked_or_bare(program, words)?;
+    Some(asked_of_program(program, question))
 }

@@ -2,6 +2,7 @@
 ghost use Rattle.std.specs.Prelude.{◌≡◌};
 ghost use Rattle.ss_prompt.specs.Sections.{line_of_section, taken_line};
 
+use crate::missing::Missing;
 use crate::sections::line_of_section;
 use crate::sight::Sight;
 use ss_debug::{Command, GREATEST_LINE, Name};
@@ -17,10 +18,14 @@ pub enum PromptCommand {
     Travel(Movement),
     /// LIST: the lines about this one, or about the present one.
     Lines(Option<u32>),
+    /// LIST l m: the lines from one to another.
+    LinesBetween(u32, u32),
     /// LIST r: the lines of the section of this name.
     SectionLines(Name),
     /// BREAK r: makes the line of the first place of the section of this name a break line.
     BreakSection(Name),
+    /// BREAK of a line without a place, and the next line that has one.
+    NoPlace(u32, Option<usize>),
     /// CLEAR r: that line is no break line any more.
     ClearSection(Name),
     /// BREAKS: the break lines.
@@ -39,6 +44,12 @@ pub enum PromptCommand {
     Display(Question),
     /// UNDISPLAY: no question is answered at stops any more.
     Undisplay,
+    /// UNDISPLAY x: this question is not answered at stops any more.
+    UndisplayOne(Question),
+    /// No command, with this first word, and with a number among its words or none.
+    Unread(Option<Name>, bool),
+    /// A question of a name that the model hasn't.
+    Missing(Missing),
     /// NAMES: the names of the model, or what is told of this one.
     Names(Option<Name>),
     /// WARNINGS: what the model is warned of.

@@ -1,12 +1,15 @@
 //! Words that are cut, made whole.
-ghost use Rattle.std.specs.Prelude.{◌≡◌, ◌∷◌, [], MatchOption};
+ghost use Rattle.std.specs.Prelude.{◌≡◌, ◌<◌, ◌∷◌, [], length, IfSome, MatchOption};
 ghost use Rattle.std.specs.List.{filter};
 ghost use Rattle.ss_debug.specs.CommandLines.{command_words};
 ghost use Rattle.ss_prompt.specs.Cuts.{begins, whole, words_at, behind, behind_first, behind_movement};
-ghost use Rattle.ss_prompt.specs.Cuts.{is_asked, begins_with_digit, made_whole, whole_line};
+ghost use Rattle.ss_prompt.specs.Cuts.{is_asked, made_whole, whole_line, first_whole_line};
+ghost use Rattle.ss_prompt.specs.Cuts.{word_of_letter, spelled};
 
 use crate::line::Line;
+use crate::missing::is_declared;
 use crate::pieces::next_word;
+use ss_program::Program;
 
 /// The fewest letters of a word that is cut.
 const FEWEST_LETTERS: usize = 3;
@@ -113,10 +116,11 @@ fn begins(word: &[u8], other: &[u8]) -> bool
 
 /// The first word of a table that a word begins, and what stands behind it.
 #[tactic(auto, using(crate::proofs::Filters::kept_first, crate::proofs::Filters::passed_first))]
-fn first_begun<'a>(table: &'a [u8], word: &[u8]) -> Option<(&'a [u8], &'a [u8])>
-    ensures { MatchOption result (filter (begins word.now) (command_words table.now) ≡ [])
+pub(crate) fn first_begun<'a>(table: &'a [u8], word: &[u8]) -> Option<(&'a [u8], &'a [u8])>
+    ensures words { MatchOption result (filter (begins word.now) (command_words table.now) ≡ [])
         (λ r. filter (begins word.now) (command_words table.now)
         ≡ r.0.now ∷ filter (begins word.now) (command_words r.1.now)) }
+    ensures less { IfSome result (λ r. length r.1.now < length table.now) }
 {
     let mut rest = table;
     while let Some((other, more)) = next_word(rest) {
@@ -146,39 +150,75 @@ fn whole<'a>(table: &'a [u8], word: &'a [u8]) -> &'a [u8]
     other
 }
 
-/// Whether the first word of a line begins with a digit.
-fn begins_with_digit(line: &[u8]) -> bool
-    ensures { result ≡ begins_with_digit (command_words line.now) }
+/// The word for which a letter stands that begins a line; another word as it is.
+fn word_of_letter(word: &[u8]) -> &[u8]
+    ensures { result.now ≡ word_of_letter word.now }
 {
-    match next_word(line) {
-        None => false,
-        Some((word, _)) => word[0].is_ascii_digit(),
+    if word == b"S".as_slice() {
+        return b"STEP";
+    }
+    if word == b"N".as_slice() {
+        return b"NEXT";
+    }
+    if word == b"C".as_slice() {
+        return b"RUN";
+    }
+    if word == b"B".as_slice() {
+        return b"BREAK";
+    }
+    if word == b"Q".as_slice() {
+        return b"QUIT";
+    }
+    word
+}
+
+/// A word with its letter spelled, where it begins a line.
+fn spelled(at: Standing, word: &[u8]) -> &[u8]
+    ensures { result.now ≡ spelled at word.now }
+{
+    match at {
+        Standing::First => word_of_letter(word),
+        _ => word,
     }
 }
 
-/// A word made whole by where it stands; a class in front of a number is none.
-fn made_whole<'a>(at: Standing, word: &'a [u8], more: &[u8]) -> &'a [u8]
-    ensures { result.now ≡ made_whole at word.now (command_words more.now) }
+/// A word made whole by where it stands: one letter or more of it; where a question may stand, a
+/// name of the program stays what it is.
+fn made_whole<'a>(program: &Program, at: Standing, word: &'a [u8]) -> &'a [u8]
+    ensures { result.now ≡ made_whole program.now at word.now }
 {
-    if at.is_asked() && begins_with_digit(more) {
+    if at.is_asked() && is_declared(program, word) {
         return word;
     }
-    whole(at.words(), word)
+    whole(at.words(), spelled(at, word))
 }
 
 /// A line whose words are made whole, if it is no longer than a line may be.
 #[tactic(auto, using(crate::proofs::Lines::whole_words))]
-pub(crate) fn whole_line(line: &[u8]) -> Option<Line>
-    ensures { result ≡ whole_line line.now }
+pub(crate) fn whole_line(program: &Program, line: &[u8]) -> Option<Line>
+    ensures { result ≡ whole_line program.now line.now }
 {
     let mut made = Line::new(b"")?;
     let mut at = Standing::First;
     let mut rest = line;
     while let Some((word, more)) = next_word(rest) {
-        let it = made_whole(at, word, more);
+        let it = made_whole(program, at, word);
         made = made.with_word(it)?;
         at = at.behind(it);
         rest = more;
     }
     Some(made)
+}
+
+/// A line whose first word is made whole, if it is no longer than a line may be.
+#[tactic(auto, using(crate::proofs::Lines::too_long))]
+pub(crate) fn first_whole_line(line: &[u8]) -> Option<Line>
+    ensures { result ≡ first_whole_line line.now }
+{
+    let made = Line::new(b"")?;
+    let Some((word, more)) = next_word(line) else {
+        return Some(made);
+    };
+    let made = made.with_word(whole(FIRST_WORDS, word_of_letter(word)))?;
+    made.with_words(more)
 }

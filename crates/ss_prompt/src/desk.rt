@@ -14,15 +14,19 @@ ghost use Rattle.ss_prompt.specs.Sights.{sight_said};
 ghost use Rattle.ss_prompt.specs.Histories.{why_said, history_said, HasLookedBack};
 ghost use Rattle.ss_prompt.specs.Names.{warnings_told};
 ghost use Rattle.ss_prompt.specs.Displays.{displays_with, display_text, cleared_text};
+ghost use Rattle.ss_prompt.specs.Displays.{displays_without, undisplay_text};
 ghost use Rattle.ss_prompt.specs.Prompting.{prompt_answer, prompt_state_after, IsRefused, is_quit};
 
 mod model;
 mod past;
 
+use crate::advice::push_unread;
 use crate::commands::PromptCommand;
-use crate::displays::{display, push_answers, undisplay};
+use crate::displays::{display, push_answers, undisplay, undisplay_one};
 use crate::help::push_help;
+use crate::missing::push_missing;
 use crate::names::push_all_warnings;
+use crate::places::push_no_place;
 use crate::sections::present_line;
 use crate::seeing::push_sight;
 use crate::sight::Sight;
@@ -353,6 +357,18 @@ impl<'a> PromptDesk<'a> {
         undisplay(&mut self.displays, answer)
     }
 
+    /// UNDISPLAY of a question.
+    fn undisplay_one(&mut self, question: Question, answer: &mut Vec<u8>) -> Result<(), AllocError>
+        ensures place { OnOk result (self.new
+            ≡ with_questions self.old
+            (displays_without self.old.displays (question_text question))) }
+        ensures said { OnOk result (answer.new.items
+            ≡ answer.old.items ++ undisplay_text self.old.displays (question_text question)) }
+        ensures memory { OnErr result (self.new ≡ self.old) }
+    {
+        undisplay_one(self.alloc, &mut self.displays, &question, answer)
+    }
+
     /// Does what a command says, and appends its whole answer.
     #[tactic(auto, unfolding(crate::proofs::Unfoldings::commands))]
     fn follow<S: SetBoard>(
@@ -374,8 +390,10 @@ impl<'a> PromptDesk<'a> {
             PromptCommand::Plain(command) => return self.obey_plain(debugger, command, answer),
             PromptCommand::Travel(movement) => self.travel(debugger, movement, answer),
             PromptCommand::Lines(line) => self.list(debugger, line, answer),
+            PromptCommand::LinesBetween(from, to) => self.list_between(debugger, from, to, answer),
             PromptCommand::SectionLines(name) => self.list_section(debugger, &name, answer),
             PromptCommand::BreakSection(name) => self.break_section(debugger, &name, answer),
+            PromptCommand::NoPlace(line, next) => push_no_place(answer, line, next),
             PromptCommand::ClearSection(name) => self.clear_section(debugger, &name, answer),
             PromptCommand::Breaks => self.breaks(debugger, answer),
             PromptCommand::Ask(question) => push_answer(debugger, &question, answer),
@@ -387,6 +405,9 @@ impl<'a> PromptDesk<'a> {
             }
             PromptCommand::Display(question) => self.display(question, answer),
             PromptCommand::Undisplay => self.undisplay(answer),
+            PromptCommand::UndisplayOne(question) => self.undisplay_one(question, answer),
+            PromptCommand::Missing(missing) => push_missing(answer, &missing),
+            PromptCommand::Unread(word, is_numbered) => push_unread(answer, word, is_numbered),
             PromptCommand::Names(name) => self.names(name, answer),
             PromptCommand::Warnings => self.warnings(debugger, answer),
             PromptCommand::Help(word) => push_help(answer, word),

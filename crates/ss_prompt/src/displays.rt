@@ -1,10 +1,11 @@
 //! Questions that are answered at each stop.
-ghost use Rattle.std.specs.Prelude.{◌≡◌, ◌++◌, [], OnOk, OnErr, IfOk};
+ghost use Rattle.std.specs.Prelude.{◌≡◌, ◌<◌, ◌++◌, [], length, OnOk, OnErr, IfOk, IfSome};
 ghost use Rattle.ss_machine.specs.Moment.{position};
 ghost use Rattle.ss_trace.specs.Question.{question_text};
 ghost use Rattle.ss_prompt.specs.PromptState.{answers_to};
 ghost use Rattle.ss_prompt.specs.Displays.{is_among, displays_with, display_text, display_set};
-ghost use Rattle.ss_prompt.specs.Displays.{cleared_text};
+ghost use Rattle.ss_prompt.specs.Displays.{cleared_text, place_among, displays_without};
+ghost use Rattle.ss_prompt.specs.Displays.{undisplay_text};
 
 use itoa::Buffer;
 use ss_debug::Debugger;
@@ -87,6 +88,54 @@ pub(crate) fn undisplay(
     answer.extend_from_slice(buffer.format(displays.len()).as_bytes())?;
     answer.extend_from_slice(b"\n")?;
     displays.clear();
+    Ok(())
+}
+
+/// The place among some of a question that is asked so.
+fn place_among(
+    alloc: Global,
+    displays: &[Question],
+    text: &[u8],
+) -> Result<Option<usize>, AllocError>
+    ensures place { IfOk result (λ place. place ≡ place_among displays.now text.now) }
+    ensures within { IfOk result (λ place. IfSome place (λ i. i < length displays.now)) }
+{
+    let Some((first, behind)) = displays.split_first() else {
+        return Ok(None);
+    };
+    let other = asked_text(alloc, first)?;
+    if other.as_slice() == text {
+        return Ok(Some(0));
+    }
+    match place_among(alloc, behind, text)? {
+        None => Ok(None),
+        Some(place) => Ok(Some(place + 1)),
+    }
+}
+
+/// Answers a question at stops no more, and says so, or that it was not answered there.
+pub(crate) fn undisplay_one(
+    alloc: Global,
+    displays: &mut Vec<Question>,
+    question: &Question,
+    answer: &mut Vec<u8>,
+) -> Result<(), AllocError>
+    ensures displays { OnOk result (displays.new.items
+        ≡ displays_without displays.old.items (question_text question.now)) }
+    ensures said { OnOk result (answer.new.items
+        ≡ answer.old.items ++ undisplay_text displays.old.items (question_text question.now)) }
+    ensures memory { OnErr result (displays.new.items ≡ displays.old.items) }
+{
+    let text = asked_text(alloc, question)?;
+    let Some(place) = place_among(alloc, displays, &text)? else {
+        answer.extend_from_slice(b"NO DISPLAY ")?;
+        answer.extend_from_slice(&text)?;
+        return answer.extend_from_slice(b"\n");
+    };
+    answer.extend_from_slice(b"DISPLAY ")?;
+    answer.extend_from_slice(&text)?;
+    answer.extend_from_slice(b" CLEARED\n")?;
+    displays.remove(place);
     Ok(())
 }
 

@@ -1,13 +1,13 @@
 //! HELP: the wording is in the table; the definitions read it too (specs/Help.antt).
 ghost use Rattle.std.specs.Prelude.{◌≡◌, ◌++◌, ◌∷◌, [], codes, map, OnOk};
-ghost use Rattle.ss_prompt.specs.Help.{all_rows, rows_of, help_rows, help_or_none, help_said};
+ghost use Rattle.ss_prompt.specs.Help.{all_rows, rows_of, has_row, help_rows, help_or_none, help_said};
 
 use ss_debug::Name;
 use std::alloc::AllocError;
 
 /// A row for each form of a command: the word that it begins with; how it is written, and what it
 /// does.
-pub const HELP_ROWS: [(&[u8], &[u8]); 54] = [
+pub const HELP_ROWS: [(&[u8], &[u8]); 57] = [
     (b"STEP", b"STEP [n]: n steps forward, 1 if not said"),
     (
         b"RUN",
@@ -51,10 +51,11 @@ pub const HELP_ROWS: [(&[u8], &[u8]); 54] = [
         b"LIST",
         b"LIST [l]: the lines about line l, or about the present one",
     ),
+    (b"LIST", b"LIST l m: the lines from l to m"),
     (b"LIST", b"LIST r: the lines of section r"),
     (b"SHOW", b"SHOW CLOCK: the time"),
     (b"SHOW", b"SHOW WHERE: the state line"),
-    (b"SHOW", b"SHOW VAR v: variable v"),
+    (b"SHOW", b"SHOW VAR v, SHOW v: variable v"),
     (b"SHOW", b"SHOW c k: entity k of class c"),
     (b"SHOW", b"SHOW c k a: attribute a of it"),
     (b"SHOW", b"SHOW c: the entities of class c"),
@@ -101,6 +102,7 @@ pub const HELP_ROWS: [(&[u8], &[u8]); 54] = [
         b"DISPLAY x: answer x at each stop; x is a question, as in SHOW x",
     ),
     (b"UNDISPLAY", b"UNDISPLAY: answer nothing at stops any more"),
+    (b"UNDISPLAY", b"UNDISPLAY x: answer x at stops no more"),
     (
         b"NAMES",
         b"NAMES: the names of the model, how often each stands, and its first line",
@@ -116,6 +118,7 @@ pub const HELP_ROWS: [(&[u8], &[u8]); 54] = [
         b"HELP [word]: the commands, or those that begin with a word",
     ),
     (b"QUIT", b"QUIT: the end"),
+    (b"HELP", b"S, N, C, B, Q: STEP, NEXT, RUN, BREAK, QUIT"),
 ];
 
 /// Appends a row.
@@ -159,11 +162,38 @@ fn push_rows_of(
     Ok(())
 }
 
+/// Whether some rows have one of this word.
+fn has_row(word: &[u8], mut rows: &'static [(&'static [u8], &'static [u8])]) -> bool
+    ensures { result ≡ has_row word.now (map (λ row. (row.0.now, row.1.now)) rows.entry.now) }
+{
+    while let [row, rest @ ..] = rows {
+        if word == row.0 {
+            return true;
+        }
+        rows = rest;
+    }
+    false
+}
+
 /// The rows of the table.
 fn help_rows() -> &'static [(&'static [u8], &'static [u8])]
     ensures { map (λ row. (row.0.now, row.1.now)) result.now ≡ help_rows }
 {
     &HELP_ROWS
+}
+
+/// Whether the table has a row of this word.
+pub(crate) fn is_helped(word: &[u8]) -> bool
+    ensures { result ≡ has_row word.now help_rows }
+{
+    has_row(word, help_rows())
+}
+
+/// Appends the rows of the table on a word.
+pub(crate) fn push_rows_on(text: &mut Vec<u8>, word: &[u8]) -> Result<(), AllocError>
+    ensures { OnOk result (text.new.items ≡ text.old.items ++ rows_of word.now help_rows) }
+{
+    push_rows_of(text, word, help_rows())
 }
 
 /// Appends that there is no help on a word.

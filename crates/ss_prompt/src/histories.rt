@@ -2,13 +2,14 @@
 ghost use Rattle.std.specs.Prelude.{◌≡◌, [], codes};
 ghost use Rattle.ss_debug.specs.CommandLines.{command_words};
 ghost use Rattle.ss_prompt.specs.Words.{line_behind, command_behind};
-ghost use Rattle.ss_prompt.specs.Histories.{all_but_last, only_last, is_pair, plainly, with_rows};
-ghost use Rattle.ss_prompt.specs.Histories.{history_wanted};
+ghost use Rattle.ss_prompt.specs.Histories.{all_but_last, only_last, with_rows};
 
-use crate::asked::asked;
+use crate::asked::asked_in;
 use crate::line::{Line, command_behind, command_of_word};
+use crate::missing::Missing;
 use crate::pieces::next_word;
 use ss_debug::Command;
+use ss_program::Program;
 use ss_trace::Question;
 
 /// How many rows HISTORY tells where it isn't said.
@@ -50,51 +51,13 @@ fn forget_last(line: &[u8]) -> Command
 }
 
 /// A question and, as its last word, a number of rows.
-fn with_rows(words: &[u8]) -> Option<(Question, u64)>
-    ensures { result ≡ with_rows (command_words words.now) }
+pub(crate) fn with_rows(program: &Program, words: &[u8]) -> Option<(Result<Question, Missing>, u64)>
+    ensures { result ≡ with_rows program.now (command_words words.now) }
 {
     let front = all_but_last(words)?;
-    let question = asked(front.as_slice())?;
+    let question = asked_in(program, front.as_slice())?;
     match forget_last(words) {
         Command::Forget(rows) => Some((question, rows)),
         _ => None,
-    }
-}
-
-/// A question, with as many rows as are told where it isn't said.
-fn plainly(words: &[u8]) -> Option<(Question, u64)>
-    ensures { result ≡ plainly (command_words words.now) }
-{
-    let question = asked(words)?;
-    Some((question, ROWS_UNLESS_SAID))
-}
-
-/// Whether a line has two words.
-fn is_pair(words: &[u8]) -> bool
-    ensures { result ≡ is_pair (command_words words.now) }
-{
-    let Some((_, behind)) = next_word(words) else {
-        return false;
-    };
-    let Some((_, rest)) = next_word(behind) else {
-        return false;
-    };
-    next_word(rest).is_none()
-}
-
-/// What stands behind HISTORY.
-#[tactic(auto, unfolding(crate::specs::Histories::history_wanted))]
-pub(crate) fn history_wanted(words: &[u8]) -> Option<(Question, u64)>
-    ensures { result ≡ history_wanted (command_words words.now) }
-{
-    if is_pair(words) {
-        return match with_rows(words) {
-            Some(wanted) => Some(wanted),
-            None => plainly(words),
-        };
-    }
-    match plainly(words) {
-        Some(wanted) => Some(wanted),
-        None => with_rows(words),
     }
 }

@@ -1,12 +1,16 @@
 //! Laws on the definitions. Each function does nothing, and its contract says the law.
-ghost use Rattle.ss_prompt.specs.Laws.{PlainLinesStay, PlainAnswersComeFirst};
+ghost use Rattle.ss_prompt.specs.Laws.{PlainLinesStay, FewAreMeantOtherwise, PlainAnswersComeFirst};
 ghost use Rattle.ss_prompt.specs.Laws.{PlainLinesAnswerTheBatch, PlainLinesLeadAsTheBatch};
 ghost use Rattle.ss_prompt.specs.Laws.{OthersLeaveTheBreakLines, OthersStandStill};
 ghost use Rattle.ss_prompt.specs.Laws.{LinesAreThoseOfTheBatch, KeptLinesSayTheSame, PlainTextsAnswerTheBatch};
+ghost use Rattle.ss_prompt.specs.Laws.{MissingVariablesAreAnsweredSo, MissingListsAreAnsweredSo};
+ghost use Rattle.ss_prompt.specs.Laws.{MissingClassesAreAnsweredSo, MissingAttributesAreAnsweredSo};
 
-/// A line that is a command of docs/DEBUGGER.md is that command at the prompt.
+/// A line that is a command of docs/DEBUGGER.md is that command at the prompt, but for BREAK of a
+/// line without a place, and for a set in the place of a class.
 pub fn plain_lines_stay()
-    ensures { PlainLinesStay }
+    ensures stay { PlainLinesStay }
+    ensures few { FewAreMeantOtherwise }
 {}
 
 /// Its answer begins with that of docs/DEBUGGER.md, and it leads the debugger to the same state.
@@ -34,4 +38,13 @@ pub fn plain_texts_answer_the_batch()
 pub fn other_commands_leave_the_debugger()
     ensures breaks { OthersLeaveTheBreakLines }
     ensures position { OthersStandStill }
+{}
+
+/// What a question names that a program hasn't is told as SHOW answers it in every state; of an
+/// attribute, where the entity is there.
+pub fn what_is_missing_is_answered_so()
+    ensures variables { MissingVariablesAreAnsweredSo }
+    ensures lists { MissingListsAreAnsweredSo }
+    ensures classes { MissingClassesAreAnsweredSo }
+    ensures attributes { MissingAttributesAreAnsweredSo }
 {}

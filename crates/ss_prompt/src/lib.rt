@@ -1,6 +1,8 @@
 //! The prompt: the lines of an analyst, each answered by the debugger before the next is read.
 #![tactic(auto)]
 
+mod advice;
+mod arguments;
 mod asked;
 mod break_list;
 mod commands;
@@ -8,14 +10,17 @@ mod completions;
 mod cuts;
 mod desk;
 mod displays;
+mod explained;
 mod help;
 mod histories;
 mod laws;
 mod lent;
 mod line;
 mod listing;
+mod missing;
 mod names;
 mod pieces;
+mod places;
 mod prompt;
 mod read;
 mod refusal;
@@ -27,11 +32,13 @@ mod stops;
 
 pub use commands::PromptCommand;
 pub use completions::push_completions;
+pub use explained::push_check_explanation;
 pub use laws::{
     other_commands_leave_the_debugger, plain_answers_come_first, plain_lines_answer_the_batch,
-    plain_lines_stay, plain_texts_answer_the_batch,
+    plain_lines_stay, plain_texts_answer_the_batch, what_is_missing_is_answered_so,
 };
 pub use lent::answer_command;
+pub use missing::{Missing, asked_of_program, push_missing};
 pub use prompt::Prompt;
 pub use read::prompt_command;
 pub use sight::Sight;

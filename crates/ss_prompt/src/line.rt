@@ -1,5 +1,5 @@
 //! Lines that are made of words, and what they say to the debugger.
-ghost use Rattle.std.specs.Prelude.{◌≡◌, ◌<◌, ◌≤◌, ◌∷◌, [], length, codes, None, Some};
+ghost use Rattle.std.specs.Prelude.{◌≡◌, ◌<◌, ◌≤◌, ◌∷◌, [], length, fold, codes, None, Some};
 ghost use Rattle.ss_console.specs.declared.lines.TheConstants.{LONGEST_LINE};
 ghost use Rattle.ss_debug.specs.CommandLines.{command_words};
 ghost use Rattle.ss_prompt.specs.Words.{with_word, line_behind, command_behind, only_name_of};
@@ -54,6 +54,20 @@ impl Line {
         Some(line)
     }
 
+    /// The line with the words of another behind its own, if it is no longer than a line may be.
+    #[tactic(auto, using(crate::proofs::Lines::too_long))]
+    pub fn with_words(self, rest: &[u8]) -> Option<Line>
+        ensures { result ≡ fold with_word (Some self) (command_words rest.now) }
+    {
+        let mut line = self;
+        let mut left = rest;
+        while let Some((word, more)) = next_word(left) {
+            line = line.with_word(word)?;
+            left = more;
+        }
+        Some(line)
+    }
+
     /// Its bytes.
     pub fn as_slice(&self) -> &[u8]
         ensures { result.now ≡ self.now }
@@ -63,18 +77,12 @@ impl Line {
 }
 
 /// A line of a beginning and the words of another, if it is no longer than a line may be.
-#[tactic(auto, using(crate::proofs::Lines::too_long))]
 fn line_behind(head: &[u8], rest: &[u8]) -> Option<Line>
     requires { length head.now ≤ LONGEST_LINE }
     ensures { result ≡ line_behind head.now (command_words rest.now) }
 {
-    let mut line = Line::new(head)?;
-    let mut left = rest;
-    while let Some((word, more)) = next_word(left) {
-        line = line.with_word(word)?;
-        left = more;
-    }
-    Some(line)
+    let line = Line::new(head)?;
+    line.with_words(rest)
 }
 
 /// What the words of a line say to the debugger behind a beginning.

@@ -1,6 +1,7 @@
 //! Lines of the model are listed.
-ghost use Rattle.std.specs.Prelude.{◌≡◌, ◌+◌, ◌<◌, ◌^◌, ◌++◌, ◌∷◌, [], map, codes, decimal, OnOk};
+ghost use Rattle.std.specs.Prelude.{◌≡◌, ◌+◌, ◌<◌, ◌^◌, ◌++◌, map, OnOk};
 ghost use Rattle.ss_prompt.specs.Listing.{mark_of, listed_lines, listed_to, listed_about};
+ghost use Rattle.ss_prompt.specs.Listing.{no_line_text, listed_between};
 
 use crate::source::push_marked_line;
 use itoa::Buffer;
@@ -52,8 +53,7 @@ pub(crate) fn push_lines_to(
 
 /// Appends that there is no line of this number.
 fn push_no_line(text: &mut Vec<u8>, line: usize) -> Result<(), AllocError>
-    ensures { OnOk result (text.new.items
-        ≡ text.old.items ++ codes "NO LINE " ++ decimal line ++ 10 ∷ []) }
+    ensures { OnOk result (text.new.items ≡ text.old.items ++ no_line_text line) }
 {
     let mut buffer = Buffer::new();
     text.extend_from_slice(b"NO LINE ")?;
@@ -76,4 +76,21 @@ pub(crate) fn push_lines_about(
     }
     let from = line.saturating_sub(LINES_BESIDE).max(1);
     push_lines_to(text, lines, present, from, line + LINES_BESIDE)
+}
+
+/// Appends the lines from one to another that there are, or that the first is none.
+pub(crate) fn push_lines_between(
+    text: &mut Vec<u8>,
+    lines: &[&[u8]],
+    present: usize,
+    from: usize,
+    to: usize,
+) -> Result<(), AllocError>
+    ensures { OnOk result (text.new.items ≡ text.old.items
+        ++ listed_between (map (λ line. line.now) lines.now) present from to) }
+{
+    if lines.len() < from {
+        return push_no_line(text, from);
+    }
+    push_lines_to(text, lines, present, from, to)
 }

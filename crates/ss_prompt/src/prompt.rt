@@ -2,14 +2,17 @@
 ghost use Rattle.std.specs.Prelude.{◌≡◌, ◌++◌, [], map, OnOk};
 ghost use Rattle.ss_state.specs.Run.{run};
 ghost use Rattle.ss_debug.specs.View.{debugger_state_of};
+ghost use Rattle.ss_console.specs.Going.{go_of};
+ghost use Rattle.ss_debug.specs.Turn.{is_quit as is_plain_quit};
+ghost use Rattle.ss_prompt.specs.Reading.{plain_command_of};
 ghost use Rattle.ss_prompt.specs.PromptState.{prompt_state_of, greeting};
 ghost use Rattle.ss_prompt.specs.Prompting.{prompt_meaning};
 
 use crate::desk::PromptDesk;
-use crate::read::prompt_command;
+use crate::read::{plain_command, prompt_command};
 use crate::refusal::put_refusal_at;
 use ss_console::{Answerer, Console, Go, PutFault};
-use ss_debug::Debugger;
+use ss_debug::{Command, Debugger};
 use ss_links::SetBoard;
 use ss_state::Status;
 use std::alloc::{AllocError, Global};
@@ -74,6 +77,16 @@ impl<'a, S: SetBoard> Prompt<'a, S> {
     }
 }
 
+/// Whether the dialogue goes on behind a line: only QUIT ends it.
+fn going(line: &[u8]) -> Go
+    ensures { result ≡ go_of (is_plain_quit (plain_command_of line.now)) }
+{
+    match plain_command(line) {
+        Command::Quit => Go::Quit,
+        _ => Go::On,
+    }
+}
+
 impl<'a, S: SetBoard> Answerer for Prompt<'a, S> {
     ghost meaning = { prompt_meaning };
 
@@ -83,9 +96,11 @@ impl<'a, S: SetBoard> Answerer for Prompt<'a, S> {
         self.debugger.machine().position()
     }
 
+    #[tactic(auto, using(crate::proofs::Quits::quit_is_obeyed))]
     fn answer(&mut self, line: &[u8], answer: &mut Vec<u8>) -> Result<Go, AllocError> {
-        self.desk
-            .obey(&mut self.debugger, prompt_command(line), answer)
+        let command = prompt_command(self.debugger.machine().program(), line);
+        self.desk.obey(&mut self.debugger, command, answer)?;
+        Ok(going(line))
     }
 
     fn put_refusal<C: Console>(&self, console: &mut C) -> Result<(), PutFault> {

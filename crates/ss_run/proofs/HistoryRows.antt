@@ -6,7 +6,8 @@ use Rattle.ss_state.specs.Run.{Input}
 use Rattle.ss_trace.specs.declared.question.Question.{Question}
 use Rattle.ss_trace.specs.Question.{changes_at}
 use Rattle.ss_trace.specs.History.{before_others, positions_where, history}
-use Rattle.ss_run.specs.Trace.{csv_row, step_fields, change_row, step_rows, rows_before}
+use Rattle.ss_run.specs.Rows.{csv_row}
+use Rattle.ss_run.specs.Trace.{step_fields, change_row, step_rows, rows_before}
 use Rattle.ss_run.specs.Laws.{RowsAreTheHistory, oldest_first, rows_at}
 
 -- the row of a step in the history, if it is there, stands behind the others

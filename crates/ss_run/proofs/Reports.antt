@@ -13,6 +13,7 @@ use Rattle.ss_run.specs.Advance.{IsRefusal, MakesRun}
 use Rattle.ss_session.specs.Load.{IsLoadFault}
 use Rattle.ss_session.specs.Model.{accepted, IsOutcome}
 use Rattle.ss_run.specs.Report.{IsRunEnd, SaysEnd, RunEnds, ReportSays}
+use Rattle.ss_run.specs.Results.{Asked}
 use Rattle.ss_run.specs.WholeRun.{TellsEnd, TellsBeside, RunSays}
 use Rattle.ss_session.specs.Texts.{OutletState}
 use Rattle.ss_session.proofs.Pieces.{appends_none}
@@ -22,48 +23,51 @@ unfoldable pub runs_made : ⊤
 unfolding MakesRun RunEnds
 runs_made = tt
 
-refused_end : (end : RunEnd) (whole : WholeRun) (fault : LoadFault) (model data_text : List ℕ) (old : OutletState) →
-    whole.end ≡ end → IsRefusal (Ok whole) model fault → IsLoadFault fault model →
-    ReportSays (Ok end) model data_text old old × TellsBeside end whole model data_text
+refused_end : (end : RunEnd) (whole : WholeRun) (fault : LoadFault) (model data_text : List ℕ) (asked : Asked)
+    (old : OutletState) → whole.end ≡ end → IsRefusal (Ok whole) model fault → IsLoadFault fault model →
+    ReportSays (Ok end) model data_text old old × TellsBeside end whole model data_text asked
 unfolding ReportSays
-refused_end (Refused line) whole (load.Text rule number) model data_text old e r o =
+refused_end (Refused line) whole (load.Text rule number) model data_text asked old e r o =
     let r = rw e at r in
-    ((inl (rule, number, o, r.0), appends_none _, refl), (inl (rule, number, o, r.1), r.2))
-refused_end (Refused line) whole (load.Check rule number) model data_text old e r o =
+    ((inl (rule, number, o, r.0), appends_none _, refl), (inl (rule, number, o, r.1), r.2, r.3))
+refused_end (Refused line) whole (load.Check rule number) model data_text asked old e r o =
     let r = rw e at r in
-    ((inr (rule, number, o, r.0), appends_none _, refl), (inr (rule, number, o, r.1), r.2))
-refused_end (Refused line) whole load.Memory model data_text old e r o = absurd r
-refused_end Done whole (load.Text rule number) model data_text old e r o = absurd (rw e at r)
-refused_end Done whole (load.Check rule number) model data_text old e r o = absurd (rw e at r)
-refused_end Done whole load.Memory model data_text old e r o = absurd r
-refused_end (Faulted line) whole (load.Text rule number) model data_text old e r o = absurd (rw e at r)
-refused_end (Faulted line) whole (load.Check rule number) model data_text old e r o = absurd (rw e at r)
-refused_end (Faulted line) whole load.Memory model data_text old e r o = absurd r
+    ((inr (rule, number, o, r.0), appends_none _, refl), (inr (rule, number, o, r.1), r.2, r.3))
+refused_end (Refused line) whole load.Memory model data_text asked old e r o = absurd r
+refused_end Done whole (load.Text rule number) model data_text asked old e r o = absurd (rw e at r)
+refused_end Done whole (load.Check rule number) model data_text asked old e r o = absurd (rw e at r)
+refused_end Done whole load.Memory model data_text asked old e r o = absurd r
+refused_end (Faulted line) whole (load.Text rule number) model data_text asked old e r o = absurd (rw e at r)
+refused_end (Faulted line) whole (load.Check rule number) model data_text asked old e r o = absurd (rw e at r)
+refused_end (Faulted line) whole load.Memory model data_text asked old e r o = absurd r
 
 -- what is said of a model that was not loaded
-pub refused_says : (result : Result WholeRun RunCut) (fault : LoadFault) (model data_text : List ℕ) (old : OutletState) →
-    IsRefusal result model fault → IsLoadFault fault model → RunSays result model data_text old old
+pub refused_says : (result : Result WholeRun RunCut) (fault : LoadFault) (model data_text : List ℕ) (asked : Asked)
+    (old : OutletState) → IsRefusal result model fault → IsLoadFault fault model →
+    RunSays result model data_text asked old old
 unfolding RunSays ReportSays
-refused_says (Ok whole) fault model data_text old r o = refused_end whole.end whole fault model data_text old refl r o
-refused_says (Err Memory) fault model data_text old r o = (appends_none _, refl)
-refused_says (Err Write) fault model data_text old r o = absurd r
+refused_says (Ok whole) fault model data_text asked old r o =
+    refused_end whole.end whole fault model data_text asked old refl r o
+refused_says (Err Memory) fault model data_text asked old r o = (appends_none _, refl)
+refused_says (Err Write) fault model data_text asked old r o = absurd r
 
-made_end : (end : RunEnd) (whole : WholeRun) (program : ProgramTable) (model data_text : List ℕ)
+made_end : (end : RunEnd) (whole : WholeRun) (program : ProgramTable) (model data_text : List ℕ) (asked : Asked)
     (old new : OutletState) (p : ℕ) → IsOutcome model (accepted program) → IsRunEnd (input_with program data_text) p →
-    SaysEnd (input_with program data_text) p end → TellsEnd whole (input_with program data_text) p →
+    SaysEnd (input_with program data_text) p end → TellsEnd whole (input_with program data_text) asked p →
     RunEnds (Ok end) (input_with program data_text) old new →
-    ReportSays (Ok end) model data_text old new × TellsBeside end whole model data_text
+    ReportSays (Ok end) model data_text old new × TellsBeside end whole model data_text asked
 unfolding ReportSays
-made_end Done whole program model data_text old new p o e s b r = ((program, o, r), (program, o, p, e, b))
-made_end (Faulted line) whole program model data_text old new p o e s b r = ((program, o, r), (program, o, p, e, b))
-made_end (Refused line) whole program model data_text old new p o e s b r = absurd s
+made_end Done whole program model data_text asked old new p o e s b r = ((program, o, r), (program, o, p, e, b))
+made_end (Faulted line) whole program model data_text asked old new p o e s b r =
+    ((program, o, r), (program, o, p, e, b))
+made_end (Refused line) whole program model data_text asked old new p o e s b r = absurd s
 
 -- what is said of a run that was made
-pub run_says : (result : Result WholeRun RunCut) (program : ProgramTable) (model data_text : List ℕ)
+pub run_says : (result : Result WholeRun RunCut) (program : ProgramTable) (model data_text : List ℕ) (asked : Asked)
     (old new : OutletState) → IsOutcome model (accepted program) →
-    MakesRun result (input_with program data_text) old new → RunSays result model data_text old new
+    MakesRun result (input_with program data_text) asked old new → RunSays result model data_text asked old new
 unfolding MakesRun RunEnds ReportSays RunSays
-run_says (Ok whole) program model data_text old new o r =
-    made_end whole.end whole program model data_text old new r.0 o r.1 r.2 r.3 (r.0, r.1, r.2, r.4, r.5)
-run_says (Err Memory) program model data_text old new o r = r
-run_says (Err Write) program model data_text old new o r = (program, o, r)
+run_says (Ok whole) program model data_text asked old new o r =
+    made_end whole.end whole program model data_text asked old new r.0 o r.1 r.2 r.3 (r.0, r.1, r.2, r.4, r.5)
+run_says (Err Memory) program model data_text asked old new o r = r
+run_says (Err Write) program model data_text asked old new o r = (program, o, r)

@@ -29,7 +29,9 @@ use Rattle.ss_run.specs.declared.whole_run.RunCut.TheVariants.{Write, Memory}
 use Rattle.ss_run.specs.declared.whole_run.WholeRun.{WholeRun}
 use Rattle.ss_run.specs.Report.{IsRunEnd, SaysEnd}
 use Rattle.ss_run.specs.Advance.{HasAdvanced, MakesRun, RefusesText, RefusesBy, IsRefusal}
-use Rattle.ss_run.specs.Trace.{csv_row, column_names, step_fields, change_row, step_rows, rows_before, trace_text}
+use Rattle.ss_run.specs.Results.{Asked}
+use Rattle.ss_run.specs.Rows.{csv_row}
+use Rattle.ss_run.specs.Trace.{column_names, step_fields, change_row, step_rows, rows_before, trace_text}
 use Rattle.ss_run.specs.Trace.{Reaches}
 use Rattle.ss_run.specs.Trace.{WritesNothing, IsTraced, IsTracedInPart, EndsTraced, TraceSays}
 use Rattle.ss_run.specs.Tracing.{IsHere, AreKept, row_of, HasTraced, TracesSoFar}
@@ -225,18 +227,19 @@ same_cut a b e = cc
 
 -- what is said of a run that was made and traced
 pub trace_says : (result : Result WholeRun RunCut) (program : ProgramTable) (model data_text : List ℕ)
-    (xs : List Question) (old new trace traced : OutletState) → IsOutcome model (accepted program) →
-    MakesTrace result (input_with program data_text) xs old new trace traced →
-    TraceSays result model data_text xs old new trace traced
+    (xs : List Question) (asked : Asked) (old new trace traced : OutletState) → IsOutcome model (accepted program) →
+    MakesTrace result (input_with program data_text) xs asked old new trace traced →
+    TraceSays result model data_text xs asked old new trace traced
 unfolding MakesTrace TraceSays MakesRun
-trace_says (Ok whole) program model data_text xs old new trace traced o (inl h) = (
-  run_says (Ok whole) program model data_text old new o h.0,
+trace_says (Ok whole) program model data_text xs asked old new trace traced o (inl h) = (
+  run_says (Ok whole) program model data_text asked old new o h.0,
   ends_traced whole.end program model data_text xs h.0.0 trace traced o h.0.2 h.1,
 )
-trace_says (Ok whole) program model data_text xs old new trace traced o (inr h) = absurd (ok_is_no_cut whole h.0 h.1)
-trace_says (Err cut) program model data_text xs old new trace traced o (inl h) =
-    inl (run_says (Err cut) program model data_text old new o h.0, inr (program, o, h.1))
-trace_says (Err cut) program model data_text xs old new trace traced o (inr h) =
+trace_says (Ok whole) program model data_text xs asked old new trace traced o (inr h) =
+    absurd (ok_is_no_cut whole h.0 h.1)
+trace_says (Err cut) program model data_text xs asked old new trace traced o (inl h) =
+    inl (run_says (Err cut) program model data_text asked old new o h.0, inr (program, o, h.1))
+trace_says (Err cut) program model data_text xs asked old new trace traced o (inr h) =
     let part = rw (← same_cut cut h.0 h.1) at h.3 in
     inr (h.2, (program, o, part))
 
@@ -262,11 +265,11 @@ no_trace whole load.Memory model data_text xs trace r = absurd r
 
 -- what is said of a model that was not loaded
 pub refused_trace_says : (result : Result WholeRun RunCut) (fault : LoadFault) (model data_text : List ℕ)
-    (xs : List Question) (old trace : OutletState) → IsRefusal result model fault → IsLoadFault fault model →
-    TraceSays result model data_text xs old old trace trace
+    (xs : List Question) (asked : Asked) (old trace : OutletState) → IsRefusal result model fault →
+    IsLoadFault fault model → TraceSays result model data_text xs asked old old trace trace
 unfolding TraceSays
-refused_trace_says (Ok whole) fault model data_text xs old trace r o =
-    (refused_says (Ok whole) fault model data_text old r o, no_trace whole fault model data_text xs trace r)
-refused_trace_says (Err Memory) fault model data_text xs old trace r o =
-    inl (refused_says (Err Memory) fault model data_text old r o, inl (appends_none trace.taken, refl))
-refused_trace_says (Err Write) fault model data_text xs old trace r o = absurd r
+refused_trace_says (Ok whole) fault model data_text xs asked old trace r o =
+    (refused_says (Ok whole) fault model data_text asked old r o, no_trace whole fault model data_text xs trace r)
+refused_trace_says (Err Memory) fault model data_text xs asked old trace r o =
+    inl (refused_says (Err Memory) fault model data_text asked old r o, inl (appends_none trace.taken, refl))
+refused_trace_says (Err Write) fault model data_text xs asked old trace r o = absurd r

@@ -1,5 +1,5 @@
 -- How each private function of a whole run ends. No public contract cites this module.
-use Rattle.std.specs.Prelude.{ℕ, ◌+◌, ◌<◌, ◌≤◌, ◌≡◌, ◌⊎◌, true, false, List, Result, Ok, Err}
+use Rattle.std.specs.Prelude.{ℕ, ◌+◌, ◌<◌, ◌≤◌, ◌≡◌, ◌⊎◌, true, false, List, [], Result, Ok, Err}
 use Rattle.std.specs.Io.KnownBytes.{Appends}
 use Rattle.ss_words.specs.Faults.{text_rule_code}
 use Rattle.ss_check.specs.CheckRules.{check_rule_code}
@@ -21,6 +21,7 @@ use Rattle.ss_run.specs.declared.whole_run.WholeRun.{WholeRun}
 use Rattle.ss_sentences.specs.Refusals.{IsSaid}
 use Rattle.ss_run.specs.Explained.{refusal_explanation}
 use Rattle.ss_run.specs.Report.{IsRunEnd, SaysEnd, RunEnds}
+use Rattle.ss_run.specs.Results.{Asked}
 use Rattle.ss_run.specs.WholeRun.{TellsEnd}
 
 -- where some steps lead that were to be made: all of them, or fewer where the run has ended
@@ -42,16 +43,17 @@ pub record HasAdvanced (stepped : Stepped) (steps : ℕ) (old new : Moment) : Ty
   pub reason : EndsBy stepped steps old new
 
 -- a run is made, and its report written, or what cut it short
-unfoldable pub MakesRun : Result WholeRun RunCut → Input → OutletState → OutletState → Type 0
-MakesRun (Ok whole) input old new =
-    (p : ℕ) × IsRunEnd input p × SaysEnd input p whole.end × TellsEnd whole input p
+unfoldable pub MakesRun : Result WholeRun RunCut → Input → Asked → OutletState → OutletState → Type 0
+MakesRun (Ok whole) input asked old new =
+    (p : ℕ) × IsRunEnd input p × SaysEnd input p whole.end × TellsEnd whole input asked p
     × Appends old.taken new.taken (run input p).report × (new.failures ≡ old.failures)
-MakesRun (Err cut) input old new = RunEnds (Err cut) input old new
+MakesRun (Err cut) input asked old new = RunEnds (Err cut) input old new
 
 -- what is said of a model whose text the rule with this code refuses
 abbrev pub RefusesText : RunEnd → WholeRun → List ℕ → List ℕ → ℕ → Type 0
 RefusesText (Refused line) whole model code number =
     (line.items ≡ refusal_line code number) × IsSaid model whole.explanation.items × (whole.unfit ≡ 0)
+    × (whole.results.items ≡ [])
 RefusesText Done whole model code number = ⊥
 RefusesText (Faulted line) whole model code number = ⊥
 
@@ -60,6 +62,7 @@ abbrev pub RefusesBy : RunEnd → WholeRun → List ℕ → List ℕ → ℕ →
 RefusesBy (Refused line) whole model code number =
     (line.items ≡ refusal_line code number)
     × (whole.explanation.items ≡ refusal_explanation model code number) × (whole.unfit ≡ 0)
+    × (whole.results.items ≡ [])
 RefusesBy Done whole model code number = ⊥
 RefusesBy (Faulted line) whole model code number = ⊥
 

@@ -10,7 +10,8 @@ use Rattle.ss_trace.specs.declared.question.Question.{Question}
 use Rattle.ss_trace.specs.History.{history}
 use Rattle.ss_run.specs.Fields.{unfit_values}
 use Rattle.ss_run.specs.Report.{IsRunEnd}
-use Rattle.ss_run.specs.Trace.{csv_row, step_fields, rows_before}
+use Rattle.ss_run.specs.Rows.{csv_row}
+use Rattle.ss_run.specs.Trace.{step_fields, rows_before}
 
 -- ---- ends
 

@@ -1,6 +1,8 @@
 pub mod Fields
 pub mod Explained
 pub mod Report
+pub mod Rows
+pub mod Results
 pub mod WholeRun
 pub mod Advance
 pub mod Trace
@@ -8,6 +10,5 @@ pub mod Tracing
 pub mod Warned
 pub mod Watched
 pub mod Laws
-pub mod Unnamed
 pub mod Glance
 pub mod Followed

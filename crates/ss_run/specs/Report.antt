@@ -69,10 +69,14 @@ ReportSays (Err Memory) model data_text old new =
     Appends old.taken new.taken [] × (new.failures ≡ old.failures)
 ReportSays (Err Write) model data_text old new = IsRun (Err Write) model data_text old new
 
--- 0 a run that did not fault, 4 one that did, 3 a refused model, 2 a failed write, 5 no memory
+-- 0 a run that did not fault, 4 one that did, 3 a refused model
+abbrev pub status_of_end : RunEnd → ℕ
+status_of_end Done = 0
+status_of_end (Faulted line) = 4
+status_of_end (Refused line) = 3
+
+-- the same, 2 a failed write, 5 no memory
 abbrev pub status_of_run : Result RunEnd RunCut → ℕ
-status_of_run (Ok Done) = 0
-status_of_run (Ok (Faulted line)) = 4
-status_of_run (Ok (Refused line)) = 3
+status_of_run (Ok end) = status_of_end end
 status_of_run (Err Write) = 2
 status_of_run (Err Memory) = 5

@@ -5,7 +5,6 @@ use Rattle.std.specs.Prelude.{if◌then◌else◌}
 use Rattle.std.specs.List.{flat_map}
 use Rattle.std.specs.Fmt.{signed_decimal}
 use Rattle.std.specs.Io.KnownBytes.{Appends}
-use Rattle.csv.specs.Writing.{default_writer, row_text}
 use Rattle.ss_program.specs.Program.{ProgramTable}
 use Rattle.ss_state.specs.declared.limits.TheConstants.{LAST_POSITION}
 use Rattle.ss_state.specs.Run.{Input, run, input_with}
@@ -24,11 +23,9 @@ use Rattle.ss_run.specs.declared.whole_run.RunCut.{RunCut}
 use Rattle.ss_run.specs.declared.whole_run.RunCut.TheVariants.{Write, Memory}
 use Rattle.ss_run.specs.declared.whole_run.WholeRun.{WholeRun}
 use Rattle.ss_run.specs.Report.{IsRunEnd}
+use Rattle.ss_run.specs.Results.{Asked}
+use Rattle.ss_run.specs.Rows.{csv_row}
 use Rattle.ss_run.specs.WholeRun.{RunSays}
-
--- a row of these fields, as the kit's writer of comma-separated values writes it
-abbrev pub csv_row : List (List ℕ) → List ℕ
-csv_row fields = row_text default_writer fields
 
 -- the names of the columns
 abbrev pub column_names : List (List ℕ)
@@ -106,11 +103,11 @@ IsNotBegun Write trace traced = ⊥
 
 -- a whole run and its trace: report and what is told as without a trace, and the whole trace; or where the trace was
 -- cut, a part of it and nothing of the report
-unfoldable pub TraceSays : Result WholeRun RunCut → List ℕ → List ℕ → List Question → OutletState → OutletState →
-    OutletState → OutletState → Type 0
-TraceSays (Ok whole) model data_text xs old new trace traced =
-    RunSays (Ok whole) model data_text old new × EndsTraced whole.end model data_text xs trace traced
-TraceSays (Err cut) model data_text xs old new trace traced =
-    (RunSays (Err cut) model data_text old new
+unfoldable pub TraceSays : Result WholeRun RunCut → List ℕ → List ℕ → List Question → Asked → OutletState →
+    OutletState → OutletState → OutletState → Type 0
+TraceSays (Ok whole) model data_text xs asked old new trace traced =
+    RunSays (Ok whole) model data_text asked old new × EndsTraced whole.end model data_text xs trace traced
+TraceSays (Err cut) model data_text xs asked old new trace traced =
+    (RunSays (Err cut) model data_text asked old new
     × (IsNotBegun cut trace traced ⊎ TracesModel (λ t. IsTraced t xs trace traced) model data_text))
     ⊎ (WritesNothing old new × TracesModel (λ t. IsTracedInPart cut t xs trace traced) model data_text)

@@ -21,7 +21,9 @@ use Rattle.ss_run.specs.declared.whole_run.RunCut.TheVariants.{Write, Memory}
 use Rattle.ss_run.specs.declared.whole_run.WholeRun.{WholeRun}
 use Rattle.ss_run.specs.Advance.{MakesRun, HasAdvanced}
 use Rattle.ss_run.specs.Followed.{kept_in, kept_at}
-use Rattle.ss_run.specs.Trace.{csv_row, step_rows, rows_before, Reaches, cut_failures}
+use Rattle.ss_run.specs.Results.{Asked}
+use Rattle.ss_run.specs.Rows.{csv_row}
+use Rattle.ss_run.specs.Trace.{step_rows, rows_before, Reaches, cut_failures}
 use Rattle.ss_run.specs.Trace.{WritesNothing, IsTraced, IsTracedInPart}
 
 -- it tells state q
@@ -92,8 +94,8 @@ CutsRows cut input xs old new =
 
 -- a run is made and traced: the whole trace is written, and the report as without it, or the trace was cut, and nothing
 -- of the report is written
-unfoldable pub MakesTrace : Result WholeRun RunCut → Input → List Question → OutletState → OutletState →
+unfoldable pub MakesTrace : Result WholeRun RunCut → Input → List Question → Asked → OutletState → OutletState →
     OutletState → OutletState → Type 0
-MakesTrace result input xs old new trace traced =
-    (MakesRun result input old new × IsTraced input xs trace traced)
+MakesTrace result input xs asked old new trace traced =
+    (MakesRun result input asked old new × IsTraced input xs trace traced)
     ⊎ ((cut : RunCut) × (result ≡ Err cut) × WritesNothing old new × IsTracedInPart cut input xs trace traced)

@@ -1,5 +1,5 @@
 -- What is told of a whole run beside its report.
-use Rattle.std.specs.Prelude.{ℕ, ◌≡◌, ◌⊎◌, List, Result, Ok, Err}
+use Rattle.std.specs.Prelude.{ℕ, ◌≡◌, ◌⊎◌, List, [], Result, Ok, Err}
 use Rattle.ss_words.specs.declared.fault.TextRule.{TextRule}
 use Rattle.ss_check.specs.declared.fault.CheckRule.{CheckRule}
 use Rattle.ss_check.specs.CheckRules.{check_rule_code}
@@ -14,19 +14,22 @@ use Rattle.ss_run.specs.declared.whole_run.WholeRun.{WholeRun}
 use Rattle.ss_sentences.specs.Refusals.{IsSaid}
 use Rattle.ss_run.specs.Explained.{end_explanation, refusal_explanation}
 use Rattle.ss_run.specs.Fields.{unfit_values}
-use Rattle.ss_run.specs.Report.{IsRunEnd, ReportSays}
+use Rattle.ss_run.specs.Report.{IsRunEnd, ReportSays, status_of_end}
+use Rattle.ss_run.specs.Results.{Asked, results_row}
 
--- of a run that ended at position p: what explains that state, and how many values of its report did not fit
-abbrev pub TellsEnd : WholeRun → Input → ℕ → Type 0
-TellsEnd whole input p =
+-- of a run that ended at position p: what explains that state, how many values of its report did not fit, and the row
+-- of its results
+abbrev pub TellsEnd : WholeRun → Input → Asked → ℕ → Type 0
+TellsEnd whole input asked p =
     (whole.explanation.items ≡ end_explanation input.program (run input p))
     × (whole.unfit ≡ unfit_values (run input p).report)
+    × (whole.results.items ≡ results_row input asked (status_of_end whole.end) p)
 
 -- of the run of a model that is a program, over the data
-abbrev pub TellsRun : WholeRun → List ℕ → List ℕ → Type 0
-TellsRun whole model data_text =
+abbrev pub TellsRun : WholeRun → List ℕ → List ℕ → Asked → Type 0
+TellsRun whole model data_text asked =
     (program : ProgramTable) × IsOutcome model (accepted program)
-    × (p : ℕ) × IsRunEnd (input_with program data_text) p × TellsEnd whole (input_with program data_text) p
+    × (p : ℕ) × IsRunEnd (input_with program data_text) p × TellsEnd whole (input_with program data_text) asked p
 
 -- of a model that a rule refuses: what is said of its text, or the sentence of the checker's rule and the line
 abbrev pub TellsRefusal : WholeRun → List ℕ → Type 0
@@ -37,16 +40,17 @@ TellsRefusal whole model =
     × (whole.explanation.items ≡ refusal_explanation model (check_rule_code rule) number))
 
 -- the one or the other, by how the run ended
-abbrev pub TellsBeside : RunEnd → WholeRun → List ℕ → List ℕ → Type 0
-TellsBeside Done whole model data_text = TellsRun whole model data_text
-TellsBeside (Faulted line) whole model data_text = TellsRun whole model data_text
-TellsBeside (Refused line) whole model data_text = TellsRefusal whole model × (whole.unfit ≡ 0)
+abbrev pub TellsBeside : RunEnd → WholeRun → List ℕ → List ℕ → Asked → Type 0
+TellsBeside Done whole model data_text asked = TellsRun whole model data_text asked
+TellsBeside (Faulted line) whole model data_text asked = TellsRun whole model data_text asked
+TellsBeside (Refused line) whole model data_text asked =
+    TellsRefusal whole model × (whole.unfit ≡ 0) × (whole.results.items ≡ [])
 
 -- what a whole run writes, and what is told of it
-unfoldable pub RunSays : Result WholeRun RunCut → List ℕ → List ℕ → OutletState → OutletState → Type 0
-RunSays (Ok whole) model data_text old new =
-    ReportSays (Ok whole.end) model data_text old new × TellsBeside whole.end whole model data_text
-RunSays (Err cut) model data_text old new = ReportSays (Err cut) model data_text old new
+unfoldable pub RunSays : Result WholeRun RunCut → List ℕ → List ℕ → Asked → OutletState → OutletState → Type 0
+RunSays (Ok whole) model data_text asked old new =
+    ReportSays (Ok whole.end) model data_text old new × TellsBeside whole.end whole model data_text asked
+RunSays (Err cut) model data_text asked old new = ReportSays (Err cut) model data_text old new
 
 -- how a run ended, without what is told beside
 abbrev pub end_of_outcome : Result WholeRun RunCut → Result RunEnd RunCut

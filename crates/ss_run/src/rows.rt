@@ -1,7 +1,8 @@
 //! The rows of a trace.
 ghost use Rattle.std.specs.Prelude.{◌≡◌, ◌++◌, ◌+◌, ◌<◌, length, map, IfOk, OnOk};
 ghost use Rattle.ss_machine.specs.Moment.{position};
-ghost use Rattle.ss_run.specs.Trace.{csv_row, column_names, change_row, step_rows};
+ghost use Rattle.ss_run.specs.Rows.{csv_row};
+ghost use Rattle.ss_run.specs.Trace.{column_names, change_row, step_rows};
 ghost use Rattle.ss_run.specs.Followed.{kept_in, kept_at};
 ghost use Rattle.ss_run.specs.Tracing.{IsHere, AreKept, row_of};
 

@@ -11,6 +11,7 @@ ghost use Rattle.ss_run.specs.Tracing.{CutsRows, MakesTrace};
 
 use crate::followed::Followed;
 use crate::here::{Here, read_here};
+use crate::results::Asked;
 use crate::rows::{follow_all, head_row, push_changes};
 use crate::whole_run::{
     MOST_KEPT, Progress, RunCut, STEPS_BETWEEN, WholeRun, refusal, write_report,
@@ -184,7 +185,7 @@ fn trace_all<S: SetBoard, P: Progress, T: Outlet>(
 fn trace_report<S: SetBoard, P: Progress, T: Outlet, W: Outlet>(
     alloc: Global,
     debugger: &mut Debugger<S>,
-    questions: &[Question],
+    asked: Asked<'_>,
     progress: &mut P,
     trace: &mut T,
     out: &mut W,
@@ -192,21 +193,22 @@ fn trace_report<S: SetBoard, P: Progress, T: Outlet, W: Outlet>(
     requires start { position debugger.old.machine ≡ 0 }
     requires trace_room { T.failures trace.old < 2 ^ 64 - 1 }
     requires room { W.failures out.old < 2 ^ 64 - 1 }
-    ensures { MakesTrace result debugger.old.machine.input questions.now
+    ensures { MakesTrace result debugger.old.machine.input asked.entry.watched.now
+        (record { name = asked.entry.name.now; questions = asked.entry.results.now })
         (record { taken = W.taken out.old; failures = W.failures out.old })
         (record { taken = W.taken out.new; failures = W.failures out.new })
         (record { taken = T.taken trace.old; failures = T.failures trace.old })
         (record { taken = T.taken trace.new; failures = T.failures trace.new }) }
 {
-    trace_all(alloc, debugger, questions, progress, trace)?;
-    write_report(alloc, debugger, out)
+    trace_all(alloc, debugger, asked.watched, progress, trace)?;
+    write_report(alloc, debugger, asked, out)
 }
 
 /// Makes the run of a machine and its trace, and writes its report.
 fn trace_run<S: SetBoard, P: Progress, T: Outlet, W: Outlet>(
     alloc: Global,
     machine: Machine<S>,
-    questions: &[Question],
+    asked: Asked<'_>,
     progress: &mut P,
     trace: &mut T,
     out: &mut W,
@@ -214,14 +216,15 @@ fn trace_run<S: SetBoard, P: Progress, T: Outlet, W: Outlet>(
     requires start { position machine ≡ 0 }
     requires trace_room { T.failures trace.old < 2 ^ 64 - 1 }
     requires room { W.failures out.old < 2 ^ 64 - 1 }
-    ensures { MakesTrace result machine.input questions.now
+    ensures { MakesTrace result machine.input asked.entry.watched.now
+        (record { name = asked.entry.name.now; questions = asked.entry.results.now })
         (record { taken = W.taken out.old; failures = W.failures out.old })
         (record { taken = W.taken out.new; failures = W.failures out.new })
         (record { taken = T.taken trace.old; failures = T.failures trace.old })
         (record { taken = T.taken trace.new; failures = T.failures trace.new }) }
 {
     let mut debugger = Debugger::new(alloc, machine);
-    let written = trace_report(alloc, &mut debugger, questions, progress, trace, out);
+    let written = trace_report(alloc, &mut debugger, asked, progress, trace, out);
     debugger.end();
     written
 }
@@ -231,14 +234,15 @@ fn trace_program<P: Progress, T: Outlet, W: Outlet>(
     alloc: Global,
     program: Program,
     data_text: &[u8],
-    questions: &[Question],
+    asked: Asked<'_>,
     progress: &mut P,
     trace: &mut T,
     out: &mut W,
 ) -> Result<WholeRun, RunCut>
     requires trace_room { T.failures trace.old < 2 ^ 64 - 1 }
     requires room { W.failures out.old < 2 ^ 64 - 1 }
-    ensures { MakesTrace result (input_with program data_text.now) questions.now
+    ensures { MakesTrace result (input_with program data_text.now) asked.entry.watched.now
+        (record { name = asked.entry.name.now; questions = asked.entry.results.now })
         (record { taken = W.taken out.old; failures = W.failures out.old })
         (record { taken = W.taken out.new; failures = W.failures out.new })
         (record { taken = T.taken trace.old; failures = T.failures trace.old })
@@ -246,10 +250,10 @@ fn trace_program<P: Progress, T: Outlet, W: Outlet>(
 {
     let (sets, pending) = (LinkedSets::new(alloc), LinkedSets::new(alloc));
     let machine = machine(alloc, program, data_text, sets, pending)?;
-    trace_run(alloc, machine, questions, progress, trace, out)
+    trace_run(alloc, machine, asked, progress, trace, out)
 }
 
-/// As `run_model`, and writes a trace of some questions as the run goes: comma-separated values, a
+/// As `run_model`, and writes a trace of the watched questions as the run goes: comma-separated values, a
 /// row of the names of the columns, and then, for each step at which the answer to a question
 /// changes, the state before the step, its clock, section and line, the question and its value
 /// behind the step (docs/RUNS.md). Of each question the last answer is kept, and no more; of the
@@ -263,21 +267,22 @@ pub fn trace_model<P: Progress, T: Outlet, W: Outlet>(
     alloc: Global,
     model: &[u8],
     data_text: &[u8],
-    questions: &[Question],
+    asked: Asked<'_>,
     progress: &mut P,
     trace: &mut T,
     out: &mut W,
 ) -> Result<WholeRun, RunCut>
     requires trace_room { T.failures trace.old < 2 ^ 64 - 1 }
     requires room { W.failures out.old < 2 ^ 64 - 1 }
-    ensures { TraceSays result model.now data_text.now questions.now
+    ensures { TraceSays result model.now data_text.now asked.entry.watched.now
+        (record { name = asked.entry.name.now; questions = asked.entry.results.now })
         (record { taken = W.taken out.old; failures = W.failures out.old })
         (record { taken = W.taken out.new; failures = W.failures out.new })
         (record { taken = T.taken trace.old; failures = T.failures trace.old })
         (record { taken = T.taken trace.new; failures = T.failures trace.new }) }
 {
     match load_program(alloc, model) {
-        Ok(program) => { trace_program(alloc, program, data_text, questions, progress, trace, out) }
+        Ok(program) => { trace_program(alloc, program, data_text, asked, progress, trace, out) }
         Err(fault) => refusal(alloc, model, fault),
     }
 }

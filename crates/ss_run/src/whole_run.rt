@@ -3,12 +3,13 @@ ghost use Rattle.std.specs.Prelude.{◌≡◌, ◌-◌, ◌^◌, ◌<◌, OnErr,
 ghost use Rattle.ss_links.specs.Board.{empty_board};
 ghost use Rattle.ss_machine.specs.Moment.{position};
 ghost use Rattle.ss_state.specs.Run.{input_with};
-ghost use Rattle.ss_run.specs.Report.{IsRunEnd, status_of_run, SaysEnd, ReportSays};
+ghost use Rattle.ss_run.specs.Report.{IsRunEnd, status_of_end, status_of_run, SaysEnd, ReportSays};
 ghost use Rattle.ss_run.specs.WholeRun.{TellsEnd, RunSays};
 ghost use Rattle.ss_run.specs.Advance.{HasAdvanced, MakesRun, RefusesText, RefusesBy, IsRefusal};
 
 use crate::explained::{end_explanation, rule_explanation};
 use crate::fields::unfit_values;
+use crate::results::{Asked, results_row};
 use ss_debug::{Command, Debugger, Question, obey};
 use ss_links::{LinkedSets, SetBoard};
 use ss_machine::Machine;
@@ -53,6 +54,9 @@ pub struct WholeRun {
     pub explanation: Vec<u8>,
     /// How many values of the report did not fit their fields.
     pub unfit: usize,
+    /// The row of its results (docs/RUNS.md): the name of the data, the exit status, and the values
+    /// of the questions in its last state. Empty for a refused model.
+    pub results: Vec<u8>,
 }
 
 /// What cut a whole run short.
@@ -77,15 +81,24 @@ impl From<AllocError> for RunCut {
     }
 }
 
+/// The exit status of a whole run that was not cut short.
+fn end_status(end: &RunEnd) -> u8
+    ensures { result ≡ status_of_end end.now }
+{
+    match end {
+        RunEnd::Done => 0,
+        RunEnd::Faulted(_) => 4,
+        RunEnd::Refused(_) => 3,
+    }
+}
+
 /// The exit status for how a whole run ended: 0 where it did not fault, 2 where the outlet failed,
 /// 3 for a refused model, 4 where the last state is faulted, 5 where memory was refused.
 pub fn run_status(outcome: &Result<RunEnd, RunCut>) -> u8
     ensures { result ≡ status_of_run outcome.now }
 {
     match outcome {
-        Ok(RunEnd::Done) => 0,
-        Ok(RunEnd::Faulted(_)) => 4,
-        Ok(RunEnd::Refused(_)) => 3,
+        Ok(end) => end_status(end),
         Err(RunCut::Write) => 2,
         Err(RunCut::Memory) => 5,
     }
@@ -173,15 +186,21 @@ fn end_of_run<S: SetBoard>(alloc: Global, debugger: &mut Debugger<S>) -> Result<
 }
 
 /// What is told of the run whose last state a debugger holds.
-fn tell_end<S: SetBoard>(alloc: Global, debugger: &mut Debugger<S>) -> Result<WholeRun, AllocError>
+fn tell_end<S: SetBoard>(
+    alloc: Global,
+    debugger: &mut Debugger<S>,
+    asked: Asked<'_>,
+) -> Result<WholeRun, AllocError>
     ensures input { debugger.new.machine.input ≡ debugger.old.machine.input }
     ensures position { position debugger.new.machine ≡ position debugger.old.machine }
     ensures end { IfOk result (λ whole. SaysEnd debugger.old.machine.input
         (position debugger.old.machine) whole.end) }
     ensures beside { IfOk result (λ whole. TellsEnd whole debugger.old.machine.input
+        (record { name = asked.entry.name.now; questions = asked.entry.results.now })
         (position debugger.old.machine)) }
 {
     let end = end_of_run(alloc, debugger)?;
+    let results = results_row(alloc, debugger, end_status(&end), asked)?;
     let machine = debugger.machine();
     machine.known();
     let explanation = end_explanation(alloc, machine)?;
@@ -190,6 +209,7 @@ fn tell_end<S: SetBoard>(alloc: Global, debugger: &mut Debugger<S>) -> Result<Wh
         end,
         explanation,
         unfit,
+        results,
     })
 }
 
@@ -197,15 +217,17 @@ fn tell_end<S: SetBoard>(alloc: Global, debugger: &mut Debugger<S>) -> Result<Wh
 pub(crate) fn write_report<S: SetBoard, W: Outlet>(
     alloc: Global,
     debugger: &mut Debugger<S>,
+    asked: Asked<'_>,
     out: &mut W,
 ) -> Result<WholeRun, RunCut>
     requires end { IsRunEnd debugger.old.machine.input (position debugger.old.machine) }
     requires room { W.failures out.old < 2 ^ 64 - 1 }
     ensures { MakesRun result debugger.old.machine.input
+        (record { name = asked.entry.name.now; questions = asked.entry.results.now })
         (record { taken = W.taken out.old; failures = W.failures out.old })
         (record { taken = W.taken out.new; failures = W.failures out.new }) }
 {
-    let whole = tell_end(alloc, debugger)?;
+    let whole = tell_end(alloc, debugger, asked)?;
     let machine = debugger.machine();
     machine.known();
     match put_all(out, machine.report()) {
@@ -222,12 +244,14 @@ pub(crate) fn write_report<S: SetBoard, W: Outlet>(
 fn write_run<S: SetBoard, P: Progress, W: Outlet>(
     alloc: Global,
     machine: Machine<S>,
+    asked: Asked<'_>,
     progress: &mut P,
     out: &mut W,
 ) -> Result<WholeRun, RunCut>
     requires start { position machine ≡ 0 }
     requires room { W.failures out.old < 2 ^ 64 - 1 }
     ensures { MakesRun result machine.input
+        (record { name = asked.entry.name.now; questions = asked.entry.results.now })
         (record { taken = W.taken out.old; failures = W.failures out.old })
         (record { taken = W.taken out.new; failures = W.failures out.new }) }
 {
@@ -235,7 +259,7 @@ fn write_run<S: SetBoard, P: Progress, W: Outlet>(
     let ran = run_to_end(&mut machine, progress);
     let mut debugger = Debugger::new(alloc, machine);
     let written = match ran {
-        Ok(()) => write_report(alloc, &mut debugger, out),
+        Ok(()) => write_report(alloc, &mut debugger, asked, out),
         Err(_) => Err(RunCut::Memory),
     };
     debugger.end();
@@ -257,6 +281,7 @@ fn refused_text(
         end: RunEnd::Refused(text),
         explanation,
         unfit: 0,
+        results: Vec::new(alloc),
     })
 }
 
@@ -270,6 +295,7 @@ fn refused(alloc: Global, model: &[u8], code: &str, line: usize) -> Result<Whole
         end: RunEnd::Refused(text),
         explanation,
         unfit: 0,
+        results: Vec::new(alloc),
     })
 }
 
@@ -290,23 +316,26 @@ fn run_program<P: Progress, W: Outlet>(
     alloc: Global,
     program: Program,
     data_text: &[u8],
+    asked: Asked<'_>,
     progress: &mut P,
     out: &mut W,
 ) -> Result<WholeRun, RunCut>
     requires { W.failures out.old < 2 ^ 64 - 1 }
     ensures { MakesRun result (input_with program data_text.now)
+        (record { name = asked.entry.name.now; questions = asked.entry.results.now })
         (record { taken = W.taken out.old; failures = W.failures out.old })
         (record { taken = W.taken out.new; failures = W.failures out.new }) }
 {
     let (sets, pending) = (LinkedSets::new(alloc), LinkedSets::new(alloc));
     let machine = machine(alloc, program, data_text, sets, pending)?;
-    write_run(alloc, machine, progress, out)
+    write_run(alloc, machine, asked, progress, out)
 }
 
 /// Runs a model over its data to the end of the run, without a bound, and writes its report alone;
 /// few steps back are kept, so that the memory it takes does not grow with the steps. `progress`
 /// hears every ten million steps how far it is. Beside how the run ended it tells what explains a
-/// fault or a refusal, and how many values did not fit their fields (docs/RUNS.md).
+/// fault or a refusal, how many values did not fit their fields, and the row of the results that
+/// `asked` names (docs/RUNS.md).
 ///
 /// `Ok` where all was written: its end is `Done`, or `Faulted` with the state line of the last
 /// state; or `Refused` with the line of a refused model, where nothing is written. `Write` where
@@ -316,16 +345,18 @@ pub fn run_model<P: Progress, W: Outlet>(
     alloc: Global,
     model: &[u8],
     data_text: &[u8],
+    asked: Asked<'_>,
     progress: &mut P,
     out: &mut W,
 ) -> Result<WholeRun, RunCut>
     requires { W.failures out.old < 2 ^ 64 - 1 }
     ensures { RunSays result model.now data_text.now
+        (record { name = asked.entry.name.now; questions = asked.entry.results.now })
         (record { taken = W.taken out.old; failures = W.failures out.old })
         (record { taken = W.taken out.new; failures = W.failures out.new }) }
 {
     match load_program(alloc, model) {
-        Ok(program) => run_program(alloc, program, data_text, progress, out),
+        Ok(program) => run_program(alloc, program, data_text, asked, progress, out),
         Err(fault) => refusal(alloc, model, fault),
     }
 }
@@ -349,7 +380,12 @@ pub fn report<P: Progress, W: Outlet>(
         (record { taken = W.taken out.old; failures = W.failures out.old })
         (record { taken = W.taken out.new; failures = W.failures out.new }) }
 {
-    match run_model(alloc, model, data_text, progress, out) {
+    let asked = Asked {
+        watched: &[],
+        name: b"",
+        results: &[],
+    };
+    match run_model(alloc, model, data_text, asked, progress, out) {
         Ok(whole) => Ok(whole.end),
         Err(cut) => Err(cut),
     }

@@ -8,25 +8,27 @@ use Rattle.ss_debug.specs.Move.{spot_line}
 use Rattle.ss_inspect.specs.Frames.{locals_in}
 use Rattle.ss_inspect.specs.Texts.{name_at}
 use Rattle.ss_messages.specs.Bodies.{frame_item, variable_item}
+use Rattle.ss_messages.specs.declared.counting.Counting.{Counting}
 use Rattle.ss_scopes.specs.Pages.{page}
 
--- a frame: its number, counted from 1 on, its section, and the line of its place
-abbrev pub placed_frame : ProgramTable → List ℕ → ℕ → Option (ℕ × ℕ) → List ℕ
-placed_frame program path depth None = []
-placed_frame program path depth (Some (section, place)) =
-    frame_item (depth + 1) (section_of program section).name (spot_line (spot_at program section place)) path
+-- a frame: its number, counted from 1 on, its section, and the line of its place, in the model at a path
+abbrev pub placed_frame : ProgramTable → List ℕ → Counting → ℕ → Option (ℕ × ℕ) → List ℕ
+placed_frame program path counting depth None = []
+placed_frame program path counting depth (Some (section, place)) =
+    frame_item (depth + 1) (section_of program section).name (spot_line (spot_at program section place)) path counting
 
 -- the frame on which so many others stand
-abbrev pub frame_text : ProgramTable → State → List ℕ → ℕ → List ℕ
-frame_text program state path depth = placed_frame program path depth (frame_place state depth)
+abbrev pub frame_text : ProgramTable → State → List ℕ → Counting → ℕ → List ℕ
+frame_text program state path counting depth = placed_frame program path counting depth (frame_place state depth)
 
 -- how many frames there are
 abbrev pub frame_count : State → ℕ
 frame_count state = 1 + length state.below
 
 -- a page of the frames, the last one first
-abbrev pub frames_page : ProgramTable → State → List ℕ → ℕ → ℕ → List ℕ
-frames_page program state path start count = page (frame_text program state path) start count (frame_count state)
+abbrev pub frames_page : ProgramTable → State → List ℕ → Counting → ℕ → ℕ → List ℕ
+frames_page program state path counting start count =
+    page (frame_text program state path counting) start count (frame_count state)
 
 -- a local of the frame on which so many others stand, which is of this section
 abbrev pub local_item : ProgramTable → State → ℕ → ℕ → ℕ → List ℕ

@@ -12,7 +12,7 @@ use itoa::Buffer;
 use ss_debug::place_line;
 use ss_links::SetBoard;
 use ss_machine::Machine;
-use ss_messages::{frame_item, variable_item};
+use ss_messages::{Source, frame_item, variable_item};
 use ss_program::{Variable, name_at};
 use std::alloc::{AllocError, Global};
 
@@ -21,12 +21,13 @@ fn push_frame<S: SetBoard>(
     alloc: Global,
     out: &mut Vec<u8>,
     machine: &Machine<S>,
-    path: &[u8],
+    source: Source<'_>,
     depth: usize,
 ) -> Result<(), AllocError>
     requires { depth < 2 ^ 64 - 1 }
     ensures { OnOk result (out.new.items ≡ out.old.items
-        ++ frame_text machine.now.input.program machine.now.state path.now depth) }
+        ++ frame_text machine.now.input.program machine.now.state source.entry.path.now
+        source.entry.counting depth) }
 {
     let Some((section, place)) = machine.frame_place(depth) else {
         return Ok(());
@@ -38,25 +39,26 @@ fn push_frame<S: SetBoard>(
         depth as u64 + 1,
         program.section_name(section),
         line,
-        path,
+        source,
     )?;
     out.extend_from_slice(&item)
 }
 
-/// Appends a page of the frames, the last one first.
+/// Appends a page of the frames, the last one first, each with its line of the model.
 pub fn push_frames<S: SetBoard>(
     alloc: Global,
     out: &mut Vec<u8>,
     machine: &Machine<S>,
-    path: &[u8],
+    source: Source<'_>,
     start: usize,
     count: usize,
 ) -> Result<(), AllocError>
     ensures { OnOk result (out.new.items ≡ out.old.items
-        ++ frames_page machine.now.input.program machine.now.state path.now start count) }
+        ++ frames_page machine.now.input.program machine.now.state source.entry.path.now
+        source.entry.counting start count) }
 {
     for k in 0..page_size(start, count, machine.frames()) {
-        push_frame(alloc, out, machine, path, start + k)?;
+        push_frame(alloc, out, machine, source, start + k)?;
     }
     Ok(())
 }

@@ -1,6 +1,5 @@
 -- What is said of a refused model.
-use Rattle.std.specs.Prelude.{ℕ, ◌≡◌, ◌⊎◌, Bool, List, [], ◌∷◌, ◌++◌, codes, if◌then◌else◌, nat_eq}
-use Rattle.std.specs.List.{list_any}
+use Rattle.std.specs.Prelude.{ℕ, ◌≡◌, ◌⊎◌, List, [], ◌++◌}
 use Rattle.ss_words.specs.declared.fault.TextRule.{TextRule}
 use Rattle.ss_words.specs.Faults.{text_rule_code}
 use Rattle.ss_check.specs.declared.fault.CheckRule.{CheckRule}
@@ -10,29 +9,15 @@ use Rattle.ss_console.specs.Puts.{AddsPart}
 use Rattle.ss_console.specs.declared.cut.Cut.TheVariants as cut
 use Rattle.ss_session.specs.Model.{IsOutcome, refused_text, refused_check}
 use Rattle.ss_session.specs.Transcript.{refusal_line}
-use Rattle.ss_sentences.specs.Wording.{rule_sentence}
 use Rattle.ss_sentences.specs.Refusals.{IsSaid}
-use Rattle.ss_names.specs.Subjects.{breach_text}
-use Rattle.ss_prompt.specs.Source.{marked_line}
+use Rattle.ss_prompt.specs.Explained.{check_explanation}
 use Rattle.ssdb.specs.declared.end.PromptFault.{PromptFault}
 use Rattle.ssdb.specs.declared.end.PromptFault.TheVariants.{Refused, Cut, Memory}
-use Rattle.ss_prompt.specs.Source.{source_lines}
 use Rattle.ssdb.specs.Seen.{Seen}
 
--- whether a sentence has a blank for a word of the model: a brace (123)
-abbrev pub has_blank : List ℕ → Bool
-has_blank sentence = list_any (λ b. nat_eq b 123) sentence
-
--- the code of a rule behind which its sentence stands, if that has no blank
-abbrev pub rule_line : List ℕ → List ℕ → List ℕ
-rule_line code sentence = if has_blank sentence then [] else code ++ codes ": " ++ sentence ++ 10 ∷ []
-
--- what is said of a model that the checker refuses: the rule and the line, what the rule means, the line as it is
--- written, and which name the breach is about
-abbrev pub refused_model_text : List ℕ → List (List ℕ) → List ℕ → ℕ → List ℕ
-refused_model_text model lines code line =
-    refusal_line code line ++ rule_line code (rule_sentence code) ++ marked_line lines (codes "> ") line
-    ++ breach_text model code line
+-- what is said of a model that the checker refuses: the rule and the line, and what explains that
+abbrev pub refused_model_text : List ℕ → List ℕ → ℕ → List ℕ
+refused_model_text model code line = refusal_line code line ++ check_explanation model code line
 
 -- what is said of a model whose text is refused: the rule and the line, and what is said of the word, its place and
 -- what could stand there
@@ -45,7 +30,7 @@ IsTold model text =
     ((rule : TextRule) × (line : ℕ) × IsOutcome model (refused_text rule line)
     × IsTextTold model (text_rule_code rule) line text)
     ⊎ ((rule : CheckRule) × (line : ℕ) × IsOutcome model (refused_check rule line)
-    × (text ≡ refused_model_text model (source_lines model) (check_rule_code rule) line))
+    × (text ≡ refused_model_text model (check_rule_code rule) line))
 
 -- what was written of a refused model, by what stopped the program: all that is said of it, a prefix of that where
 -- writing failed, nothing where memory was refused

@@ -7,7 +7,7 @@ ghost use Rattle.ssdb.specs.Seen.{seen_of};
 use crate::end::{PromptEnd, PromptFault};
 use crate::refused::refuse;
 use ss_console::{Console, Cut, put_all};
-use ss_prompt::{push_completions, source_lines};
+use ss_prompt::push_completions;
 use ss_session::load_program;
 use std::alloc::Global;
 
@@ -29,7 +29,6 @@ pub fn tell_words<C: Console>(
     // It is cut short by exactly the one call that failed.
     ensures faults { C.faults console.new ≡ faults_after_end result (C.faults console.old) }
 {
-    let lines = source_lines(alloc, model)?;
     match load_program(alloc, model) {
         Ok(program) => {
             let mut text = Vec::new(alloc);
@@ -41,6 +40,6 @@ pub fn tell_words<C: Console>(
                 Err(_) => Err(PromptFault::Cut(Cut::Write)),
             }
         }
-        Err(fault) => Err(refuse(alloc, model, &lines, fault, console)),
+        Err(fault) => Err(refuse(alloc, model, fault, console)),
     }
 }

@@ -17,7 +17,7 @@ use completion::tell_words;
 use end::{PromptEnd, PromptFault};
 use opening::open_prompt;
 use ss_console::StreamConsole;
-use ss_host::{Stop, read_arguments, read_file, read_or, tell};
+use ss_host::{Stop, explain, read_arguments, read_file, read_or, tell};
 use std::io;
 use std::io::IsTerminal;
 use std::process::ExitCode;
@@ -69,7 +69,7 @@ fn tell_end(rt: &HostRuntime, ended: Result<PromptEnd, PromptFault>) {
 fn stopped(rt: &HostRuntime, stop: Stop<'_>) -> u8
     ensures { result ≡ stop_status stop.entry }
 {
-    tell(rt, stop, USAGE);
+    explain(rt, stop, USAGE);
     stop.status()
 }
 

@@ -156,6 +156,6 @@ pub fn open_prompt<C: Console>(
             let prompt = Prompt::new(alloc, debugger, model, lines);
             greet_and_hold(alloc, prompt, &mut line, console)
         }
-        Err(fault) => Err(refuse(alloc, model, &lines, fault, console)),
+        Err(fault) => Err(refuse(alloc, model, fault, console)),
     }
 }

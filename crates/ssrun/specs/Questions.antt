@@ -1,15 +1,48 @@
 -- The questions that are traced, as they are named.
-use Rattle.std.specs.Prelude.{ℕ, List, ◌++◌, codes, Option, Some, None}
+use Rattle.std.specs.Prelude.{ℕ, ◌≡◌, List, [], ◌++◌, codes, fold, Option, Some, None, Result, Ok, Err}
+use Rattle.std.specs.List.{flat_map}
+use Rattle.ss_host.specs.declared.stop.Stop.TheVariants.{Memory}
+use Rattle.ss_program.specs.Program.{ProgramTable}
 use Rattle.ss_trace.specs.declared.question.Question.{Question}
 use Rattle.ss_prompt.specs.declared.commands.PromptCommand.{PromptCommand}
-use Rattle.ss_prompt.specs.declared.commands.PromptCommand.TheVariants.{Why}
+use Rattle.ss_prompt.specs.declared.commands.PromptCommand.TheVariants.{Why, Missing}
+use Rattle.ss_prompt.specs.declared.missing.Missing.{Missing as NoName}
+use Rattle.ss_prompt.specs.Missing.{missing_text}
 use Rattle.ss_prompt.specs.Reading.{prompt_command_of}
+use Rattle.ss_run.specs.Watched.{with_question}
+use Rattle.ssrun.specs.declared.cause.Cause.{Cause}
+use Rattle.ssrun.specs.declared.cause.Cause.TheVariants.{Stop, NoQuestion, Unnamed}
 
--- the question of WHY
-abbrev pub asked_by : PromptCommand → Option Question
-asked_by (Why question) = Some question
-asked_by _ = None
+-- what WHY asks, or which of its names the program hasn't
+abbrev pub watched_by : PromptCommand → Option (Result Question NoName)
+watched_by (Why question) = Some (Ok question)
+watched_by (Missing m) = Some (Err m)
+watched_by _ = None
 
--- the question that a text asks: what the prompt reads of it behind WHY
-abbrev pub question_of : List ℕ → Option Question
-question_of text = asked_by (prompt_command_of (codes "WHY " ++ text))
+-- what a text asks about a program: what the prompt reads of it after WHY
+abbrev pub watched_of : ProgramTable → List ℕ → Option (Result Question NoName)
+watched_of program text = watched_by (prompt_command_of program (codes "WHY " ++ text))
+
+-- some questions, and the one that a text asks, if none of them is the same
+abbrev pub with_watched : List Question → Option (Result Question NoName) → List Question
+with_watched xs (Some (Ok x)) = with_question xs x
+with_watched xs _ = xs
+
+-- the questions that some texts ask about a program, each once
+abbrev pub questions_of : ProgramTable → List (List ℕ) → List Question
+questions_of program texts = fold (λ xs text. with_watched xs (watched_of program text)) [] texts
+
+-- what is said of a text whose names the program hasn't
+abbrev pub missing_said : Option (Result Question NoName) → List ℕ
+missing_said (Some (Err m)) = missing_text m
+missing_said _ = []
+
+-- the same of some texts, a line for each
+abbrev pub missing_lines : ProgramTable → List (List ℕ) → List ℕ
+missing_lines program texts = flat_map (λ text. missing_said (watched_of program text)) texts
+
+-- why some texts are not all questions on a program: this one is none; some name what it hasn't; memory was refused
+abbrev pub IsUnasked : ProgramTable → List (List ℕ) → Cause → Type 0
+IsUnasked program texts (NoQuestion text) = watched_of program text.now ≡ None
+IsUnasked program texts (Unnamed lines) = lines.items ≡ missing_lines program texts
+IsUnasked program texts (Stop stop) = stop ≡ Memory

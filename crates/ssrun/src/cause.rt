@@ -1,4 +1,5 @@
 use ss_host::Stop;
+use std::alloc::AllocError;
 
 /// Why no run is made.
 #[derive(Drop)]
@@ -9,4 +10,16 @@ pub enum Cause<'a> {
     NoQuestion(&'a str),
     /// Some questions name nothing of the model; these lines say which.
     Unnamed(Vec<u8>),
+}
+
+impl<'a> From<AllocError> for Cause<'a> {
+    ghost use Rattle.std.specs.Prelude.{◌≡◌};
+    ghost use Rattle.ss_host.specs.declared.stop.Stop.TheVariants.{Memory};
+    ghost use Rattle.ssrun.specs.declared.cause.Cause.TheVariants as causes;
+
+    ghost from_gives = { λ _ cause. cause ≡ causes.Stop Memory };
+
+    fn from(_error: AllocError) -> Cause<'a> {
+        Cause::Stop(Stop::Memory)
+    }
 }

@@ -1,5 +1,5 @@
-//! `ssrun [--watch QUESTION --trace FILE] MODEL [DATA]`: runs a model to its end and writes its
-//! report, and a trace of questions.
+//! `ssrun [--watch QUESTION --trace FILE] [--result QUESTION --results FILE] MODEL [DATA]`: runs a
+//! model to its end and writes its report, a trace of questions, and a row of results.
 #![tactic(auto)]
 
 ghost use Rattle.std.specs.Prelude.{◌≡◌};
@@ -18,42 +18,60 @@ use clap::Error;
 use clap::error::ErrorKind;
 use meter::Meter;
 use questions::read_questions;
-use ss_host::{Stop, Stream, read_arguments, read_file, read_or, stop_by, tell};
+use ss_host::{Stop, Stream, explain, read_arguments, read_file, read_or, stop_by, tell};
 use ss_run::{
-    RunCut, RunEnd, WholeRun, model_warnings, run_model, run_status, trace_model, unfit_words,
-    unnamed_questions,
+    Asked, RunCut, RunEnd, WholeRun, model_warnings, results_head, run_model, run_status,
+    trace_model, unfit_words,
 };
+use ss_session::{LoadFault, load_program};
 use ss_trace::Question;
 use std::alloc::Global;
-use std::io::{IsTerminal, Write};
+use std::fs::{self, File};
+use std::io::{self, IsTerminal, Write};
+use std::path::Path;
 use std::process::ExitCode;
-use std::{fs, io};
 use words::{Words, read_words};
 
 /// How a run ended, and the warnings of its model.
 type Ran = (Result<WholeRun, RunCut>, Vec<u8>);
 
 /// The words that the program takes.
-const USAGE: &str = "ssrun [--watch QUESTION --trace FILE] MODEL [DATA]";
+const USAGE: &str =
+    "ssrun [--watch QUESTION --trace FILE] [--result QUESTION --results FILE] MODEL [DATA]";
 
-/// The questions that are traced.
-fn watched<'a, R: AllocGlobal>(rt: &R, words: &Words<'a>) -> Result<Vec<Question>, Cause<'a>> {
-    match read_questions(rt.alloc(), &words.watched) {
-        Ok(Ok(questions)) => Ok(questions),
-        Ok(Err(text)) => Err(Cause::NoQuestion(text)),
-        Err(_) => Err(Cause::Stop(Stop::Memory)),
+/// The questions that some words name of a model; none if it is refused.
+fn questions_of<'a>(
+    alloc: Global,
+    model: &[u8],
+    texts: &[&'a str],
+) -> Result<Vec<Question>, Cause<'a>> {
+    if texts.is_empty() {
+        return Ok(Vec::new(alloc));
+    }
+    match load_program(alloc, model) {
+        Ok(program) => {
+            let questions = read_questions(alloc, &program, texts);
+            program.end();
+            questions
+        }
+        Err(LoadFault::Memory) => Err(Cause::Stop(Stop::Memory)),
+        Err(_) => Ok(Vec::new(alloc)),
     }
 }
 
-/// Refuses questions that name nothing of a model.
-fn check_names<'a>(alloc: Global, model: &[u8], questions: &[Question]) -> Result<(), Cause<'a>> {
-    if questions.is_empty() {
-        return Ok(());
+/// The name of the file of data, without its folder; empty if none is named.
+fn data_name<'a>(path: Option<&'a str>) -> &'a str {
+    match path {
+        Some(path) => Path::new(path).file_name().unwrap_or(path),
+        None => "",
     }
-    match unnamed_questions(alloc, model, questions) {
-        Ok(lines) if lines.is_empty() => Ok(()),
-        Ok(lines) => Err(Cause::Unnamed(lines)),
-        Err(_) => Err(Cause::Stop(Stop::Memory)),
+}
+
+/// A new file of this path.
+fn created<'a>(rt: &HostRuntime, path: &'a str) -> Result<File, Stop<'a>> {
+    match fs::create(rt, path) {
+        Ok(file) => Ok(file),
+        Err(error) => Err(stop_by(&error, Stop::CannotWrite)),
     }
 }
 
@@ -62,21 +80,17 @@ fn run_traced<'a>(
     rt: &HostRuntime,
     model: &[u8],
     input: &[u8],
-    questions: &[Question],
+    asked: Asked<'_>,
     path: &'a str,
 ) -> Result<Result<WholeRun, RunCut>, Stop<'a>> {
-    let file = match fs::create(rt, path) {
-        Ok(file) => file,
-        Err(error) => return Err(stop_by(&error, Stop::CannotWrite)),
-    };
-    let mut trace = Stream::new(file);
+    let mut trace = Stream::new(created(rt, path)?);
     let mut out = Stream::new(io::writer(rt));
     let mut meter = Meter::new(rt, rt.stderr().is_terminal());
     Ok(trace_model(
         rt.alloc(),
         model,
         input,
-        questions,
+        asked,
         &mut meter,
         &mut trace,
         &mut out,
@@ -84,31 +98,73 @@ fn run_traced<'a>(
 }
 
 /// Reads model and data, in that order, and runs the model where both were read and each question
-/// names something; gives its warnings too.
+/// is one on it; gives its warnings too.
 fn run<'a>(rt: &HostRuntime, words: &Words<'a>) -> Result<Ran, Cause<'a>> {
-    let questions = watched(rt, words)?;
     let model = read_file(rt, words.model).map_err(Cause::Stop)?;
     let input = read_or(rt, words.input, b"").map_err(Cause::Stop)?;
-    check_names(rt.alloc(), &model, &questions)?;
-    let outcome = run_over(rt, words, &questions, &model, &input).map_err(Cause::Stop)?;
+    let watched = questions_of(rt.alloc(), &model, &words.watched)?;
+    let results = questions_of(rt.alloc(), &model, &words.measured)?;
+    let asked = Asked {
+        watched: &watched,
+        name: data_name(words.input).as_bytes(),
+        results: &results,
+    };
+    let outcome = run_measured(rt, words, asked, &model, &input).map_err(Cause::Stop)?;
     let warnings = warnings_of(rt.alloc(), &model, &outcome);
     Ok((outcome, warnings))
+}
+
+/// Runs a model over its data, and writes its results if a file is named for them.
+fn run_measured<'a>(
+    rt: &HostRuntime,
+    words: &Words<'a>,
+    asked: Asked<'_>,
+    model: &[u8],
+    input: &[u8],
+) -> Result<Result<WholeRun, RunCut>, Stop<'a>> {
+    let Some(path) = words.results else {
+        return run_over(rt, words, asked, model, input);
+    };
+    let mut file = created(rt, path)?;
+    match run_over(rt, words, asked, model, input)? {
+        Ok(whole) => Ok(with_results(rt.alloc(), &mut file, asked.results, whole)),
+        Err(cut) => Ok(Err(cut)),
+    }
+}
+
+/// Writes the results of a run to a file: a row of names, and the row of the run. Of a refused model
+/// there are none.
+fn with_results(
+    alloc: Global,
+    file: &mut File,
+    questions: &[Question],
+    whole: WholeRun,
+) -> Result<WholeRun, RunCut> {
+    if whole.results.is_empty() {
+        return Ok(whole);
+    }
+    let mut table = results_head(alloc, questions)?;
+    table.extend_from_slice(&whole.results)?;
+    match file.write_all(&table) {
+        Ok(()) => Ok(whole),
+        Err(_) => Err(RunCut::Write),
+    }
 }
 
 /// Runs a model over its data, and traces it where that is asked for.
 fn run_over<'a>(
     rt: &HostRuntime,
     words: &Words<'a>,
-    questions: &[Question],
+    asked: Asked<'_>,
     model: &[u8],
     input: &[u8],
 ) -> Result<Result<WholeRun, RunCut>, Stop<'a>> {
     if let Some(path) = words.trace {
-        return run_traced(rt, model, input, questions, path);
+        return run_traced(rt, model, input, asked, path);
     }
     let mut out = Stream::new(io::writer(rt));
     let mut meter = Meter::new(rt, rt.stderr().is_terminal());
-    Ok(run_model(rt.alloc(), model, input, &mut meter, &mut out))
+    Ok(run_model(rt.alloc(), model, input, asked, &mut meter, &mut out))
 }
 
 /// What is suspicious in a model that was run; nothing where memory was refused.
@@ -126,7 +182,7 @@ fn warnings_of(alloc: Global, model: &[u8], outcome: &Result<WholeRun, RunCut>) 
 fn stopped<R: Eprint>(rt: &R, stop: Stop<'_>) -> u8
     ensures { result ≡ stop_status stop.entry }
 {
-    tell(rt, stop, USAGE);
+    explain(rt, stop, USAGE);
     stop.status()
 }
 

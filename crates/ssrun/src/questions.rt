@@ -1,35 +1,62 @@
 //! The questions that `--watch` names, as the prompt takes them (docs/PROMPT.md).
-ghost use Rattle.std.specs.Prelude.{◌≡◌, IfOk};
-ghost use Rattle.ssrun.specs.Questions.{question_of};
+ghost use Rattle.std.specs.Prelude.{◌≡◌, map, IfOk, IfErr};
+ghost use Rattle.ssrun.specs.Questions.{watched_by, watched_of, questions_of, IsUnasked};
 
-use ss_prompt::{PromptCommand, prompt_command};
+use crate::cause::Cause;
+use ss_program::Program;
+use ss_prompt::{Missing, PromptCommand, prompt_command, push_missing};
 use ss_run::push_question;
 use ss_trace::Question;
 use std::alloc::{AllocError, Global};
 
-/// The question that a text asks behind WHY at the prompt, if it asks one.
-fn question(alloc: Global, text: &[u8]) -> Result<Option<Question>, AllocError>
-    ensures { IfOk result (λ question. question ≡ question_of text.now) }
+/// What a command of the prompt asks that is WHY, or which of its names the model hasn't.
+fn watched_by(command: PromptCommand) -> Option<Result<Question, Missing>>
+    ensures { result ≡ watched_by command }
 {
-    let mut line = Vec::from_slice(alloc, b"WHY ")?;
-    line.extend_from_slice(text)?;
-    match prompt_command(&line) {
-        PromptCommand::Why(question) => Ok(Some(question)),
-        _ => Ok(None),
+    match command {
+        PromptCommand::Why(question) => Some(Ok(question)),
+        PromptCommand::Missing(missing) => Some(Err(missing)),
+        _ => None,
     }
 }
 
-/// The questions that some texts are, each once, or the first text that is none.
+/// The question that a text asks about a program after WHY at the prompt, or which of its names the
+/// program hasn't; none where it asks nothing.
+fn watched(
+    alloc: Global,
+    program: &Program,
+    text: &[u8],
+) -> Result<Option<Result<Question, Missing>>, AllocError>
+    ensures { IfOk result (λ asked. asked ≡ watched_of program.now text.now) }
+{
+    let mut line = Vec::from_slice(alloc, b"WHY ")?;
+    line.extend_from_slice(text)?;
+    Ok(watched_by(prompt_command(program, &line)))
+}
+
+/// The questions that some texts ask about a program, each once. The error is the first text that is
+/// no question; or else what is said of all names that the program hasn't, a line for each.
 pub fn read_questions<'a>(
     alloc: Global,
+    program: &Program,
     texts: &[&'a str],
-) -> Result<Result<Vec<Question>, &'a str>, AllocError> {
+) -> Result<Vec<Question>, Cause<'a>>
+    ensures asked { IfOk result (λ questions. questions.items
+        ≡ questions_of program.now (map (λ text. text.now) texts.now)) }
+    ensures unasked { IfErr result
+        (λ cause. IsUnasked program.now (map (λ text. text.now) texts.now) cause) }
+{
     let mut questions = Vec::new(alloc);
+    let mut lines = Vec::new(alloc);
     for text in texts {
-        match question(alloc, text.as_bytes())? {
-            Some(question) => push_question(&mut questions, question)?,
-            None => return Ok(Err(*text)),
+        match watched(alloc, program, text.as_bytes())? {
+            Some(Ok(question)) => push_question(&mut questions, question)?,
+            Some(Err(missing)) => push_missing(&mut lines, &missing)?,
+            None => return Err(Cause::NoQuestion(*text)),
         }
     }
-    Ok(Ok(questions))
+    if !lines.is_empty() {
+        return Err(Cause::Unnamed(lines));
+    }
+    Ok(questions)
 }

@@ -15,9 +15,13 @@ pub struct Words<'a> {
     pub watched: Vec<&'a str>,
     /// The path of their trace, where one is named.
     pub trace: Option<&'a str>,
+    /// The questions whose values in the last state are results.
+    pub measured: Vec<&'a str>,
+    /// The path of the results, if one is named.
+    pub results: Option<&'a str>,
 }
 
-/// The program, with the option that names a question.
+/// The program, with the option that names a question to be traced.
 fn with_watch<'a>(alloc: Global) -> Result<Command<'a>, Error> {
     let watch = Arg::new(alloc, "watch")
         .long("watch")
@@ -32,17 +36,42 @@ fn with_watch<'a>(alloc: Global) -> Result<Command<'a>, Error> {
     Ok(command)
 }
 
-/// The words that the program takes, for `--help` and the line that tells of wrong ones.
-///
-/// An argument is made where the program takes it, so that no end lets go of others.
-pub fn command<'a>(alloc: Global) -> Result<Command<'a>, Error> {
+/// The same, with the option that names a trace.
+fn with_trace<'a>(alloc: Global) -> Result<Command<'a>, Error> {
     let trace = Arg::new(alloc, "trace")
         .long("trace")
         .value_name("FILE")
         .requires_arg("watch")?
         .help("the path of the trace: comma-separated values, a row for each change");
-    let command = with_watch(alloc)?
-        .arg(trace)?
+    let command = with_watch(alloc)?.arg(trace)?;
+    Ok(command)
+}
+
+/// The same, with the option that names a result.
+fn with_result<'a>(alloc: Global) -> Result<Command<'a>, Error> {
+    let result = Arg::new(alloc, "result")
+        .long("result")
+        .value_name("QUESTION")
+        .action(ArgAction::Append)
+        .requires_arg("results")?
+        .help("a question whose value in the last state is a result; may be repeated");
+    let command = with_trace(alloc)?.arg(result)?;
+    Ok(command)
+}
+
+/// The words that the program takes, for `--help` and the line that tells of wrong ones.
+///
+/// An argument is made where the program takes it, so that no end lets go of others.
+pub fn command<'a>(alloc: Global) -> Result<Command<'a>, Error> {
+    let results = Arg::new(alloc, "results")
+        .long("results")
+        .value_name("FILE")
+        .requires_arg("result")?
+        .help(
+            "the path of the results: comma-separated values, a row of names and a row of values",
+        );
+    let command = with_result(alloc)?
+        .arg(results)?
         .arg(
             Arg::new(alloc, "MODEL")
                 .required(true)
@@ -52,18 +81,26 @@ pub fn command<'a>(alloc: Global) -> Result<Command<'a>, Error> {
     Ok(command)
 }
 
+/// The values of an option that may be repeated.
+fn all_of<'a>(alloc: Global, texts: Option<&[&'a str]>) -> Result<Vec<&'a str>, Error> {
+    match texts {
+        Some(texts) => Ok(texts.to_vec(alloc)?),
+        None => Ok(Vec::new(alloc)),
+    }
+}
+
 /// The words behind the program's name, or why they name no model: also where help or version is
 /// asked for.
 pub fn read_words<'a>(alloc: Global, arguments: &'a [String]) -> Result<Words<'a>, Error> {
     let matches = command(alloc)?.try_get_matches_from(arguments)?;
-    let watched = match matches.get_strs("watch") {
-        Some(texts) => texts.to_vec(alloc)?,
-        None => Vec::new(alloc),
-    };
+    let watched = all_of(alloc, matches.get_strs("watch"))?;
+    let measured = all_of(alloc, matches.get_strs("result"))?;
     Ok(Words {
         model: matches.get_str("MODEL").unwrap_or(""),
         input: matches.get_str("DATA"),
         watched,
         trace: matches.get_str("trace"),
+        measured,
+        results: matches.get_str("results"),
     })
 }

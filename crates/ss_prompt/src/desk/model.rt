@@ -4,14 +4,14 @@ ghost use Rattle.ss_debug.specs.Turn.{answer as plain_answer, debugger_state_aft
 ghost use Rattle.ss_debug.specs.View.{debugger_state_of};
 ghost use Rattle.ss_debug.specs.declared.commands.Command.TheVariants as plain;
 ghost use Rattle.ss_prompt.specs.Breaks.{breaks_said};
-ghost use Rattle.ss_prompt.specs.Listing.{lines_said, section_lines_said};
+ghost use Rattle.ss_prompt.specs.Listing.{lines_said, lines_between_said, section_lines_said};
 ghost use Rattle.ss_prompt.specs.Names.{names_said, warnings_said};
 ghost use Rattle.ss_prompt.specs.PromptState.{state_at};
 ghost use Rattle.ss_prompt.specs.Sections.{command_on, on_section_said, on_section_next};
 
 use crate::break_list::push_break_lines;
 use crate::desk::PromptDesk;
-use crate::listing::{push_lines_about, push_lines_to};
+use crate::listing::{push_lines_about, push_lines_between, push_lines_to};
 use crate::names::{push_names_said, push_warnings_said};
 use crate::sections::{head_line, last_line, line_of_section, present_line, push_no_section};
 use ss_debug::{Command, Debugger, GREATEST_LINE, Name, obey};
@@ -84,6 +84,21 @@ impl<'a> PromptDesk<'a> {
             Some(line) => push_lines_about(answer, &self.lines, present, line as usize),
             None => push_lines_about(answer, &self.lines, present, present),
         }
+    }
+
+    /// LIST, from one line to another.
+    pub(super) fn list_between<S: SetBoard>(
+        &self,
+        debugger: &Debugger<S>,
+        from: u32,
+        to: u32,
+        answer: &mut Vec<u8>,
+    ) -> Result<(), AllocError>
+        ensures { OnOk result (answer.new.items
+            ≡ answer.old.items ++ lines_between_said (state_at debugger.now self.now) from to) }
+    {
+        let present = present_line(debugger.machine());
+        push_lines_between(answer, &self.lines, present, from as usize, to as usize)
     }
 
     /// LIST of the section of this name.

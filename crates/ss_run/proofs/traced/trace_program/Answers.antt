@@ -14,4 +14,4 @@ returns-in_err-machine g c =
     record { taken = g.T.Outlet.taken c.args.trace.now; failures = g.T.Outlet.failures c.args.trace.now } in
     let t = input_with c.args.program c.args.data_text.now in
     let e : c.from_residual.result ≡ Err Memory = search rules in
-    rw e (inr (Memory, refl, (appends_none _, refl), nothing_traced t c.args.questions.now a a (appends_none _, refl)))
+    rw e (inr (Memory, refl, (appends_none _, refl), nothing_traced t c.args.asked.watched.now a a (appends_none _, refl)))

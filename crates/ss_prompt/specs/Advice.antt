@@ -1,0 +1,52 @@
+-- What is told of a line that is no command: the forms of its first word, or the nearest words.
+use Rattle.std.specs.Prelude.{ℕ, Bool, true, false, List, [], ◌∷◌, ◌++◌, take, codes, Option, Some, None, if◌then◌else◌}
+use Rattle.std.specs.List.{filter, list_all}
+use Rattle.std.specs.Char.{is_ascii_digit}
+use Rattle.ss_debug.specs.CommandLines.{command_words}
+use Rattle.ss_prompt.specs.Cuts.{begins, first_words}
+use Rattle.ss_prompt.specs.Help.{has_row, rows_of, help_rows}
+use Rattle.ss_prompt.specs.Words.{only_name_of}
+
+-- the first of some words, if it may be a name
+abbrev pub verb_of : List (List ℕ) → Option (List ℕ)
+verb_of [] = None
+verb_of (word ∷ more) = only_name_of (word ∷ [])
+
+-- whether some word is digits alone
+abbrev pub has_number : List (List ℕ) → Bool
+has_number [] = false
+has_number (word ∷ words) = if list_all is_ascii_digit word then true else has_number words
+
+-- the words that begin with a word's first two letters
+abbrev pub near_words : List ℕ → List (List ℕ)
+near_words word = filter (begins (take 2 word)) (command_words first_words)
+
+-- words, each behind a blank
+abbrev pub further_words : List (List ℕ) → List ℕ
+further_words [] = []
+further_words (word ∷ words) = 32 ∷ (word ++ further_words words)
+
+-- the nearest words, or where the commands are told
+abbrev pub near_text : List (List ℕ) → List ℕ
+near_text [] = codes "HELP TELLS THE COMMANDS.\n"
+near_text (word ∷ words) = codes "NEAREST: " ++ word ++ further_words words ++ 10 ∷ []
+
+-- from where to where numbers go, if there is one
+abbrev pub range_text : Bool → List ℕ
+range_text false = []
+range_text true =
+    codes "n and l are from 1 to 1000000; p, t and k are from 0 to 9223372036854775807\n"
+
+-- the forms of a word and the range of numbers, or the nearest words
+abbrev pub forms_or_near : List ℕ → Bool → List ℕ
+forms_or_near word numbered =
+    if has_row word help_rows then rows_of word help_rows ++ range_text numbered else near_text (near_words word)
+
+-- what is advised on a first word
+abbrev pub advice : Option (List ℕ) → Bool → List ℕ
+advice None numbered = near_text []
+advice (Some word) numbered = forms_or_near word numbered
+
+-- what is answered to a line that is no command, with this first word, with a number among its words or none
+unfoldable pub unread_text : Option (List ℕ) → Bool → List ℕ
+unread_text word numbered = codes "BAD COMMAND\n" ++ advice word numbered

@@ -1,0 +1,350 @@
+//! What stands behind the first word of a line is read.
+ghost use Rattle.std.specs.Prelude.{◌≡◌, ◌∷◌, [], codes};
+ghost use Rattle.ss_debug.specs.CommandLines.{command_words};
+ghost use Rattle.ss_prompt.specs.Words.{command_behind, only_name_of};
+ghost use Rattle.ss_prompt.specs.Reading.{made_or_bad, alone, over_of, back_over_of, back_to_of};
+ghost use Rattle.ss_prompt.specs.Reading.{go_command, back_command, list_command, names_command, help_command};
+ghost use Rattle.ss_prompt.specs.Reading.{run_command, sight_command, show_command, bare_command};
+ghost use Rattle.ss_prompt.specs.Reading.{seen_command, question_command, history_by, history_command};
+ghost use Rattle.ss_prompt.specs.Reading.{undisplay_command, lines_between};
+ghost use Rattle.ss_prompt.specs.Asked.{own_asked};
+ghost use Rattle.ss_prompt.specs.declared.commands.PromptCommand.TheVariants as prompt;
+ghost use Rattle.ss_trace.specs.declared.movement.Movement.TheVariants as trace;
+
+use crate::asked::{asked_in, own_asked};
+use crate::commands::PromptCommand;
+use crate::histories::{ROWS_UNLESS_SAID, with_rows};
+use crate::line::{command_behind, command_of_word, name_of_word, only_name};
+use crate::missing::{Missing, asked_of_program, bare, is_class, is_declared};
+use crate::pieces::next_word;
+use crate::seeing::sight;
+use crate::sight::Sight;
+use ss_debug::{Command, Movement as PlainMovement, Name};
+use ss_program::Program;
+use ss_trace::{Movement, Question};
+
+/// A command behind which no word may stand.
+pub(crate) fn alone(command: PromptCommand, rest: &[u8]) -> PromptCommand
+    ensures { result ≡ alone command (command_words rest.now) }
+{
+    if next_word(rest).is_some() {
+        return PromptCommand::Plain(Command::Bad);
+    }
+    command
+}
+
+/// OVER: so often as STEP makes steps.
+pub(crate) fn over(rest: &[u8]) -> PromptCommand
+    ensures { result ≡ over_of (command_behind (codes "STEP") (command_words rest.now)) }
+{
+    match command_behind(b"STEP", rest) {
+        Command::Move(PlainMovement::Step(n)) => PromptCommand::Travel(Movement::Over(n)),
+        _ => PromptCommand::Plain(Command::Bad),
+    }
+}
+
+/// BACK OVER: the same.
+fn back_over(rest: &[u8]) -> PromptCommand
+    ensures { result ≡ back_over_of (command_behind (codes "STEP") (command_words rest.now)) }
+{
+    match command_behind(b"STEP", rest) {
+        Command::Move(PlainMovement::Step(n)) => PromptCommand::Travel(Movement::BackOver(n)),
+        _ => PromptCommand::Plain(Command::Bad),
+    }
+}
+
+/// BACK TO: a time as RUN TO takes it.
+fn back_to(rest: &[u8]) -> PromptCommand
+    ensures { result ≡ back_to_of (command_behind (codes "RUN TO") (command_words rest.now)) }
+{
+    match command_behind(b"RUN TO", rest) {
+        Command::Move(PlainMovement::RunTo(time)) => PromptCommand::Travel(Movement::BackTo(time)),
+        _ => PromptCommand::Plain(Command::Bad),
+    }
+}
+
+/// What stands behind GO: END, or a position.
+pub(crate) fn go(rest: &[u8]) -> PromptCommand
+    ensures { result ≡ go_command (command_words rest.now) }
+{
+    let Some((word, more)) = next_word(rest) else {
+        return PromptCommand::Plain(Command::Bad);
+    };
+    if word == b"END".as_slice() {
+        return alone(PromptCommand::Travel(Movement::GoEnd), more);
+    }
+    match command_behind(b"RUN TO", rest) {
+        Command::Move(PlainMovement::RunTo(position)) => {
+            PromptCommand::Travel(Movement::Go(position))
+        }
+        _ => PromptCommand::Plain(Command::Bad),
+    }
+}
+
+/// RUN CHANGE: a question.
+fn run_change(program: &Program, rest: &[u8]) -> PromptCommand
+    ensures { result ≡ question_command program.now (λ x. prompt.Travel (trace.RunChange x))
+        (command_words rest.now) }
+{
+    match asked_in(program, rest) {
+        None => PromptCommand::Plain(Command::Bad),
+        Some(Ok(question)) => PromptCommand::Travel(Movement::RunChange(question)),
+        Some(Err(missing)) => PromptCommand::Missing(missing),
+    }
+}
+
+/// BACK CHANGE: the same.
+fn back_change(program: &Program, rest: &[u8]) -> PromptCommand
+    ensures { result ≡ question_command program.now (λ x. prompt.Travel (trace.BackChange x))
+        (command_words rest.now) }
+{
+    match asked_in(program, rest) {
+        None => PromptCommand::Plain(Command::Bad),
+        Some(Ok(question)) => PromptCommand::Travel(Movement::BackChange(question)),
+        Some(Err(missing)) => PromptCommand::Missing(missing),
+    }
+}
+
+/// What stands behind RUN.
+pub(crate) fn run(program: &Program, rest: &[u8]) -> PromptCommand
+    ensures { result ≡ run_command program.now (command_words rest.now) }
+{
+    let Some((word, more)) = next_word(rest) else {
+        return PromptCommand::Plain(Command::Bad);
+    };
+    if word == b"CHANGE".as_slice() {
+        return run_change(program, more);
+    }
+    PromptCommand::Plain(Command::Bad)
+}
+
+/// What stands behind SHOW that is no question: CHANGED, or what else is seen.
+fn sight_command(rest: &[u8]) -> PromptCommand
+    ensures { result ≡ sight_command (command_words rest.now) }
+{
+    let Some((word, more)) = next_word(rest) else {
+        return PromptCommand::Plain(Command::Bad);
+    };
+    if word == b"CHANGED".as_slice() {
+        return alone(PromptCommand::Changed, more);
+    }
+    match sight(rest) {
+        Some(sight) => PromptCommand::See(sight),
+        None => PromptCommand::Plain(Command::Bad),
+    }
+}
+
+/// A bare name: the entities of a class, or else a set or a variable.
+fn bare_command(program: &Program, name: Name) -> PromptCommand
+    ensures { result ≡ bare_command program.now name }
+{
+    if is_class(program, name.as_slice()) || !is_declared(program, name.as_slice()) {
+        return PromptCommand::See(Sight::Living(name));
+    }
+    PromptCommand::Ask(bare(program, name))
+}
+
+/// What is seen, where a bare name is what it is declared as.
+fn seen_command(program: &Program, command: PromptCommand) -> PromptCommand
+    ensures { result ≡ seen_command program.now command }
+{
+    match command {
+        PromptCommand::See(Sight::Living(name)) => bare_command(program, name),
+        other => other,
+    }
+}
+
+/// What stands behind SHOW that is none of docs/DEBUGGER.md: a question, or what else is seen.
+pub(crate) fn show(program: &Program, rest: &[u8]) -> PromptCommand
+    ensures { result ≡ show_command program.now (own_asked (command_words rest.now))
+        (command_words rest.now) }
+{
+    let Some(question) = own_asked(rest) else {
+        return seen_command(program, sight_command(rest));
+    };
+    match asked_of_program(program, question) {
+        Ok(question) => PromptCommand::Ask(question),
+        Err(missing) => PromptCommand::Missing(missing),
+    }
+}
+
+/// What stands behind WHY: a question.
+pub(crate) fn why(program: &Program, rest: &[u8]) -> PromptCommand
+    ensures { result ≡ question_command program.now prompt.Why (command_words rest.now) }
+{
+    match asked_in(program, rest) {
+        None => PromptCommand::Plain(Command::Bad),
+        Some(Ok(question)) => PromptCommand::Why(question),
+        Some(Err(missing)) => PromptCommand::Missing(missing),
+    }
+}
+
+/// HISTORY of the longest question, if its names are there, or else of the one with a number of
+/// rows.
+fn history_by(
+    longest: Option<Result<Question, Missing>>,
+    other: Option<(Result<Question, Missing>, u64)>,
+) -> PromptCommand
+    ensures { result ≡ history_by longest other }
+{
+    match longest {
+        Some(Ok(question)) => PromptCommand::History(question, ROWS_UNLESS_SAID),
+        Some(Err(missing)) => match other {
+            Some((asked, rows)) => match asked {
+                Ok(question) => PromptCommand::History(question, rows),
+                Err(_) => PromptCommand::Missing(missing),
+            },
+            None => PromptCommand::Missing(missing),
+        },
+        None => match other {
+            Some((asked, rows)) => match asked {
+                Ok(question) => PromptCommand::History(question, rows),
+                Err(missing) => PromptCommand::Missing(missing),
+            },
+            None => PromptCommand::Plain(Command::Bad),
+        },
+    }
+}
+
+/// What stands behind HISTORY: a question, and perhaps a number of rows.
+#[tactic(auto, unfolding(crate::specs::Reading::history_command))]
+pub(crate) fn history(program: &Program, rest: &[u8]) -> PromptCommand
+    ensures { result ≡ history_command program.now (command_words rest.now) }
+{
+    history_by(asked_in(program, rest), with_rows(program, rest))
+}
+
+/// What stands behind BACK.
+pub(crate) fn back(program: &Program, rest: &[u8]) -> PromptCommand
+    ensures { result ≡ back_command program.now (command_words rest.now) }
+{
+    let Some((word, more)) = next_word(rest) else {
+        return PromptCommand::Plain(Command::Bad);
+    };
+    if word == b"OVER".as_slice() {
+        return back_over(more);
+    }
+    if word == b"OUT".as_slice() {
+        return alone(PromptCommand::Travel(Movement::BackOut), more);
+    }
+    if word == b"TO".as_slice() {
+        return back_to(more);
+    }
+    if word == b"CHANGE".as_slice() {
+        return back_change(program, more);
+    }
+    PromptCommand::Plain(Command::Bad)
+}
+
+/// One word behind LIST: a line as BREAK takes it, or the name of a section.
+fn lines_of(word: &[u8]) -> PromptCommand
+    ensures { result ≡ list_command (word.now ∷ []) }
+{
+    match command_of_word(b"BREAK", word) {
+        Command::Break(line) => PromptCommand::Lines(Some(line)),
+        _ => match name_of_word(word) {
+            Some(name) => PromptCommand::SectionLines(name),
+            None => PromptCommand::Plain(Command::Bad),
+        },
+    }
+}
+
+/// The lines from one to another, each as BREAK takes it.
+fn lines_between(from: Command, to: Command) -> PromptCommand
+    ensures { result ≡ lines_between from to }
+{
+    match (from, to) {
+        (Command::Break(from), Command::Break(to)) if from <= to => {
+            PromptCommand::LinesBetween(from, to)
+        }
+        _ => PromptCommand::Plain(Command::Bad),
+    }
+}
+
+/// What stands behind LIST: nothing, a line as BREAK takes it, two of them, or the name of a
+/// section.
+pub(crate) fn list(rest: &[u8]) -> PromptCommand
+    ensures { result ≡ list_command (command_words rest.now) }
+{
+    let Some((word, more)) = next_word(rest) else {
+        return PromptCommand::Lines(None);
+    };
+    if next_word(more).is_none() {
+        return lines_of(word);
+    }
+    lines_between(
+        command_of_word(b"BREAK", word),
+        command_behind(b"BREAK", more),
+    )
+}
+
+/// What stands behind BREAK: the name of a section.
+pub(crate) fn break_section(rest: &[u8]) -> PromptCommand
+    ensures { result ≡ made_or_bad prompt.BreakSection (only_name_of (command_words rest.now)) }
+{
+    match only_name(rest) {
+        Some(name) => PromptCommand::BreakSection(name),
+        None => PromptCommand::Plain(Command::Bad),
+    }
+}
+
+/// What stands behind CLEAR: the same.
+pub(crate) fn clear_section(rest: &[u8]) -> PromptCommand
+    ensures { result ≡ made_or_bad prompt.ClearSection (only_name_of (command_words rest.now)) }
+{
+    match only_name(rest) {
+        Some(name) => PromptCommand::ClearSection(name),
+        None => PromptCommand::Plain(Command::Bad),
+    }
+}
+
+/// What stands behind DISPLAY: a question.
+pub(crate) fn display(program: &Program, rest: &[u8]) -> PromptCommand
+    ensures { result ≡ question_command program.now prompt.Display (command_words rest.now) }
+{
+    match asked_in(program, rest) {
+        None => PromptCommand::Plain(Command::Bad),
+        Some(Ok(question)) => PromptCommand::Display(question),
+        Some(Err(missing)) => PromptCommand::Missing(missing),
+    }
+}
+
+/// What stands behind UNDISPLAY: nothing, or a question.
+pub(crate) fn undisplay(program: &Program, rest: &[u8]) -> PromptCommand
+    ensures { result ≡ undisplay_command program.now (command_words rest.now) }
+{
+    if next_word(rest).is_none() {
+        return PromptCommand::Undisplay;
+    }
+    match asked_in(program, rest) {
+        None => PromptCommand::Plain(Command::Bad),
+        Some(Ok(question)) => PromptCommand::UndisplayOne(question),
+        Some(Err(missing)) => PromptCommand::Missing(missing),
+    }
+}
+
+/// What stands behind NAMES: nothing, or a name.
+pub(crate) fn names(rest: &[u8]) -> PromptCommand
+    ensures { result ≡ names_command (command_words rest.now) }
+{
+    if next_word(rest).is_none() {
+        return PromptCommand::Names(None);
+    }
+    match only_name(rest) {
+        Some(name) => PromptCommand::Names(Some(name)),
+        None => PromptCommand::Plain(Command::Bad),
+    }
+}
+
+/// What stands behind HELP: nothing, or a word; what is behind that does not count.
+pub(crate) fn help(rest: &[u8]) -> PromptCommand
+    ensures { result ≡ help_command (command_words rest.now) }
+{
+    let Some((word, _)) = next_word(rest) else {
+        return PromptCommand::Help(None);
+    };
+    match name_of_word(word) {
+        Some(name) => PromptCommand::Help(Some(name)),
+        None => PromptCommand::Plain(Command::Bad),
+    }
+}
