@@ -1,4 +1,4 @@
--- Neovim with nvim-dap: put this into your init.lua. Step back: require("dap").step_back(), .reverse_continue()
+-- Neovim with nvim-dap: put this into your init.lua. Back: require("dap").step_back(), .reverse_continue(), .goto_()
 local dap = require("dap")
 dap.adapters.ssdap = { type = "executable", command = "ssdap" }
 dap.configurations.simscript2 = {

@@ -4,3 +4,4 @@ pub mod Returns
 pub mod Consoles
 pub mod OneAnswer
 pub mod Launches
+pub mod LineStops

@@ -1,29 +1,31 @@
 -- Each request has one answer.
 use Rattle.std.proofs.Common.{ℕ, Bool, true, false, cond, nat_lt, nat_eq, List, [], ◌∷◌, ◌++◌, length, drop, codes}
-use Rattle.std.proofs.Common.{Option, Some, None}
+use Rattle.std.proofs.Common.{Option, Some, None, Result, Ok, Err}
 use Rattle.ss_program.specs.Program.{ProgramTable}
 use Rattle.ss_state.specs.Run.{Input}
 use Rattle.ss_debug.specs.Turn.{DebuggerState}
 use Rattle.ss_trace.specs.declared.question.Question.{Question}
 use Rattle.ss_prompt.specs.declared.commands.PromptCommand.{PromptCommand}
+use Rattle.ss_prompt.specs.declared.missing.Missing.{Missing as NoName}
 use Rattle.ss_prompt.specs.Points.{is_movement, point_of}
 use Rattle.ss_prompt.specs.Reading.{prompt_command_of}
 use Rattle.ss_state.specs.Run.{run}
 use Rattle.ss_messages.specs.declared.request.Command.{Command}
 use Rattle.ss_messages.specs.declared.request.Command.TheVariants.{ConfigurationDone, Obey, Ask, Source}
-use Rattle.ss_messages.specs.declared.request.Command.TheVariants.{ExceptionInfo, Terminate}
+use Rattle.ss_messages.specs.declared.request.Command.TheVariants.{ExceptionInfo, Goto, Terminate}
+use Rattle.ss_messages.specs.declared.counting.Counting.{Counting}
 use Rattle.ss_messages.specs.Messages.{Sent, reply, failure, event}
 use Rattle.ss_messages.specs.Bodies.{output_body, content_body, result_body, without_last}
 use Rattle.ss_adapter.specs.declared.going.Going.{Going}
 use Rattle.ss_trace.specs.Value.{value_at}
-use Rattle.ss_adapter.specs.Named.{is_named}
 use Rattle.ss_adapter.specs.Desk.{DeskView}
-use Rattle.ss_adapter.specs.Looking.{reason_at, hit_at, is_over, exception_by, question_of}
+use Rattle.ss_adapter.specs.Looking.{reason_at, hit_at, is_over, exception_by, asked_of}
 use Rattle.ss_adapter.specs.Going.{going_of, going_answer, state_behind, watched_by}
 use Rattle.ss_adapter.specs.Console.{point_told}
 use Rattle.ss_adapter.specs.Turn.{AdapterState, report_at, untold_output, stop_events, end_by, end_of}
 use Rattle.ss_adapter.specs.Turn.{behind_movement, behind_going, going_to_stop, point_behind, behind_command}
 use Rattle.ss_adapter.specs.Turn.{console_after, answer_to_question, answer_on_fault}
+use Rattle.ss_adapter.specs.Turn.{answer_to_goto, going_to_state}
 use Rattle.ss_adapter.specs.Turn.{answer_about_run, told_debugged, told_by, undebugged_count, answers_by, answer_to_configuration}
 use Rattle.ss_adapter.specs.Turn.{exit_events, stopped_event, reply_with_stop, reply_with_going, source_messages}
 use Rattle.ss_adapter.specs.Before.{answers_before, warning_events}
@@ -85,17 +87,17 @@ going_told state going answer =
 
 -- ---- what follows a command of the console
 
-point_is_told : (program : ProgramTable) (path : List ℕ) (line : ℕ) (new old : Bool) →
-    AreEvents (point_told program path line new old)
-point_is_told program path line true true = tt
-point_is_told program path line true false = tt
-point_is_told program path line false true = tt
-point_is_told program path line false false = tt
+point_is_told : (program : ProgramTable) (path : List ℕ) (counting : Counting) (line : ℕ) (new old : Bool) →
+    AreEvents (point_told program path counting line new old)
+point_is_told program path counting line true true = tt
+point_is_told program path counting line true false = tt
+point_is_told program path counting line false true = tt
+point_is_told program path counting line false false = tt
 
 line_told : (state : AdapterState) (command : PromptCommand) (line : Option ℕ) →
     AreEvents (point_behind state command line)
 line_told state command None = tt
-line_told state command (Some l) = point_is_told state.input.program state.desk.path l _ _
+line_told state command (Some l) = point_is_told state.input.program state.desk.path state.desk.counting l _ _
 
 command_told : (state : AdapterState) (command : PromptCommand) (moves : Bool) →
     AreEvents (behind_command state command moves)
@@ -105,11 +107,10 @@ command_told state command false = line_told state command (point_of state.input
 
 -- ---- a request
 
-question_answered : (input : Input) (p : ℕ) (question : Option Question) →
+question_answered : (input : Input) (p : ℕ) (question : Option (Result Question NoName)) →
     AreOneAnswer (answer_to_question input p question)
-question_answered input p (Some q) =
-    answer_by (is_named input.program q) (reply (result_body (value_at input q p)) ∷ [])
-    (failure (codes "nothing has this name") ∷ []) tt tt
+question_answered input p (Some (Ok q)) = tt
+question_answered input p (Some (Err m)) = tt
 question_answered input p None = tt
 
 fault_answered : (body : Option (List ℕ)) → AreOneAnswer (answer_on_fault body)
@@ -127,12 +128,22 @@ source_answered : (report : List ℕ) (reference : ℕ) → AreOneAnswer (source
 source_answered report reference =
     answer_by (nat_eq reference 1) (reply (content_body report) ∷ []) (failure (codes "no source") ∷ []) tt tt
 
+goto_answered : (state : AdapterState) (target : ℕ) → AreOneAnswer (answer_to_goto state target)
+goto_answered state target =
+    events_more (untold_output state.desk.told
+    (report_at state.input (state_behind state.input state.debugger (going_to_state target)))) _
+    (output_told state.desk.told
+    (report_at state.input (state_behind state.input state.debugger (going_to_state target)))) tt
+
 standing_answered : (state : AdapterState) (command : Command) → AreOneAnswer (told_debugged state command)
 unfolding told_debugged answer_about_run
 standing_answered state ConfigurationDone = configuration_answered state
+standing_answered state (Goto target) = goto_answered state target
 standing_answered state (Obey text) =
-    command_told state (prompt_command_of text) (is_movement (prompt_command_of text))
-standing_answered state (Ask text) = question_answered state.input state.debugger.position (question_of text)
+    command_told state (prompt_command_of state.input.program text)
+    (is_movement (prompt_command_of state.input.program text))
+standing_answered state (Ask text) =
+    question_answered state.input state.debugger.position (asked_of state.input.program text)
 standing_answered state (Source reference) = source_answered (report_at state.input state.debugger) reference
 standing_answered state ExceptionInfo =
     fault_answered (exception_by (run state.input state.debugger.position).status)

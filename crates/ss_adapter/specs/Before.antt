@@ -9,6 +9,7 @@ use Rattle.ss_session.specs.Model.{accepted, IsOutcome}
 use Rattle.ss_session.specs.Transcript.{refusal_line}
 use Rattle.ss_session.specs.declared.load.LoadFault.{LoadFault}
 use Rattle.ss_session.specs.declared.load.LoadFault.TheVariants.{Text, Check, Memory}
+use Rattle.ss_messages.specs.declared.counting.Counting.{Counting}
 use Rattle.ss_messages.specs.declared.request.Stops.{Stops}
 use Rattle.ss_messages.specs.declared.request.Command.{Command}
 use Rattle.ss_messages.specs.declared.request.Command.TheVariants.{Initialize, Disconnect, Terminate, Missing, Unknown}
@@ -23,7 +24,7 @@ use Rattle.ss_adapter.specs.Turn.{answer_to_terminate}
 
 -- what a request is answered with before a run is launched
 unfoldable pub answers_before : Command → List Sent
-answers_before Initialize = reply CAPABILITIES.now ∷ []
+answers_before (Initialize counting) = reply CAPABILITIES.now ∷ []
 answers_before Disconnect = reply (codes "{}") ∷ []
 answers_before Terminate = answer_to_terminate
 answers_before (Missing argument) = failure (wanted_text argument) ∷ []
@@ -46,7 +47,8 @@ answer_to_refused_launch line said =
     failure (without_last line) ∷ event (codes "output") (output_body (codes "stderr") (line ++ said)) ∷ []
 
 -- a debugger at the start of the run of a model over its data, and a desk on which nothing is set or told
-pub record IsLaunched (model text path : List ℕ) (stops : Stops) (debugger : DebuggerView) (k : DeskView) : Type 0 where
+pub record IsLaunched (model text path : List ℕ) (counting : Counting) (stops : Stops) (debugger : DebuggerView)
+    (k : DeskView) : Type 0 where
   -- the program is that of the model
   pub program : IsOutcome model (accepted debugger.machine.input.program)
   -- its run is the one over the data
@@ -62,6 +64,7 @@ pub record IsLaunched (model text path : List ℕ) (stops : Stops) (debugger : D
     sections = [];
     watched = [];
     told = 0;
+    counting = counting;
     stops = stops;
   }
 

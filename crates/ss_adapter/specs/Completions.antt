@@ -1,10 +1,13 @@
 -- The words that may stand where a word is typed in a line of the debugger.
-use Rattle.std.specs.Prelude.{ℕ, ◌-◌, Bool, true, false, List, [], ◌∷◌, ◌++◌, length, map, nat_eq, if◌then◌else◌}
+use Rattle.std.specs.Prelude.{ℕ, ◌+◌, ◌-◌, Bool, true, false, List, [], ◌∷◌, ◌++◌, length, map, nat_eq, if◌then◌else◌}
 use Rattle.std.specs.List.{starts_with, list_all}
 use Rattle.std.specs.Char.{to_ascii_uppercase}
 use Rattle.ss_program.specs.Program.{ProgramTable, ClassTable, SetTable}
 use Rattle.ss_inspect.specs.Frames.{locals_in}
+use Rattle.ss_messages.specs.Counting.{shown, meant}
 use Rattle.ss_messages.specs.Shown.{target_item}
+use Rattle.ss_messages.specs.Units.{within_units, count_units}
+use Rattle.ss_messages.specs.declared.counting.Counting.{Counting}
 use Rattle.ss_adapter.specs.declared.completions.TheConstants.{FIRST_WORDS, FURTHER_WORDS}
 use Rattle.ss_adapter.specs.Words.{before_word, last_word}
 
@@ -45,7 +48,17 @@ targets_by program section false typed column =
 abbrev pub is_first : List ℕ → Bool
 is_first text = list_all (λ b. nat_eq b 32) (before_word text)
 
--- those that begin with the last word of a text, in either case, which ends before a column
+-- those that begin with the last word of a text, in either case, which ends before a column, as the editor counts
 abbrev pub completions : ProgramTable → ℕ → List ℕ → ℕ → List ℕ
 completions program section text column =
     targets_by program section (is_first text) (map to_ascii_uppercase (last_word text)) column
+
+-- those of a text that is typed up to a column; past the text, its end is meant
+abbrev pub targets_typed : ProgramTable → ℕ → Counting → List ℕ → List ℕ
+targets_typed program section counting typed =
+    completions program section typed (shown counting.columns_from_one (count_units typed + 1))
+
+-- the same, of what stands of a text before a column, as the editor counts
+abbrev pub targets_before : ProgramTable → ℕ → Counting → List ℕ → ℕ → List ℕ
+targets_before program section counting text column =
+    targets_typed program section counting (within_units (meant counting.columns_from_one column - 1) text)

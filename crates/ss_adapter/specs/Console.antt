@@ -8,6 +8,7 @@ use Rattle.ss_debug.specs.BreakLines.{without_line}
 use Rattle.ss_debug.specs.CommandLines.{separates, line_separators}
 use Rattle.ss_messages.specs.Messages.{Sent, event}
 use Rattle.ss_messages.specs.Shown.{new_point_body, removed_point_body}
+use Rattle.ss_messages.specs.declared.counting.Counting.{Counting}
 use Rattle.ss_adapter.specs.declared.desk.TheConstants.{MOST_WATCHED}
 use Rattle.ss_adapter.specs.Desk.{DeskView}
 use Rattle.ss_adapter.specs.Places.{next_line}
@@ -22,11 +23,12 @@ abbrev pub has_place : ProgramTable → ℕ → Bool
 has_place program line = is_nearest line (next_line program line)
 
 -- what is told of a line, which is a break line now or not, and was one or not: its break point is new, or is removed
-abbrev pub point_told : ProgramTable → List ℕ → ℕ → Bool → Bool → List Sent
-point_told program path line true false =
-    event (codes "breakpoint") (new_point_body (line + MOST_WATCHED) (has_place program line) line path) ∷ []
-point_told program path line false true = event (codes "breakpoint") (removed_point_body (line + MOST_WATCHED)) ∷ []
-point_told program path line _ _ = []
+abbrev pub point_told : ProgramTable → List ℕ → Counting → ℕ → Bool → Bool → List Sent
+point_told program path counting line true false =
+    event (codes "breakpoint")
+    (new_point_body (line + MOST_WATCHED) (has_place program line) line path counting) ∷ []
+point_told program path counting line false true = event (codes "breakpoint") (removed_point_body (line + MOST_WATCHED)) ∷ []
+point_told program path counting line _ _ = []
 
 -- the break lines of requests, where a line became one, as if a request for lines had set it
 abbrev pub lines_behind : List ℕ → ℕ → Bool → Bool → List ℕ
@@ -49,6 +51,7 @@ desk_with desk line new old = record {
   sections = sections_behind desk.sections line new old;
   watched = desk.watched;
   told = desk.told;
+  counting = desk.counting;
   stops = desk.stops;
 }
 
@@ -62,6 +65,7 @@ desk_showing desk displays = record {
   sections = desk.sections;
   watched = desk.watched;
   told = desk.told;
+  counting = desk.counting;
   stops = desk.stops;
 }
 

@@ -1,6 +1,7 @@
 -- What the adapter keeps beside the debugger.
 use Rattle.std.specs.Prelude.{ℕ, List}
 use Rattle.ss_trace.specs.declared.question.Question.{Question}
+use Rattle.ss_messages.specs.declared.counting.Counting.{Counting}
 use Rattle.ss_messages.specs.declared.request.Stops.{Stops}
 
 -- what the adapter keeps beside the debugger
@@ -19,5 +20,7 @@ pub record DeskView : Type 0 where
   pub watched : List (List ℕ)
   -- how much of the report is told
   pub told : ℕ
+  -- from which numbers the editor counts lines and columns
+  pub counting : Counting
   -- whether configurationDone stops where the run stands, and whether the run stops at its end
   pub stops : Stops

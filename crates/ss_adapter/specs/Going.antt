@@ -1,5 +1,6 @@
 -- What the movements of a request are: those of the debugger, and no others.
 use Rattle.std.specs.Prelude.{ℕ, ◌&&◌, List, [], Option, Some, None, nat_le, slice_get, unwrap_or, if◌then◌else◌}
+use Rattle.ss_program.specs.Program.{ProgramTable}
 use Rattle.ss_state.specs.Run.{Input}
 use Rattle.ss_debug.specs.declared.limits.TheConstants.{GREATEST_BOUND}
 use Rattle.ss_debug.specs.declared.commands.Command.TheVariants.{Move}
@@ -61,13 +62,15 @@ change_going way place None = plain_going way
 change_going way place (Some x) = Watched place (change_movement way x)
 
 -- to the change of the data break point in this place
-abbrev pub watched_going : Way → List (List ℕ) → Option ℕ → Going
-watched_going way watched None = plain_going way
-watched_going way watched (Some place) = change_going way place (question_of (unwrap_or (slice_get watched place) []))
+abbrev pub watched_going : ProgramTable → Way → List (List ℕ) → Option ℕ → Going
+watched_going program way watched None = plain_going way
+watched_going program way watched (Some place) =
+    change_going way place (question_of program (unwrap_or (slice_get watched place) []))
 
 -- to where the run stops: with data break points it is RUN CHANGE or BACK CHANGE for the one whose change is nearest
 abbrev pub run_going : Input → DebuggerState → List (List ℕ) → Way → Going
-run_going input debugger watched way = watched_going way watched (nearest_place input debugger way watched)
+run_going input debugger watched way =
+    watched_going input.program way watched (nearest_place input debugger way watched)
 
 -- the movement of a stride: over what is called, or out of the section
 abbrev pub stride_movement : Stride → Movement
@@ -75,16 +78,16 @@ stride_movement stride.Over = Over 1
 stride_movement stride.Out = Out
 
 -- OVER or OUT, or to the change of the data break point that is nearest, where that is no further
-abbrev pub step_by : List (List ℕ) → Movement → Reach → Option Found → Going
-step_by watched movement reach None = Traced movement
-step_by watched movement reach (Some f) =
-    if f.reach.met && nat_le f.reach.steps reach.steps then watched_going way.Forward watched (Some f.place)
+abbrev pub step_by : ProgramTable → List (List ℕ) → Movement → Reach → Option Found → Going
+step_by program watched movement reach None = Traced movement
+step_by program watched movement reach (Some f) =
+    if f.reach.met && nat_le f.reach.steps reach.steps then watched_going program way.Forward watched (Some f.place)
     else Traced movement
 
 -- the same, by how far each leads
 abbrev pub step_going : Input → DebuggerState → List (List ℕ) → Movement → Going
 step_going input debugger watched movement =
-    step_by watched movement (movement_reach input debugger movement)
+    step_by input.program watched movement (movement_reach input debugger movement)
     (nearest (reaches input debugger way.Forward watched))
 
 -- the movement that a request asks for: OVER, STEP, OUT; BACK OVER, or BACK for a single step; GO 0

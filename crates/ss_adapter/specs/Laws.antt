@@ -1,7 +1,14 @@
--- A law of answers: each request has one.
-use Rattle.std.specs.Prelude.{ℕ, List, [], ◌∷◌}
+-- Laws: each request has one answer; a search for a line ends at the nearest state on it.
+use Rattle.std.specs.Prelude.{ℕ, ◌≤◌, List, [], ◌∷◌}
+use Rattle.ss_state.specs.declared.limits.TheConstants.{LAST_POSITION}
+use Rattle.ss_state.specs.Run.{Input}
+use Rattle.ss_debug.specs.declared.limits.TheConstants.{GREATEST_BOUND}
+use Rattle.ss_debug.specs.Move.{EndsAt, EndsBackAt}
+use Rattle.ss_debug.specs.Turn.{DebuggerState}
 use Rattle.ss_messages.specs.declared.request.Command.{Command}
 use Rattle.ss_messages.specs.Messages.{Sent, reply, failure, event}
+use Rattle.ss_adapter.specs.declared.reach.Way.TheVariants.{Forward, Back}
+use Rattle.ss_adapter.specs.Targets.{is_on_line, line_condition, line_end}
 use Rattle.ss_adapter.specs.Turn.{AdapterState, answers}
 use Rattle.ss_adapter.specs.Before.{answers_before, answer_to_launch, answer_to_refused_launch}
 
@@ -29,3 +36,13 @@ pub record HaveOneAnswer : Type 0 where
   pub accepted : (warnings : List ℕ) → AreOneAnswer (answer_to_launch warnings)
   -- where it is refused
   pub refused : (line said : List ℕ) → AreOneAnswer (answer_to_refused_launch line said)
+
+-- a search for a line ends at the nearest state on it, or at one of its bounds
+pub record SearchesEndNearest : Type 0 where
+  -- forward, where the run ends at the latest
+  pub forward : (input : Input) (debugger : DebuggerState) (line : ℕ) → debugger.position ≤ LAST_POSITION →
+      EndsAt input (line_condition input line) debugger.position GREATEST_BOUND (line_end input debugger Forward line)
+  -- back, at the earliest kept state at the latest
+  pub back : (input : Input) (debugger : DebuggerState) (line : ℕ) → debugger.earliest ≤ debugger.position →
+      EndsBackAt (is_on_line input line) debugger.earliest debugger.position GREATEST_BOUND
+      (line_end input debugger Back line)

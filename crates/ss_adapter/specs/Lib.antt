@@ -2,10 +2,10 @@ pub mod Desk
 pub mod Words
 pub mod Completions
 pub mod Places
-pub mod Named
 pub mod Looking
 pub mod Reach
 pub mod Going
+pub mod Targets
 pub mod Watch
 pub mod Console
 pub mod Turn

@@ -1,21 +1,23 @@
 -- What the debugger's states show: the bodies of replies, each read off one state of the run.
 use Rattle.std.specs.Prelude.{ℕ, Bool, true, false, not, ◌&&◌, List, ◌++◌, codes, nat_eq}
-use Rattle.std.specs.Prelude.{Option, Some, None, if◌then◌else◌, bytes_eq}
+use Rattle.std.specs.Prelude.{Option, Some, None, Result, Ok, Err, if◌then◌else◌, bytes_eq}
 use Rattle.std.specs.Option.{option_or}
 use Rattle.ss_words.specs.Faults.{run_fault_number}
 use Rattle.ss_sentences.specs.Wording.{fault_sentence}
 use Rattle.ss_state.specs.declared.status.Status.{Status}
 use Rattle.ss_state.specs.declared.status.Status.TheVariants.{Ready, Stopped, Finished, Faulted}
+use Rattle.ss_program.specs.Program.{ProgramTable}
 use Rattle.ss_state.specs.Run.{Input, run}
 use Rattle.ss_debug.specs.declared.commands.Command.{Command}
 use Rattle.ss_debug.specs.declared.commands.Command.TheVariants.{Show}
-use Rattle.ss_debug.specs.Command.{command_of}
 use Rattle.ss_debug.specs.Answer.{status_text}
 use Rattle.ss_debug.specs.Move.{is_on_break, line_at}
 use Rattle.ss_trace.specs.declared.question.Question.{Question}
 use Rattle.ss_trace.specs.declared.question.Question.TheVariants.{Shown}
 use Rattle.ss_prompt.specs.declared.commands.PromptCommand.{PromptCommand}
-use Rattle.ss_prompt.specs.declared.commands.PromptCommand.TheVariants.{Plain, Ask, Display}
+use Rattle.ss_prompt.specs.declared.commands.PromptCommand.TheVariants.{Plain, Ask, Display, Missing}
+use Rattle.ss_prompt.specs.declared.missing.Missing.{Missing as NoName}
+use Rattle.ss_prompt.specs.Missing.{asked_of_program}
 use Rattle.ss_prompt.specs.Reading.{prompt_command_of}
 use Rattle.ss_messages.specs.Bodies.{exception_body}
 use Rattle.ss_adapter.specs.Places.{line_id}
@@ -61,23 +63,36 @@ exception_by _ = None
 
 -- ---- questions
 
--- the question of a command of the debugger
-abbrev pub question_in : Command → Option Question
-question_in (Show q) = Some (Shown q)
-question_in _ = None
+-- the question of a command of the debugger, as a program has its names, or which of them it hasn't
+abbrev pub named_in : ProgramTable → Command → Option (Result Question NoName)
+named_in program (Show q) = Some (asked_of_program program (Shown q))
+named_in program _ = None
 
--- the question that a line of the prompt asks, or has answered at each stop
-abbrev pub question_asked : PromptCommand → Option Question
-question_asked (Plain command) = question_in command
-question_asked (Ask x) = Some x
-question_asked (Display x) = Some x
-question_asked _ = None
+-- the same of what a line of the prompt asks, or has answered at each stop
+abbrev pub named_by : ProgramTable → PromptCommand → Option (Result Question NoName)
+named_by program (Plain command) = named_in program command
+named_by program (Ask x) = Some (Ok x)
+named_by program (Display x) = Some (Ok x)
+named_by program (Missing m) = Some (Err m)
+named_by program _ = None
 
--- the question that an expression is: what may follow SHOW, the name of a variable, what may follow DISPLAY, or a line
--- of the prompt
-abbrev pub question_of : List ℕ → Option Question
-question_of text =
-    option_or (question_in (command_of (codes "SHOW " ++ text)))
-    (option_or (question_in (command_of (codes "SHOW VAR " ++ text)))
-    (option_or (question_asked (prompt_command_of (codes "DISPLAY " ++ text)))
-    (question_asked (prompt_command_of text))))
+-- the question that an expression is: what may follow DISPLAY, or a line of the prompt
+abbrev pub asked_of : ProgramTable → List ℕ → Option (Result Question NoName)
+asked_of program text =
+    option_or (named_by program (prompt_command_of program (codes "DISPLAY " ++ text)))
+    (named_by program (prompt_command_of program text))
+
+-- a question, if a program has its names
+abbrev pub known : Option (Result Question NoName) → Option Question
+known (Some (Ok x)) = Some x
+known _ = None
+
+-- the question that an expression is, if a program has its names
+abbrev pub question_of : ProgramTable → List ℕ → Option Question
+question_of program text = known (asked_of program text)
+
+-- why a text is no question on a program, if it is none
+abbrev pub question_fault : Option (Result Question NoName) → Option (List ℕ)
+question_fault None = Some (codes "no question")
+question_fault (Some (Err m)) = Some (codes "nothing has this name")
+question_fault (Some (Ok x)) = None

@@ -9,8 +9,11 @@ use Rattle.ss_debug.specs.BreakLines.{breaks_after_set, without_line}
 use Rattle.ss_debug.specs.Answer.{break_text}
 use Rattle.ss_debug.specs.Turn.{DebuggerState, debugger_state_with}
 use Rattle.ss_messages.specs.Bodies.{set_item, unset_item}
+use Rattle.ss_messages.specs.Counting.{meant}
+use Rattle.ss_messages.specs.declared.counting.Counting.{Counting}
 use Rattle.ss_messages.specs.declared.parts.LinePoint.{LinePoint}
 use Rattle.ss_adapter.specs.declared.desk.TheConstants.{MOST_WATCHED}
+use Rattle.ss_adapter.specs.declared.breaks.TheConstants.{UNHEEDED}
 
 -- the lines of the places of a section
 abbrev pub section_lines : SectionTable → List ℕ
@@ -46,9 +49,9 @@ pub record Setting : Type 0 where
   -- what the reply says of each
   pub text : List ℕ
 
--- a break line, or why it is none
-abbrev pub with_break : Setting → ℕ → Setting
-with_break setting line =
+-- a break line, or why it is none, to an editor that counts so
+abbrev pub with_break : Counting → Setting → ℕ → Setting
+with_break counting setting line =
     if bytes_eq (break_text setting.breaks line) (codes "TOO MANY BREAKS\n")
     then record {
       breaks = breaks_after_set setting.breaks line;
@@ -58,24 +61,29 @@ with_break setting line =
     else record {
       breaks = breaks_after_set setting.breaks line;
       set = setting.set ++ line ∷ [];
-      text = setting.text ++ set_item (line + MOST_WATCHED) line;
+      text = setting.text ++ set_item (line + MOST_WATCHED) line counting;
     }
 
 -- a break line, if there is one, or this reason why there is none
-abbrev pub with_next : List ℕ → Setting → Option ℕ → Setting
-with_next reason setting (Some line) = with_break setting line
-with_next reason setting None =
+abbrev pub with_next : Counting → List ℕ → Setting → Option ℕ → Setting
+with_next counting reason setting (Some line) = with_break counting setting line
+with_next counting reason setting None =
     record { breaks = setting.breaks; set = setting.set; text = setting.text ++ unset_item reason }
 
--- the break line for a line that the request names, if a place stands on it or behind it
-abbrev pub with_asked : ProgramTable → Setting → ℕ → Setting
-with_asked program setting line = with_next (codes "no statement stands here") setting (next_line program line)
+-- the break line for a line that the request names, if a place stands on it or after it
+abbrev pub with_asked : ProgramTable → Counting → Setting → ℕ → Setting
+with_asked program counting setting line =
+    with_next counting (codes "no statement stands here") setting
+    (next_line program (meant counting.lines_from_one line))
 
--- that for a break point of a request, if it stops each time
-abbrev pub with_point : ProgramTable → Setting → LinePoint → Setting
-with_point program setting point =
-    if point.is_plain then with_asked program setting point.line
-    else with_next (codes "conditions, counts of hits and messages are not heeded") setting None
+-- a break point that would not stop each time
+abbrev pub with_unheeded : Counting → Setting → Setting
+with_unheeded counting setting = with_next counting UNHEEDED.now setting None
+
+-- the break line for a break point of a request, if it stops each time
+abbrev pub with_point : ProgramTable → Counting → Setting → LinePoint → Setting
+with_point program counting setting point =
+    if point.is_plain then with_asked program counting setting point.line else with_unheeded counting setting
 
 -- the line of a place
 abbrev pub spot_line : Option Spot → Option ℕ
@@ -93,9 +101,11 @@ named_line program name =
     first_place_line (option_and_then (slice_get program.sections)
     (position (λ s. bytes_eq name s.name) program.sections))
 
--- the break line for a section that the request names
-abbrev pub with_named : ProgramTable → Setting → List ℕ → Setting
-with_named program setting name = with_next (codes "no section has this name") setting (named_line program name)
+-- the break line for a section that the request names, if it is to stop each time
+abbrev pub with_named : ProgramTable → Counting → Setting → Option (List ℕ) → Setting
+with_named program counting setting None = with_unheeded counting setting
+with_named program counting setting (Some name) =
+    with_next counting (codes "no section has this name") setting (named_line program name)
 
 -- break lines without those that an earlier request set
 abbrev pub without_lines : List ℕ → List ℕ → List ℕ
@@ -109,13 +119,15 @@ breaks_left breaks set kept = fold breaks_after_set (without_lines breaks set) k
 abbrev pub initial_setting : List ℕ → List ℕ → List ℕ → Setting
 initial_setting breaks set kept = record { breaks = breaks_left breaks set kept; set = []; text = [] }
 
--- the break lines behind a request that names lines
-abbrev pub setting_of : ProgramTable → List ℕ → List ℕ → List ℕ → List LinePoint → Setting
-setting_of program breaks set kept points = fold (with_point program) (initial_setting breaks set kept) points
+-- the break lines after a request that names lines
+abbrev pub setting_of : ProgramTable → Counting → List ℕ → List ℕ → List ℕ → List LinePoint → Setting
+setting_of program counting breaks set kept points =
+    fold (with_point program counting) (initial_setting breaks set kept) points
 
--- the break lines behind a request that names sections
-abbrev pub section_setting_of : ProgramTable → List ℕ → List ℕ → List ℕ → List (List ℕ) → Setting
-section_setting_of program breaks set kept names = fold (with_named program) (initial_setting breaks set kept) names
+-- the break lines after a request that names sections
+abbrev pub section_setting_of : ProgramTable → Counting → List ℕ → List ℕ → List ℕ → List (Option (List ℕ)) → Setting
+section_setting_of program counting breaks set kept names =
+    fold (with_named program counting) (initial_setting breaks set kept) names
 
 -- so many break points that are not set, for this reason
 abbrev pub unset_items : List ℕ → ℕ → List ℕ

@@ -42,7 +42,7 @@ reach_of input debugger way (Some x) = movement_reach input debugger (change_mov
 
 -- those of the questions of some texts
 abbrev pub reaches : Input → DebuggerState → Way → List (List ℕ) → List Reach
-reaches input debugger way texts = map (λ text. reach_of input debugger way (question_of text)) texts
+reaches input debugger way texts = map (λ text. reach_of input debugger way (question_of input.program text)) texts
 
 -- ---- the nearest
 

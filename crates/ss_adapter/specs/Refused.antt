@@ -1,28 +1,10 @@
 -- What explains the refusal of a model.
-use Rattle.std.specs.Prelude.{ℕ, ◌≡◌, Bool, List, [], ◌∷◌, ◌++◌, codes, if◌then◌else◌, nat_eq}
-use Rattle.std.specs.List.{list_any}
+use Rattle.std.specs.Prelude.{ℕ, ◌≡◌, List, []}
 use Rattle.ss_check.specs.CheckRules.{check_rule_code}
 use Rattle.ss_session.specs.declared.load.LoadFault.{LoadFault}
 use Rattle.ss_session.specs.declared.load.LoadFault.TheVariants.{Text, Check, Memory}
-use Rattle.ss_sentences.specs.Wording.{rule_sentence}
 use Rattle.ss_sentences.specs.Refusals.{IsSaid}
-use Rattle.ss_names.specs.Subjects.{breach_text}
-use Rattle.ss_prompt.specs.Source.{marked_line, source_lines}
-
--- whether a sentence has a blank for a word of the model: a brace (123)
-abbrev pub has_blank : List ℕ → Bool
-has_blank sentence = list_any (λ b. nat_eq b 123) sentence
-
--- the code of a rule before its sentence, if that has no blank
-abbrev pub rule_line : List ℕ → List ℕ → List ℕ
-rule_line code sentence = if has_blank sentence then [] else code ++ codes ": " ++ sentence ++ 10 ∷ []
-
--- what explains that a rule of the checker refuses a model at a line: the rule's sentence, the line as it is written,
--- and which name the breach is about
-abbrev pub check_explanation : List ℕ → List ℕ → ℕ → List ℕ
-check_explanation model code line =
-    rule_line code (rule_sentence code) ++ marked_line (source_lines model) (codes "> ") line
-    ++ breach_text model code line
+use Rattle.ss_prompt.specs.Explained.{check_explanation}
 
 -- what explains a refusal: where the text is refused, what is said of the word, its place, and what could be there
 abbrev pub IsExplained : LoadFault → List ℕ → List ℕ → Type 0

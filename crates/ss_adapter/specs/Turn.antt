@@ -1,6 +1,6 @@
 -- One turn of the adapter: what a request is answered with, and where it leads.
 use Rattle.std.specs.Prelude.{ℕ, ◌+◌, max, Bool, true, List, [], ◌∷◌, ◌++◌, codes, drop, length, take, nat_lt, nat_eq}
-use Rattle.std.specs.Prelude.{false, Option, Some, None, slice_get, if◌then◌else◌}
+use Rattle.std.specs.Prelude.{false, Option, Some, None, Result, Ok, Err, slice_get, if◌then◌else◌}
 use Rattle.ss_program.specs.Program.{ProgramTable}
 use Rattle.ss_state.specs.State.{State}
 use Rattle.ss_state.specs.Run.{Input, run}
@@ -11,6 +11,7 @@ use Rattle.ss_debug.specs.View.{DebuggerView, debugger_state_of}
 use Rattle.ss_trace.specs.declared.question.Question.{Question}
 use Rattle.ss_trace.specs.Value.{value_at}
 use Rattle.ss_prompt.specs.declared.commands.PromptCommand.{PromptCommand}
+use Rattle.ss_prompt.specs.declared.missing.Missing.{Missing as NoName}
 use Rattle.ss_prompt.specs.PromptState.{PromptState}
 use Rattle.ss_prompt.specs.Points.{is_movement, point_of}
 use Rattle.ss_prompt.specs.Prompting.{prompt_answer, prompt_state_after}
@@ -20,6 +21,7 @@ use Rattle.ss_messages.specs.declared.request.Command.{Command}
 use Rattle.ss_messages.specs.declared.request.Command.TheVariants.{Initialize, Launch, ConfigurationDone}
 use Rattle.ss_messages.specs.declared.request.Command.TheVariants.{SetBreakpoints, SetFunctionBreakpoints}
 use Rattle.ss_messages.specs.declared.request.Command.TheVariants.{SetDataBreakpoints, DataBreakpointInfo}
+use Rattle.ss_messages.specs.declared.request.Command.TheVariants.{GotoTargets, Goto}
 use Rattle.ss_messages.specs.declared.request.Command.TheVariants.{Threads, StackTrace, Scopes, Variables}
 use Rattle.ss_messages.specs.declared.request.Command.TheVariants.{Obey, Ask, Completions, Source}
 use Rattle.ss_messages.specs.declared.request.Command.TheVariants.{LoadedSources, ExceptionInfo}
@@ -34,16 +36,18 @@ use Rattle.ss_scopes.specs.Frames.{frames_page, frame_count}
 use Rattle.ss_scopes.specs.Variables.{scopes_text, variables_text}
 use Rattle.ss_adapter.specs.declared.fixed.TheConstants.{CAPABILITIES, THREADS, NO_EXIT}
 use Rattle.ss_adapter.specs.declared.setting.TheConstants.{MOST_POINTS}
-use Rattle.ss_trace.specs.declared.movement.Movement.TheVariants.{GoEnd}
+use Rattle.ss_adapter.specs.declared.turns.TheConstants.{ELSEWHERE}
+use Rattle.ss_messages.specs.declared.counting.Counting.{Counting}
+use Rattle.ss_trace.specs.declared.movement.Movement.TheVariants.{Go, GoEnd}
 use Rattle.ss_adapter.specs.declared.going.Going.{Going}
 use Rattle.ss_adapter.specs.declared.going.Going.TheVariants.{Traced}
 use Rattle.ss_adapter.specs.declared.turns.Further.{Further}
 use Rattle.ss_adapter.specs.declared.turns.Further.TheVariants as further
 use Rattle.ss_adapter.specs.declared.reach.Way.TheVariants.{Forward}
 use Rattle.ss_adapter.specs.Going.{going_of, run_going, state_behind, going_answer, watched_by}
-use Rattle.ss_adapter.specs.Looking.{reason_at, hit_at, is_over, exception_by, question_of}
-use Rattle.ss_adapter.specs.Named.{is_named}
-use Rattle.ss_adapter.specs.Completions.{completions}
+use Rattle.ss_adapter.specs.Looking.{reason_at, hit_at, is_over, exception_by, asked_of}
+use Rattle.ss_adapter.specs.Completions.{targets_before}
+use Rattle.ss_adapter.specs.Targets.{near_items}
 use Rattle.ss_adapter.specs.Console.{point_told, desk_with, desk_showing, first_line}
 use Rattle.ss_adapter.specs.Places.{Setting, setting_of, section_setting_of, unset_items}
 use Rattle.ss_adapter.specs.Watch.{watching_of, info_of}
@@ -74,6 +78,7 @@ told_with desk report = record {
   sections = desk.sections;
   watched = desk.watched;
   told = max desk.told (length report);
+  counting = desk.counting;
   stops = desk.stops;
 }
 
@@ -179,7 +184,7 @@ is_break_behind state command l = is_break_line (console_after state command).de
 abbrev pub point_behind : AdapterState → PromptCommand → Option ℕ → List Sent
 point_behind state command None = []
 point_behind state command (Some l) =
-    point_told state.input.program state.desk.path l (is_break_behind state command l)
+    point_told state.input.program state.desk.path state.desk.counting l (is_break_behind state command l)
     (is_break_line state.debugger.breaks l)
 
 -- what follows a command: behind a movement where it stopped, else whether a line has become a break line
@@ -194,12 +199,11 @@ abbrev pub answer_to_line : AdapterState → PromptCommand → List Sent
 answer_to_line state command =
     reply (result_body (console_answer state command)) ∷ behind_command state command (is_movement command)
 
--- a question that is answered: by its value, if it is one on the program
-abbrev pub answer_to_question : Input → ℕ → Option Question → List Sent
+-- a question that is answered: by its value, if the program has its names
+abbrev pub answer_to_question : Input → ℕ → Option (Result Question NoName) → List Sent
 answer_to_question input p None = failure (codes "no question") ∷ []
-answer_to_question input p (Some q) =
-    if is_named input.program q then reply (result_body (value_at input q p)) ∷ []
-    else failure (codes "nothing has this name") ∷ []
+answer_to_question input p (Some (Err m)) = failure (codes "nothing has this name") ∷ []
+answer_to_question input p (Some (Ok q)) = reply (result_body (value_at input q p)) ∷ []
 
 -- what is told of a fault
 abbrev pub answer_on_fault : Option (List ℕ) → List Sent
@@ -213,16 +217,17 @@ first_points n points = take n points
 -- the break lines behind a request
 abbrev pub setting_in : AdapterState → List LinePoint → Setting
 setting_in state points =
-    setting_of state.input.program state.debugger.breaks state.desk.set state.desk.sections
+    setting_of state.input.program state.desk.counting state.debugger.breaks state.desk.set state.desk.sections
     (first_points MOST_POINTS points)
 
 -- so many break points of a request that are not set, for this reason
 abbrev pub answer_unset : List ℕ → ℕ → List Sent
 answer_unset reason n = reply (list_body (codes "breakpoints") (unset_items reason n)) ∷ []
 
--- what a request is answered with that sets so many break points of another file than the model
-abbrev pub answers_elsewhere : ℕ → List Sent
-answers_elsewhere n = answer_unset (codes "another file than the model") n
+-- what a request is answered with that speaks of another file than the model: of its break points none is set
+abbrev pub answers_elsewhere : Command → List Sent
+answers_elsewhere (SetBreakpoints path points) = answer_unset ELSEWHERE.now (length points)
+answers_elsewhere other = failure ELSEWHERE.now ∷ []
 
 -- how many break points a request sets
 abbrev pub point_count : Command → Option ℕ
@@ -236,9 +241,10 @@ abbrev pub undebugged_count : AdapterState → Command → Option ℕ
 undebugged_count state command = if state.desk.stops.at_points then None else point_count command
 
 -- the break lines behind a request that names sections
-abbrev pub sections_in : AdapterState → List (List ℕ) → Setting
+abbrev pub sections_in : AdapterState → List (Option (List ℕ)) → Setting
 sections_in state names =
-    section_setting_of state.input.program state.debugger.breaks state.desk.sections state.desk.set names
+    section_setting_of state.input.program state.desk.counting state.debugger.breaks state.desk.sections state.desk.set
+    names
 
 -- the content of a source: the report is number 1
 abbrev pub source_messages : List ℕ → ℕ → List Sent
@@ -256,30 +262,45 @@ answer_to_configuration state =
     else reply_with_going state (codes "{}") (going_to_stop state)
 
 -- a page of the frames of a state, and how many there are
-abbrev pub answer_with_frames : Input → State → List ℕ → ℕ → ℕ → List Sent
-answer_with_frames input state path start levels =
-    reply (frames_body (frames_page input.program state path start levels) (frame_count state)) ∷ []
+abbrev pub answer_with_frames : Input → State → List ℕ → Counting → ℕ → ℕ → List Sent
+answer_with_frames input state path counting start levels =
+    reply (frames_body (frames_page input.program state path counting start levels) (frame_count state)) ∷ []
 
 -- the words that may stand where a word is typed, by the section that runs
-abbrev pub answer_with_completions : ProgramTable → State → List ℕ → ℕ → List Sent
-answer_with_completions program state text column =
-    reply (list_body (codes "targets") (completions program state.frame.section text column)) ∷ []
+abbrev pub answer_with_completions : ProgramTable → State → Counting → List ℕ → ℕ → List Sent
+answer_with_completions program state counting text column =
+    reply (list_body (codes "targets") (targets_before program state.frame.section counting text column)) ∷ []
+
+-- goto: to the state of a number, or to the end of the run, where that is before
+abbrev pub going_to_state : ℕ → Going
+going_to_state target = Traced (Go target)
+
+-- it stands there then
+abbrev pub answer_to_goto : AdapterState → ℕ → List Sent
+answer_to_goto state target =
+    reply (codes "{}")
+    ∷ untold_output state.desk.told
+    (report_at state.input (state_behind state.input state.debugger (going_to_state target)))
+    ++ stopped_event (codes "goto")
+    (without_last (going_answer state.input state.debugger (going_to_state target))) None ∷ []
 
 -- what a request is answered with that asks about the run
 unfoldable pub answer_about_run : AdapterState → Command → List Sent
-answer_about_run state Initialize = reply CAPABILITIES.now ∷ []
+answer_about_run state (Initialize counting) = reply CAPABILITIES.now ∷ []
 answer_about_run state (Launch model input stops) = failure (codes "a run is launched already") ∷ []
 answer_about_run state Threads = reply THREADS.now ∷ []
 answer_about_run state (StackTrace start levels) =
-    answer_with_frames state.input (run state.input state.debugger.position) state.desk.path start levels
+    answer_with_frames state.input (run state.input state.debugger.position) state.desk.path state.desk.counting start
+    levels
 answer_about_run state (Scopes frame) =
     reply (list_body (codes "scopes") (scopes_text state.input state.debugger.position frame)) ∷ []
 answer_about_run state (Variables wanted) =
     reply (list_body (codes "variables") (variables_text state.input state.debugger.position wanted)) ∷ []
 answer_about_run state (DataBreakpointInfo reference name) = reply (info_of state.input.program reference name) ∷ []
 answer_about_run state (Completions text column) =
-    answer_with_completions state.input.program (run state.input state.debugger.position) text column
-answer_about_run state (Ask text) = answer_to_question state.input state.debugger.position (question_of text)
+    answer_with_completions state.input.program (run state.input state.debugger.position) state.desk.counting text
+    column
+answer_about_run state (Ask text) = answer_to_question state.input state.debugger.position (asked_of state.input.program text)
 answer_about_run state (Source reference) = source_messages (report_at state.input state.debugger) reference
 answer_about_run state LoadedSources = reply (sources_body state.desk.path) ∷ []
 answer_about_run state ExceptionInfo = answer_on_fault (exception_by (run state.input state.debugger.position).status)
@@ -298,7 +319,10 @@ told_debugged state (SetFunctionBreakpoints names) =
 told_debugged state (SetDataBreakpoints ids) =
     reply (list_body (codes "breakpoints") (watching_of state.input.program ids).text) ∷ []
 told_debugged state ConfigurationDone = answer_to_configuration state
-told_debugged state (Obey text) = answer_to_line state (prompt_command_of text)
+told_debugged state (GotoTargets path line) =
+    reply (list_body (codes "targets") (near_items state.input state.debugger state.desk.counting line)) ∷ []
+told_debugged state (Goto target) = answer_to_goto state target
+told_debugged state (Obey text) = answer_to_line state (prompt_command_of state.input.program text)
 told_debugged state other = answer_about_run state other
 
 -- the same, where so many of them are not set, since the run is not debugged
@@ -354,6 +378,7 @@ behind_setting state setting = record {
     sections = state.desk.sections;
     watched = state.desk.watched;
     told = state.desk.told;
+    counting = state.desk.counting;
     stops = state.desk.stops;
   };
 }
@@ -371,6 +396,7 @@ behind_sections state setting = record {
     sections = setting.set;
     watched = state.desk.watched;
     told = state.desk.told;
+    counting = state.desk.counting;
     stops = state.desk.stops;
   };
 }
@@ -388,6 +414,7 @@ behind_watching state watched = record {
     sections = state.desk.sections;
     watched = watched;
     told = state.desk.told;
+    counting = state.desk.counting;
     stops = state.desk.stops;
   };
 }
@@ -405,6 +432,7 @@ once_configured state = record {
     sections = state.desk.sections;
     watched = state.desk.watched;
     told = state.desk.told;
+    counting = state.desk.counting;
     stops = record {
       at_start = true;
       at_points = state.desk.stops.at_points;
@@ -420,13 +448,19 @@ behind_configuring state =
     (if state.desk.stops.at_start then state
     else adapter_state_at state (state_behind state.input state.debugger (going_to_stop state)))
 
+-- after goto
+abbrev pub behind_goto : AdapterState → ℕ → AdapterState
+behind_goto state target =
+    adapter_state_at state (state_behind state.input state.debugger (going_to_state target))
+
 -- behind a request that asks for no movement, where all its break points may be set
 unfoldable pub left_debugged : AdapterState → Command → AdapterState
 left_debugged state (SetBreakpoints path points) = behind_setting state (setting_in state points)
 left_debugged state (SetFunctionBreakpoints names) = behind_sections state (sections_in state names)
 left_debugged state (SetDataBreakpoints ids) = behind_watching state (watching_of state.input.program ids).watched
 left_debugged state ConfigurationDone = behind_configuring state
-left_debugged state (Obey text) = behind_line state (prompt_command_of text)
+left_debugged state (Goto target) = behind_goto state target
+left_debugged state (Obey text) = behind_line state (prompt_command_of state.input.program text)
 left_debugged state other = state
 
 -- the same, where so many of them are not set: nothing changes

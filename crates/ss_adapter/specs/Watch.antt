@@ -13,8 +13,8 @@ use Rattle.ss_scopes.specs.declared.group.Group.TheVariants.{Globals, Sets, Even
 use Rattle.ss_scopes.specs.declared.group.Group.TheVariants.{Locals, Entity, Set}
 use Rattle.ss_scopes.specs.References.{group_of}
 use Rattle.ss_adapter.specs.declared.desk.TheConstants.{MOST_WATCHED}
-use Rattle.ss_adapter.specs.Looking.{question_of}
-use Rattle.ss_adapter.specs.Named.{question_fault}
+use Rattle.ss_adapter.specs.declared.breaks.TheConstants.{UNHEEDED}
+use Rattle.ss_adapter.specs.Looking.{asked_of, question_fault}
 use Rattle.ss_adapter.specs.Words.{last_word}
 
 -- ---- data break points of a request
@@ -42,12 +42,13 @@ with_question watching id None =
     }
     else with_refusal watching (codes "too many data break points")
 
--- one more
-unfoldable pub with_watched : ProgramTable → Watching → List ℕ → Watching
-with_watched program watching id = with_question watching id (question_fault program (question_of id))
+-- one more, if it is to stop each time
+unfoldable pub with_watched : ProgramTable → Watching → Option (List ℕ) → Watching
+with_watched program watching None = with_refusal watching UNHEEDED.now
+with_watched program watching (Some id) = with_question watching id (question_fault (asked_of program id))
 
 -- those of a request
-abbrev pub watching_of : ProgramTable → List (List ℕ) → Watching
+abbrev pub watching_of : ProgramTable → List (Option (List ℕ)) → Watching
 watching_of program ids = fold (with_watched program) (record { watched = []; text = [] }) ids
 
 -- what was set, and what is said of it
@@ -125,7 +126,7 @@ info_with text (Some reason) = no_info_body reason
 
 -- whether a text may be a data break point: where it is a question on the program
 abbrev pub info_by : ProgramTable → List ℕ → List ℕ
-info_by program text = info_with text (question_fault program (question_of text))
+info_by program text = info_with text (question_fault (asked_of program text))
 
 -- whether a name in a reference may be a data break point; without a reference it is an expression
 abbrev pub info_of : ProgramTable → ℕ → List ℕ → List ℕ

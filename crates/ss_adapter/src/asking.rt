@@ -1,12 +1,13 @@
 //! Requests that ask about the run.
-ghost use Rattle.std.specs.Prelude.{◌≡◌, ◌+◌, ◌-◌, ◌^◌, ◌<◌, ◌∷◌, [], codes, OnOk};
+ghost use Rattle.std.specs.Prelude.{◌≡◌, ◌+◌, ◌-◌, ◌^◌, ◌<◌, ◌∷◌, [], codes, IfOk, OnOk};
 ghost use Rattle.ss_machine.specs.Moment.{position};
 ghost use Rattle.ss_state.specs.Run.{run};
 ghost use Rattle.ss_debug.specs.View.{debugger_state_of};
 ghost use Rattle.ss_messages.specs.Bodies.{list_body};
 ghost use Rattle.ss_messages.specs.Messages.{posted_all, reply};
 ghost use Rattle.ss_scopes.specs.Variables.{scopes_text, variables_text};
-ghost use Rattle.ss_adapter.specs.Looking.{exception_by, question_of};
+ghost use Rattle.ss_adapter.specs.Looking.{exception_by, asked_of};
+ghost use Rattle.ss_adapter.specs.Completions.{targets_before};
 ghost use Rattle.ss_adapter.specs.Watch.{info_of};
 ghost use Rattle.ss_adapter.specs.Turn.{adapter_state_of, report_at, answer_to_question, answer_on_fault};
 ghost use Rattle.ss_adapter.specs.Turn.{source_messages, answer_with_frames, answer_with_completions};
@@ -15,20 +16,21 @@ ghost use Rattle.ss_adapter.specs.Turn.{answer_about_run, answer_to_terminate};
 use crate::completions::completions;
 use crate::desk::Desk;
 use crate::fixed::{CAPABILITIES, THREADS};
-use crate::looking::{exception, question};
-use crate::named::is_named;
+use crate::looking::{asked, exception};
+use crate::pen::Pen;
 use crate::telling::{tell_here, tell_over};
 use crate::watch::info;
 use ss_debug::Debugger;
 use ss_links::SetBoard;
 use ss_messages::{
-    Command, NOTHING, Post, Request, Wanted, content_body, frames_body, list_body, result_body,
-    sources_body,
+    Command, NOTHING, Post, Request, Source, Wanted, content_body, frames_body, list_body,
+    result_body, sources_body, units_within, within_units,
 };
 use ss_program::Program;
+use ss_prompt::Missing;
 use ss_scopes::{push_frames, push_scopes, push_variables, question_value};
 use ss_trace::Question;
-use std::alloc::AllocError;
+use std::alloc::{AllocError, Global};
 
 /// Answers a question, if there is one.
 #[tactic(auto, unfolding(ss_messages::specs::Messages::posted_all))]
@@ -36,18 +38,17 @@ fn answer_question<S: SetBoard>(
     debugger: &Debugger<S>,
     request: &Request,
     post: &mut Post,
-    question: Option<Question>,
+    question: Option<Result<Question, Missing>>,
 ) -> Result<(), AllocError>
     requires { post.old.sent < 2 ^ 64 - 1 }
     ensures { OnOk result (post.new ≡ posted_all request.now post.old
         (answer_to_question debugger.now.machine.input (position debugger.now.machine) question)) }
 {
-    let Some(question) = question else {
-        return post.fail(request, b"no question");
+    let question = match question {
+        None => return post.fail(request, b"no question"),
+        Some(Err(_)) => return post.fail(request, b"nothing has this name"),
+        Some(Ok(question)) => question,
     };
-    if !is_named(debugger.machine().program(), &question) {
-        return post.fail(request, b"nothing has this name");
-    }
     let value = question_value(post.alloc(), debugger, &question)?;
     let body = result_body(post.alloc(), &value)?;
     post.reply(request, &body)
@@ -63,9 +64,9 @@ fn ask<S: SetBoard>(
     requires { post.old.sent < 2 ^ 64 - 1 }
     ensures { OnOk result (post.new ≡ posted_all request.now post.old
         (answer_to_question debugger.now.machine.input (position debugger.now.machine)
-        (question_of text.now))) }
+        (asked_of debugger.now.machine.input.program text.now))) }
 {
-    let question = question(post.alloc(), text)?;
+    let question = asked(post.alloc(), debugger.machine().program(), text)?;
     answer_question(debugger, request, post, question)
 }
 
@@ -110,7 +111,7 @@ fn tell_source<S: SetBoard>(
 #[tactic(auto, unfolding(ss_messages::specs::Messages::posted_all))]
 fn tell_frames<S: SetBoard>(
     debugger: &Debugger<S>,
-    path: &[u8],
+    source: Source<'_>,
     request: &Request,
     post: &mut Post,
     start: u64,
@@ -119,7 +120,7 @@ fn tell_frames<S: SetBoard>(
     requires { post.old.sent < 2 ^ 64 - 1 }
     ensures { OnOk result (post.new ≡ posted_all request.now post.old (answer_with_frames
         debugger.now.machine.input (run debugger.now.machine.input (position debugger.now.machine))
-        path.now start levels)) }
+        source.entry.path.now source.entry.counting start levels)) }
 {
     let machine = debugger.machine();
     machine.known();
@@ -128,7 +129,7 @@ fn tell_frames<S: SetBoard>(
         post.alloc(),
         &mut text,
         machine,
-        path,
+        source,
         start as usize,
         levels as usize,
     )?;
@@ -191,10 +192,28 @@ fn tell_info(
     post.reply(request, &body)
 }
 
+/// The items of the words that may stand where a word is typed in a text, before a column.
+fn targets(
+    pen: Pen,
+    program: &Program,
+    section: usize,
+    text: &[u8],
+    column: u64,
+) -> Result<Vec<u8>, AllocError>
+    ensures { IfOk result (λ items. items.items
+        ≡ targets_before program.now section pen.counting text.now column) }
+{
+    let units = pen.counting.meant_column(column).saturating_sub(1);
+    let before = within_units(pen.alloc, text, units)?;
+    let end = pen.counting.shown_column(units_within(text, units) + 1);
+    completions(pen.alloc, program, section, &before, end)
+}
+
 /// Tells the words that may stand where a word is typed.
 #[tactic(auto, unfolding(ss_messages::specs::Messages::posted_all))]
 fn tell_completions<S: SetBoard>(
     debugger: &Debugger<S>,
+    pen: Pen,
     request: &Request,
     post: &mut Post,
     text: &[u8],
@@ -203,13 +222,14 @@ fn tell_completions<S: SetBoard>(
     requires { post.old.sent < 2 ^ 64 - 1 }
     ensures { OnOk result (post.new ≡ posted_all request.now post.old (answer_with_completions
         debugger.now.machine.input.program
-        (run debugger.now.machine.input (position debugger.now.machine)) text.now column)) }
+        (run debugger.now.machine.input (position debugger.now.machine)) pen.counting text.now
+        column)) }
 {
     let machine = debugger.machine();
     machine.known();
     let (section, _) = machine.place();
-    let items = completions(post.alloc(), machine.program(), section, text, column)?;
-    let body = list_body(post.alloc(), b"targets", &items)?;
+    let items = targets(pen, machine.program(), section, text, column)?;
+    let body = list_body(pen.alloc, b"targets", &items)?;
     post.reply(request, &body)
 }
 
@@ -236,11 +256,11 @@ pub fn look<S: SetBoard>(
         (answer_about_run (adapter_state_of debugger.now desk.now) request.now.command)) }
 {
     match &request.command {
-        Command::Initialize => post.reply(request, CAPABILITIES),
+        Command::Initialize(_) => post.reply(request, CAPABILITIES),
         Command::Launch(_, _, _) => post.fail(request, b"a run is launched already"),
         Command::Threads => post.reply(request, THREADS),
         Command::StackTrace(start, levels) => {
-            tell_frames(debugger, &desk.path, request, post, *start, *levels)
+            tell_frames(debugger, desk.source(), request, post, *start, *levels)
         }
         Command::Scopes(frame) => tell_scopes(debugger, request, post, *frame),
         Command::Variables(wanted) => tell_variables(debugger, request, post, *wanted),
@@ -249,7 +269,14 @@ pub fn look<S: SetBoard>(
             tell_info(program, request, post, *reference, name.as_slice())
         }
         Command::Completions(text, column) => {
-            tell_completions(debugger, request, post, text.as_slice(), *column)
+            tell_completions(
+                debugger,
+                desk.pen(post),
+                request,
+                post,
+                text.as_slice(),
+                *column,
+            )
         }
         Command::Ask(text) => ask(debugger, request, post, text.as_slice()),
         Command::Source(reference) => tell_source(debugger, request, post, *reference),

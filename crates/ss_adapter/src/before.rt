@@ -18,7 +18,7 @@ fn answer_before(request: &Request, post: &mut Post) -> Result<(), AllocError>
         ≡ posted_all request.now post.old (answers_before request.now.command)) }
 {
     match &request.command {
-        Command::Initialize => post.reply(request, CAPABILITIES),
+        Command::Initialize(_) => post.reply(request, CAPABILITIES),
         Command::Disconnect => post.reply(request, NOTHING),
         Command::Terminate => terminate(request, post),
         Command::Missing(argument) => post.fail(request, argument.wanted_text()),

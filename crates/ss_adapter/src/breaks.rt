@@ -10,11 +10,15 @@ ghost use Rattle.ss_adapter.specs.Places.{with_next, with_asked, with_point, wit
 ghost use Rattle.ss_adapter.specs.Places.{IsSetting};
 
 use crate::desk::MOST_WATCHED;
+use crate::pen::Pen;
 use ss_debug::{Command, Debugger, obey};
 use ss_links::SetBoard;
 use ss_messages::{LinePoint, Text, set_item, unset_item};
 use ss_program::{Program, Section, Spot};
 use std::alloc::{AllocError, Global};
+
+/// Why a break point is not set that would not stop each time.
+pub const UNHEEDED: &[u8] = b"conditions, counts of hits and messages are not heeded";
 
 /// The nearer of two lines, the first of which may be none, that are not before a line.
 fn nearer_line(from: u64, nearest: Option<u32>, line: usize) -> Option<u32>
@@ -167,7 +171,7 @@ pub fn push_all_unset(
 /// Sets a break line, if there is one, and tells where, or why not.
 #[tactic(auto, unfolding(ss_debug::proofs::Unfoldings::turns))]
 fn set_next<S: SetBoard>(
-    alloc: Global,
+    pen: Pen,
     debugger: &mut Debugger<S>,
     set: &mut Vec<u32>,
     text: &mut Vec<u8>,
@@ -176,30 +180,28 @@ fn set_next<S: SetBoard>(
 ) -> Result<(), AllocError>
     ensures input { debugger.new.machine.input ≡ debugger.old.machine.input }
     ensures state { OnOk result (IsSetting (debugger_state_of debugger.old)
-        (debugger_state_of debugger.new) set.new.items text.new.items (with_next reason.now
+        (debugger_state_of debugger.new) set.new.items text.new.items (with_next pen.counting
+        reason.now
         (record { breaks = debugger.old.breaks; set = set.old.items; text = text.old.items })
         next)) }
 {
     let Some(line) = next else {
-        return push_unset(alloc, text, reason);
+        return push_unset(pen.alloc, text, reason);
     };
-    let mut said = Vec::new(alloc);
+    let mut said = Vec::new(pen.alloc);
     obey(debugger, Command::Break(line), &mut said)?;
     if said.as_slice() == b"TOO MANY BREAKS\n".as_slice() {
-        return push_unset(alloc, text, b"too many break points");
+        return push_unset(pen.alloc, text, b"too many break points");
     }
     set.extend_from_slice(&[line])?;
-    let item = set_item(
-        alloc,
-        u64::from(line) + MOST_WATCHED as u64,
-        u64::from(line),
-    )?;
+    let line = u64::from(line);
+    let item = set_item(pen.alloc, line + MOST_WATCHED as u64, line, pen.counting)?;
     text.extend_from_slice(&item)
 }
 
 /// Sets the break line for a line that a request names.
 fn set_line<S: SetBoard>(
-    alloc: Global,
+    pen: Pen,
     debugger: &mut Debugger<S>,
     set: &mut Vec<u32>,
     text: &mut Vec<u8>,
@@ -208,24 +210,18 @@ fn set_line<S: SetBoard>(
     ensures input { debugger.new.machine.input ≡ debugger.old.machine.input }
     ensures state { OnOk result (IsSetting (debugger_state_of debugger.old)
         (debugger_state_of debugger.new) set.new.items text.new.items (with_asked
-        debugger.old.machine.input.program
+        debugger.old.machine.input.program pen.counting
         (record { breaks = debugger.old.breaks; set = set.old.items; text = text.old.items })
         asked)) }
 {
-    let next = next_line(debugger.machine().program(), asked);
-    set_next(
-        alloc,
-        debugger,
-        set,
-        text,
-        b"no statement stands here",
-        next,
-    )
+    let line = pen.counting.meant_line(asked);
+    let next = next_line(debugger.machine().program(), line);
+    set_next(pen, debugger, set, text, b"no statement stands here", next)
 }
 
 /// Sets the break line for a break point of a request, if it stops each time.
 fn set_point<S: SetBoard>(
-    alloc: Global,
+    pen: Pen,
     debugger: &mut Debugger<S>,
     set: &mut Vec<u32>,
     text: &mut Vec<u8>,
@@ -234,50 +230,42 @@ fn set_point<S: SetBoard>(
     ensures input { debugger.new.machine.input ≡ debugger.old.machine.input }
     ensures state { OnOk result (IsSetting (debugger_state_of debugger.old)
         (debugger_state_of debugger.new) set.new.items text.new.items (with_point
-        debugger.old.machine.input.program
+        debugger.old.machine.input.program pen.counting
         (record { breaks = debugger.old.breaks; set = set.old.items; text = text.old.items })
         point.now)) }
 {
     if point.is_plain {
-        return set_line(alloc, debugger, set, text, point.line);
+        return set_line(pen, debugger, set, text, point.line);
     }
-    push_unset(
-        alloc,
-        text,
-        b"conditions, counts of hits and messages are not heeded",
-    )
+    push_unset(pen.alloc, text, UNHEEDED)
 }
 
-/// Sets the break line for a section that a request names.
+/// Sets the break line for a section that a request names, if it is to stop each time.
 fn set_section<S: SetBoard>(
-    alloc: Global,
+    pen: Pen,
     debugger: &mut Debugger<S>,
     set: &mut Vec<u32>,
     text: &mut Vec<u8>,
-    name: &Text,
+    name: &Option<Text>,
 ) -> Result<(), AllocError>
     ensures input { debugger.new.machine.input ≡ debugger.old.machine.input }
     ensures state { OnOk result (IsSetting (debugger_state_of debugger.old)
         (debugger_state_of debugger.new) set.new.items text.new.items (with_named
-        debugger.old.machine.input.program
+        debugger.old.machine.input.program pen.counting
         (record { breaks = debugger.old.breaks; set = set.old.items; text = text.old.items })
         name.now)) }
 {
+    let Some(name) = name else {
+        return push_unset(pen.alloc, text, UNHEEDED);
+    };
     let next = named_line(debugger.machine().program(), name.as_slice());
-    set_next(
-        alloc,
-        debugger,
-        set,
-        text,
-        b"no section has this name",
-        next,
-    )
+    set_next(pen, debugger, set, text, b"no section has this name", next)
 }
 
 /// Sets the break lines of a request in place of those of an earlier one, keeps those that requests
 /// for sections set, and appends what the reply says of each.
 pub fn set_lines<S: SetBoard>(
-    alloc: Global,
+    pen: Pen,
     debugger: &mut Debugger<S>,
     set: &mut Vec<u32>,
     kept: &[u32],
@@ -288,12 +276,13 @@ pub fn set_lines<S: SetBoard>(
     ensures input { debugger.new.machine.input ≡ debugger.old.machine.input }
     ensures state { OnOk result (IsSetting (debugger_state_of debugger.old)
         (debugger_state_of debugger.new) set.new.items text.new.items (setting_of
-        debugger.old.machine.input.program debugger.old.breaks set.old.items kept.now points.now)) }
+        debugger.old.machine.input.program pen.counting debugger.old.breaks set.old.items kept.now
+        points.now)) }
 {
-    clear(alloc, debugger, set, kept)?;
+    clear(pen.alloc, debugger, set, kept)?;
     set.clear();
     for point in points {
-        set_point(alloc, debugger, set, text, point)?;
+        set_point(pen, debugger, set, text, point)?;
     }
     Ok(())
 }
@@ -301,23 +290,24 @@ pub fn set_lines<S: SetBoard>(
 /// Sets the break lines of the sections of a request in place of those of an earlier one, keeps
 /// those that requests for lines set, and appends what the reply says of each.
 pub fn set_sections<S: SetBoard>(
-    alloc: Global,
+    pen: Pen,
     debugger: &mut Debugger<S>,
     set: &mut Vec<u32>,
     kept: &[u32],
     text: &mut Vec<u8>,
-    names: &[Text],
+    names: &[Option<Text>],
 ) -> Result<(), AllocError>
     requires { text.old.items ≡ [] }
     ensures input { debugger.new.machine.input ≡ debugger.old.machine.input }
     ensures state { OnOk result (IsSetting (debugger_state_of debugger.old)
         (debugger_state_of debugger.new) set.new.items text.new.items (section_setting_of
-        debugger.old.machine.input.program debugger.old.breaks set.old.items kept.now names.now)) }
+        debugger.old.machine.input.program pen.counting debugger.old.breaks set.old.items kept.now
+        names.now)) }
 {
-    clear(alloc, debugger, set, kept)?;
+    clear(pen.alloc, debugger, set, kept)?;
     set.clear();
     for name in names {
-        set_section(alloc, debugger, set, text, name)?;
+        set_section(pen, debugger, set, text, name)?;
     }
     Ok(())
 }

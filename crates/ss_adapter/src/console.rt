@@ -15,7 +15,7 @@ use crate::desk::{Desk, MOST_WATCHED};
 use crate::telling::tell_movement;
 use ss_debug::{Debugger, split_line};
 use ss_links::SetBoard;
-use ss_messages::{Post, Request, new_point_body, removed_point_body, result_body};
+use ss_messages::{Post, Request, Source, new_point_body, removed_point_body, result_body};
 use ss_program::Program;
 use ss_prompt::{PromptCommand, answer_command, prompt_command};
 use std::alloc::{AllocError, Global};
@@ -69,7 +69,7 @@ fn note_break(desk: &mut Desk, line: u32, is_set: bool, was_set: bool) -> Result
 #[tactic(auto, unfolding(ss_messages::specs::Messages::posted_all))]
 fn tell_point(
     program: &Program,
-    path: &[u8],
+    source: Source<'_>,
     request: &Request,
     post: &mut Post,
     line: u32,
@@ -78,13 +78,13 @@ fn tell_point(
 ) -> Result<(), AllocError>
     requires { post.old.sent < 2 ^ 64 - 1 }
     ensures { OnOk result (post.new ≡ posted_all request.now post.old
-        (point_told program.now path.now line is_set was_set)) }
+        (point_told program.now source.entry.path.now source.entry.counting line is_set was_set)) }
 {
     let id = u64::from(line) + MOST_WATCHED as u64;
     let body = match (is_set, was_set) {
         (true, false) => {
             let has_place = has_place(program, line);
-            new_point_body(post.alloc(), id, has_place, u64::from(line), path)?
+            new_point_body(post.alloc(), id, has_place, u64::from(line), source)?
         }
         (false, true) => removed_point_body(post.alloc(), id)?,
         _ => return Ok(()),
@@ -193,7 +193,7 @@ fn obey_standing<S: SetBoard>(
     let is_set = is_break(alloc, debugger, line)?;
     note_break(desk, line, is_set, was_set)?;
     let program = debugger.machine().program();
-    tell_point(program, &desk.path, request, post, line, is_set, was_set)
+    tell_point(program, desk.source(), request, post, line, is_set, was_set)
 }
 
 /// Answers a line as the prompt does.
@@ -207,11 +207,13 @@ pub fn obey_line<S: SetBoard>(
     requires { post.old.sent + 3 < 2 ^ 64 - 1 }
     ensures input { debugger.new.machine.input ≡ debugger.old.machine.input }
     ensures sent { OnOk result (post.new ≡ posted_all request.now post.old
-        (answer_to_line (adapter_state_of debugger.old desk.old) (prompt_command_of line.now))) }
+        (answer_to_line (adapter_state_of debugger.old desk.old)
+        (prompt_command_of debugger.old.machine.input.program line.now))) }
     ensures state { OnOk result (adapter_state_of debugger.new desk.new
-        ≡ behind_line (adapter_state_of debugger.old desk.old) (prompt_command_of line.now)) }
+        ≡ behind_line (adapter_state_of debugger.old desk.old)
+        (prompt_command_of debugger.old.machine.input.program line.now)) }
 {
-    let command = prompt_command(line);
+    let command = prompt_command(debugger.machine().program(), line);
     if command.is_movement() {
         obey_movement(debugger, desk, request, post, command)
     } else {

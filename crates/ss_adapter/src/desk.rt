@@ -1,7 +1,8 @@
 //! What the adapter keeps beside the debugger.
 ghost use Rattle.std.specs.Prelude.{◌≡◌, []};
 
-use ss_messages::{Stops, Text};
+use crate::pen::Pen;
+use ss_messages::{Counting, Post, Source, Stops, Text};
 use ss_trace::Question;
 use std::alloc::Global;
 use std::marker::Model;
@@ -26,6 +27,8 @@ pub struct Desk {
     pub(crate) watched: Vec<Text>,
     /// How much of the report is told.
     pub(crate) told: usize,
+    /// From which numbers the editor counts lines and columns.
+    pub(crate) counting: Counting,
     /// Whether configurationDone stops where the run stands, and whether the run stops at its end.
     pub(crate) stops: Stops,
 }
@@ -43,6 +46,7 @@ impl Model for Desk {
       sections = k.sections.items;
       watched = k.watched.items;
       told = k.told;
+      counting = k.counting;
       stops = k.stops;
     } };
 }
@@ -55,8 +59,35 @@ impl Desk {
         &self.path
     }
 
+    /// The model, as the editor knows it.
+    pub(crate) fn source(&self) -> Source<'_>
+        ensures path { result.path.now ≡ self.now.path }
+        ensures counting { result.counting ≡ self.now.counting }
+    {
+        Source {
+            path: &self.path,
+            counting: self.counting,
+        }
+    }
+
+    /// What a reply of these messages is written with.
+    pub(crate) fn pen(&self, post: &Post) -> Pen
+        ensures { result.counting ≡ self.now.counting }
+    {
+        Pen {
+            alloc: post.alloc(),
+            counting: self.counting,
+        }
+    }
+
     /// Nothing is set or told yet.
-    pub fn new(alloc: Global, path: Vec<u8>, model: Vec<u8>, stops: Stops) -> Self
+    pub fn new(
+        alloc: Global,
+        path: Vec<u8>,
+        model: Vec<u8>,
+        counting: Counting,
+        stops: Stops,
+    ) -> Self
         ensures { result ≡ record {
           path = path.items;
           model = model.items;
@@ -65,6 +96,7 @@ impl Desk {
           sections = [];
           watched = [];
           told = 0;
+          counting = counting;
           stops = stops;
         } }
     {
@@ -76,6 +108,7 @@ impl Desk {
             sections: Vec::new(alloc),
             watched: Vec::new(alloc),
             told: 0,
+            counting,
             stops,
         }
     }

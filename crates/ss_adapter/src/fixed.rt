@@ -3,7 +3,7 @@
 /// What the adapter can do.
 pub const CAPABILITIES: &[u8] = b"{\"supportsConfigurationDoneRequest\":true,\
     \"supportsFunctionBreakpoints\":true,\"supportsDataBreakpoints\":true,\
-    \"supportsStepBack\":true,\"supportsSteppingGranularity\":true,\
+    \"supportsStepBack\":true,\"supportsGotoTargetsRequest\":true,\"supportsSteppingGranularity\":true,\
     \"supportsEvaluateForHovers\":true,\"supportsCompletionsRequest\":true,\
     \"supportsExceptionInfoRequest\":true,\"supportsLoadedSourcesRequest\":true,\
     \"supportsDelayedStackTraceLoading\":true,\"supportsRestartRequest\":true,\

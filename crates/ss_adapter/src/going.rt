@@ -10,6 +10,7 @@ use crate::reach::{Way, change_movement, movement_reach, nearest, nearest_place,
 use ss_debug::{Debugger, GREATEST_BOUND, obey};
 use ss_links::SetBoard;
 use ss_messages::{Command, Text};
+use ss_program::Program;
 use ss_trace::{Question, make_movement};
 use std::alloc::{AllocError, Global};
 
@@ -59,11 +60,12 @@ fn change_going(way: Way, place: usize, question: Option<Question>) -> Going
 /// The movement to the change of the data break point in this place.
 fn watched_going(
     alloc: Global,
+    program: &Program,
     way: Way,
     watched: &[Text],
     place: Option<usize>,
 ) -> Result<Going, AllocError>
-    ensures { IfOk result (λ going. going ≡ watched_going way watched.now place) }
+    ensures { IfOk result (λ going. going ≡ watched_going program.now way watched.now place) }
 {
     let Some(place) = place else {
         return Ok(plain_going(way));
@@ -72,7 +74,7 @@ fn watched_going(
         None => b"".as_slice(),
         Some(text) => text.as_slice(),
     };
-    Ok(change_going(way, place, question(alloc, text)?))
+    Ok(change_going(way, place, question(alloc, program, text)?))
 }
 
 /// The movement to where the run stops, or back to there: at a break line, or where the nearest of
@@ -92,7 +94,7 @@ pub fn run_going<S: SetBoard>(
         (debugger_state_of debugger.old) watched.now way) }
 {
     let place = nearest_place(alloc, debugger, way, watched)?;
-    watched_going(alloc, way, watched, place)
+    watched_going(alloc, debugger.machine().program(), way, watched, place)
 }
 
 /// A movement that a data break point may end.
@@ -134,7 +136,8 @@ fn step_going<S: SetBoard>(
     };
     let reach = movement_reach(alloc, debugger, stride_movement(stride))?;
     if found.reach.met && found.reach.steps <= reach.steps {
-        return watched_going(alloc, Way::Forward, watched, Some(found.place));
+        let program = debugger.machine().program();
+        return watched_going(alloc, program, Way::Forward, watched, Some(found.place));
     }
     Ok(Going::Traced(stride_movement(stride)))
 }

@@ -12,12 +12,13 @@ mod going;
 mod laws;
 mod looking;
 mod moving;
-mod named;
 mod opening;
+mod pen;
 mod reach;
 mod refused;
 mod setting;
 mod shown;
+mod targets;
 mod telling;
 mod turns;
 mod watch;
@@ -27,6 +28,7 @@ pub use before::turn_before;
 pub use desk::Desk;
 pub use laws::{
     each_request_has_one_answer, nearest_change_is_least, nearest_change_is_one_of_them,
+    searches_for_a_line_end_nearest,
 };
 pub use opening::launch;
 pub use turns::{Further, turn, turn_elsewhere};

@@ -4,16 +4,17 @@ ghost use Rattle.ss_debug.specs.Move.{line_at};
 ghost use Rattle.ss_machine.specs.Moment.{position};
 ghost use Rattle.ss_state.specs.Run.{run};
 ghost use Rattle.ss_adapter.specs.Looking.{reason_at, hit_at, is_end, is_over, exception_by};
-ghost use Rattle.ss_adapter.specs.Looking.{question_in, question_asked, question_of};
+ghost use Rattle.ss_adapter.specs.Looking.{named_in, named_by, asked_of, question_of, question_fault};
 ghost use Rattle.ss_adapter.specs.Places.{line_id};
 
 use crate::desk::MOST_WATCHED;
 use itoa::Buffer;
-use ss_debug::{Command, Debugger, command};
+use ss_debug::{Command, Debugger};
 use ss_links::SetBoard;
 use ss_machine::Machine;
 use ss_messages::exception_body;
-use ss_prompt::{PromptCommand, prompt_command};
+use ss_program::Program;
+use ss_prompt::{Missing, PromptCommand, asked_of_program, prompt_command};
 use ss_sentences::fault_sentence;
 use ss_state::Status;
 use ss_trace::Question;
@@ -117,23 +118,25 @@ pub fn exception<S: SetBoard>(
     }
 }
 
-/// The question of a command of the debugger.
-fn question_in(command: Command) -> Option<Question>
-    ensures { result ≡ question_in command }
+/// The question of a command of the debugger, as a program has its names, or which of them it
+/// hasn't.
+fn named_in(program: &Program, command: Command) -> Option<Result<Question, Missing>>
+    ensures { result ≡ named_in program.now command }
 {
     match command {
-        Command::Show(question) => Some(Question::Shown(question)),
+        Command::Show(question) => Some(asked_of_program(program, Question::Shown(question))),
         _ => None,
     }
 }
 
-/// The question that a line of the prompt asks, or has answered at each stop.
-fn question_asked(command: PromptCommand) -> Option<Question>
-    ensures { result ≡ question_asked command }
+/// The same of what a line of the prompt asks, or has answered at each stop.
+fn named_by(program: &Program, command: PromptCommand) -> Option<Result<Question, Missing>>
+    ensures { result ≡ named_by program.now command }
 {
     match command {
-        PromptCommand::Plain(command) => question_in(command),
-        PromptCommand::Ask(question) | PromptCommand::Display(question) => Some(question),
+        PromptCommand::Plain(command) => named_in(program, command),
+        PromptCommand::Ask(question) | PromptCommand::Display(question) => Some(Ok(question)),
+        PromptCommand::Missing(missing) => Some(Err(missing)),
         _ => None,
     }
 }
@@ -147,20 +150,43 @@ fn line_behind(alloc: Global, head: &'static [u8], text: &[u8]) -> Result<Vec<u8
     Ok(line)
 }
 
-/// The question that an expression is: what may follow SHOW, the name of a variable, what may follow
-/// DISPLAY, or a line of the prompt.
-pub fn question(alloc: Global, text: &[u8]) -> Result<Option<Question>, AllocError>
-    ensures { IfOk result (λ question. question ≡ question_of text.now) }
+/// The question that an expression is, as a program has its names, or which of them it hasn't: what
+/// may follow DISPLAY, or a line of the prompt.
+pub fn asked(
+    alloc: Global,
+    program: &Program,
+    text: &[u8],
+) -> Result<Option<Result<Question, Missing>>, AllocError>
+    ensures { IfOk result (λ asked. asked ≡ asked_of program.now text.now) }
 {
-    if let Some(question) = question_in(command(&line_behind(alloc, b"SHOW ", text)?)) {
-        return Ok(Some(question));
-    }
-    if let Some(question) = question_in(command(&line_behind(alloc, b"SHOW VAR ", text)?)) {
-        return Ok(Some(question));
-    }
     let line = line_behind(alloc, b"DISPLAY ", text)?;
-    if let Some(question) = question_asked(prompt_command(&line)) {
-        return Ok(Some(question));
+    if let Some(asked) = named_by(program, prompt_command(program, &line)) {
+        return Ok(Some(asked));
     }
-    Ok(question_asked(prompt_command(text)))
+    Ok(named_by(program, prompt_command(program, text)))
+}
+
+/// The same, if the program has its names.
+pub fn question(
+    alloc: Global,
+    program: &Program,
+    text: &[u8],
+) -> Result<Option<Question>, AllocError>
+    ensures { IfOk result (λ question. question ≡ question_of program.now text.now) }
+{
+    match asked(alloc, program, text)? {
+        Some(Ok(question)) => Ok(Some(question)),
+        _ => Ok(None),
+    }
+}
+
+/// Why a text is no question on a program, if it is none.
+pub fn question_fault(asked: &Option<Result<Question, Missing>>) -> Option<&'static [u8]>
+    ensures { option_map (λ text. text.now) result ≡ question_fault asked.now }
+{
+    match asked {
+        None => Some(b"no question"),
+        Some(Err(_)) => Some(b"nothing has this name"),
+        Some(Ok(_)) => None,
+    }
 }

@@ -12,7 +12,7 @@ use crate::desk::Desk;
 use crate::refused::explanation;
 use ss_debug::Debugger;
 use ss_links::LinkedSets;
-use ss_messages::{NOTHING, Post, Request, Stops, output_body, without_last};
+use ss_messages::{NOTHING, Post, Request, Source, Stops, output_body, without_last};
 use ss_names::{push_program_warnings, push_warnings};
 use ss_program::Program;
 use ss_session::{LoadFault, open_debugger, refusal_text};
@@ -100,13 +100,13 @@ fn tell_opened(
     accept(request, post, &text)
 }
 
-/// Launches the run of a model, whose path is told, over its data, and answers the request. `None`
+/// Launches the run of a model, as the editor knows it, over its data, and answers the request. `None`
 /// where the model is refused; the answer says why, and on which line. `AllocError` where memory
 /// was refused.
 pub fn launch(
     request: &Request,
     post: &mut Post,
-    path: &[u8],
+    source: Source<'_>,
     stops: Stops,
     model: &[u8],
     text: &[u8],
@@ -115,12 +115,14 @@ pub fn launch(
     ensures run { IfOk result (λ opened. MatchOption opened
         ((fault : LoadFault) × (fault ≢ Memory) × IsLoadFault fault model.now
         × IsRefusedLaunch fault model.now request.now post.old post.new)
-        (λ run. IsLaunched model.now text.now path.now stops run.0 run.1
+        (λ run. IsLaunched model.now text.now source.entry.path.now
+        source.entry.counting stops run.0 run.1
         × (post.new ≡ posted_all request.now post.old
         (answer_to_launch (warnings_told run.0.machine.input.program model.now))))) }
 {
     let alloc = post.alloc();
-    let desk = Desk::new(alloc, path.to_vec(alloc)?, model.to_vec(alloc)?, stops);
+    let path = source.path.to_vec(alloc)?;
+    let desk = Desk::new(alloc, path, model.to_vec(alloc)?, source.counting, stops);
     match open_debugger(alloc, model, text) {
         Ok(debugger) => match tell_opened(request, post, debugger.machine().program(), model) {
             Ok(()) => Ok(Some((debugger, desk))),

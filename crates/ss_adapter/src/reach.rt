@@ -61,7 +61,7 @@ fn steps_between(from: u64, to: u64) -> u64
 /// Goes to a position where the run has been. The states before it were ready, so the way forward
 /// leads there as the way back does.
 #[tactic(auto, using(crate::proofs::Returns::stands_at))]
-fn return_to<S: SetBoard>(
+pub fn return_to<S: SetBoard>(
     alloc: Global,
     debugger: &mut Debugger<S>,
     to: u64,
@@ -112,9 +112,10 @@ fn text_reach<S: SetBoard>(
     ensures state { OnOk result (debugger_state_of debugger.new
         ≡ debugger_state_of debugger.old) }
     ensures reach { IfOk result (λ reach. reach ≡ reach_of debugger.old.machine.input
-        (debugger_state_of debugger.old) way (question_of text.now)) }
+        (debugger_state_of debugger.old) way
+        (question_of debugger.old.machine.input.program text.now)) }
 {
-    match question(alloc, text)? {
+    match question(alloc, debugger.machine().program(), text)? {
         Some(question) => movement_reach(alloc, debugger, change_movement(way, question)),
         None => Ok(Reach {
             steps: GREATEST_BOUND + 1,

@@ -49,7 +49,7 @@ pub fn set_breaks<S: SetBoard>(
     let mut text = Vec::new(post.alloc());
     let asked = first_points(points, MOST_POINTS);
     set_lines(
-        post.alloc(),
+        desk.pen(post),
         debugger,
         &mut desk.set,
         &desk.sections,
@@ -85,7 +85,7 @@ pub fn set_section_breaks<S: SetBoard>(
     desk: &mut Desk,
     request: &Request,
     post: &mut Post,
-    names: &[Text],
+    names: &[Option<Text>],
 ) -> Result<(), AllocError>
     requires { post.old.sent < 2 ^ 64 - 1 }
     ensures input { debugger.new.machine.input ≡ debugger.old.machine.input }
@@ -98,7 +98,7 @@ pub fn set_section_breaks<S: SetBoard>(
 {
     let mut text = Vec::new(post.alloc());
     set_sections(
-        post.alloc(),
+        desk.pen(post),
         debugger,
         &mut desk.sections,
         &desk.set,
@@ -116,7 +116,7 @@ pub fn set_watch<S: SetBoard>(
     desk: &mut Desk,
     request: &Request,
     post: &mut Post,
-    ids: &[Text],
+    ids: &[Option<Text>],
 ) -> Result<(), AllocError>
     requires { post.old.sent < 2 ^ 64 - 1 }
     ensures sent { OnOk result (post.new ≡ posted_all request.now post.old (reply

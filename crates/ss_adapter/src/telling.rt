@@ -17,7 +17,7 @@ use std::alloc::{AllocError, Global};
 
 /// Sends the part of the report that is not told yet, and notes how much is.
 #[tactic(auto, unfolding(ss_messages::specs::Messages::posted_all))]
-fn tell_report<S: SetBoard>(
+pub fn tell_report<S: SetBoard>(
     debugger: &Debugger<S>,
     desk: &mut Desk,
     request: &Request,
@@ -43,7 +43,7 @@ fn tell_report<S: SetBoard>(
 
 /// Sends that the run stands where it is, for this reason, and at which break point, if it does at
 /// one.
-fn tell_stop(
+pub fn tell_stop(
     request: &Request,
     post: &mut Post,
     reason: &'static [u8],

@@ -10,6 +10,7 @@ use crate::desk::Desk;
 use crate::going::asked_movement;
 use crate::moving::{configure, go};
 use crate::setting::{refuse_points, set_breaks, set_section_breaks, set_watch};
+use crate::targets::{go_to, tell_targets};
 use ss_debug::Debugger;
 use ss_links::SetBoard;
 use ss_messages::{Command, Post, Request};
@@ -50,6 +51,8 @@ fn answer_debugged<S: SetBoard>(
             set_watch(debugger, desk, request, post, ids.as_slice())
         }
         Command::ConfigurationDone => configure(debugger, desk, request, post),
+        Command::GotoTargets(_, line) => tell_targets(debugger, desk, request, post, *line),
+        Command::Goto(target) => go_to(debugger, desk, request, post, *target),
         Command::Obey(text) => obey_line(debugger, desk, request, post, text.as_slice()),
         _ => look(debugger, desk, request, post),
     }
@@ -108,19 +111,33 @@ pub(crate) fn further_behind(command: &Command) -> Further
     }
 }
 
-/// One turn of a request that sets so many break points of another file than the model: none is set,
-/// and the run is not asked.
-pub fn turn_elsewhere(
-    request: &Request,
-    post: &mut Post,
-    count: usize,
-) -> Result<Further, AllocError>
+/// Why a request is not heeded that speaks of another file than the model.
+const ELSEWHERE: &[u8] = b"another file than the model";
+
+/// Answers a request that speaks of another file than the model: of its break points none is set.
+#[tactic(auto, unfolding(ss_messages::specs::Messages::posted_all))]
+fn refuse_elsewhere(request: &Request, post: &mut Post) -> Result<(), AllocError>
+    requires { post.old.sent < 2 ^ 64 - 1 }
+    ensures { OnOk result (post.new
+        ≡ posted_all request.now post.old (answers_elsewhere request.now.command)) }
+{
+    match &request.command {
+        Command::SetBreakpoints(_, points) => {
+            refuse_points(request, post, ELSEWHERE, points.as_slice().len())
+        }
+        _ => post.fail(request, ELSEWHERE),
+    }
+}
+
+/// One turn of a request that speaks of another file than the model: it is not heeded, and the run is
+/// not asked.
+pub fn turn_elsewhere(request: &Request, post: &mut Post) -> Result<Further, AllocError>
     requires { post.old.sent < 2 ^ 64 - 1 }
     ensures sent { OnOk result (post.new
-        ≡ posted_all request.now post.old (answers_elsewhere count)) }
+        ≡ posted_all request.now post.old (answers_elsewhere request.now.command)) }
     ensures further { IfOk result (λ further. further ≡ further_of request.now.command) }
 {
-    refuse_points(request, post, b"another file than the model", count)?;
+    refuse_elsewhere(request, post)?;
     Ok(further_behind(&request.command))
 }
 

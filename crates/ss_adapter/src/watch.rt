@@ -1,13 +1,11 @@
 //! The questions that are data break points.
 ghost use Rattle.std.specs.Prelude.{◌≡◌, [], option_map, IfOk, OnOk};
-ghost use Rattle.ss_adapter.specs.Looking.{question_of};
-ghost use Rattle.ss_adapter.specs.Named.{question_fault};
+ghost use Rattle.ss_adapter.specs.Looking.{asked_of, question_fault};
 ghost use Rattle.ss_adapter.specs.Watch.{with_watched, watching_of, IsWatching, info_by, info_of};
 
-use crate::breaks::push_unset;
+use crate::breaks::{UNHEEDED, push_unset};
 use crate::desk::MOST_WATCHED;
-use crate::looking::question;
-use crate::named::question_fault;
+use crate::looking::{asked, question_fault};
 use crate::shown::asked_text;
 use ss_messages::{Text, info_body, no_info_body, watched_item};
 use ss_program::Program;
@@ -21,24 +19,27 @@ fn text_fault(
     text: &[u8],
 ) -> Result<Option<&'static [u8]>, AllocError>
     ensures { IfOk result (λ fault. option_map (λ reason. reason.now) fault
-        ≡ question_fault program.now (question_of text.now)) }
+        ≡ question_fault (asked_of program.now text.now)) }
 {
-    let question = question(alloc, text)?;
-    Ok(question_fault(program, &question))
+    let asked = asked(alloc, program, text)?;
+    Ok(question_fault(&asked))
 }
 
-/// Sets a data break point that a request names, or tells why not.
+/// Sets a data break point that a request names, if it is to stop each time, or tells why not.
 #[tactic(auto, unfolding(crate::specs::Watch::with_watched))]
 fn watch_one(
     alloc: Global,
     program: &Program,
     watched: &mut Vec<Text>,
     text: &mut Vec<u8>,
-    id: &Text,
+    id: &Option<Text>,
 ) -> Result<(), AllocError>
     ensures { OnOk result (IsWatching watched.new.items text.new.items (with_watched program.now
         (record { watched = watched.old.items; text = text.old.items }) id.now)) }
 {
+    let Some(id) = id else {
+        return push_unset(alloc, text, UNHEEDED);
+    };
     if let Some(reason) = text_fault(alloc, program, id.as_slice())? {
         return push_unset(alloc, text, reason);
     }
@@ -57,7 +58,7 @@ pub fn watch(
     program: &Program,
     watched: &mut Vec<Text>,
     text: &mut Vec<u8>,
-    ids: &[Text],
+    ids: &[Option<Text>],
 ) -> Result<(), AllocError>
     requires { text.old.items ≡ [] }
     ensures { OnOk result (IsWatching watched.new.items text.new.items

@@ -2,6 +2,8 @@
 use Rattle.std.specs.Prelude.{ℕ, ◌-◌, ◌==◌, List, [], ◌∷◌, ◌++◌, codes, decimal, drop, take, length, Option, Some, None}
 use Rattle.std.specs.Prelude.{if◌then◌else◌}
 use Rattle.ss_messages.specs.Escapes.{quoted_bytes, quoted_text}
+use Rattle.ss_messages.specs.Counting.{shown}
+use Rattle.ss_messages.specs.declared.counting.Counting.{Counting}
 
 -- a text without the byte at its end, which is a line feed
 abbrev pub without_last : List ℕ → List ℕ
@@ -70,16 +72,25 @@ variable_item name value reference =
     codes ",{\"name\":" ++ quoted_bytes name ++ codes ",\"value\":" ++ quoted_bytes value
     ++ codes ",\"variablesReference\":" ++ decimal reference ++ codes "}"
 
--- a comma and a frame: its number, its section and its line of the model
-unfoldable pub frame_item : ℕ → List ℕ → ℕ → List ℕ → List ℕ
-frame_item n name line path =
-    codes ",{\"id\":" ++ decimal n ++ codes ",\"name\":" ++ quoted_bytes name ++ codes ",\"line\":" ++ decimal line
-    ++ codes ",\"column\":1,\"source\":" ++ source_text path ++ codes "}"
+-- a comma and a frame: its number, its section, and the start of its line of the model
+unfoldable pub frame_item : ℕ → List ℕ → ℕ → List ℕ → Counting → List ℕ
+frame_item n name line path counting =
+    codes ",{\"id\":" ++ decimal n ++ codes ",\"name\":" ++ quoted_bytes name
+    ++ codes ",\"line\":" ++ decimal (shown counting.lines_from_one line)
+    ++ codes ",\"column\":" ++ decimal (shown counting.columns_from_one 1)
+    ++ codes ",\"source\":" ++ source_text path ++ codes "}"
 
--- a comma and a break point of this number that is set on a line
-unfoldable pub set_item : ℕ → ℕ → List ℕ
-set_item id line =
-    codes ",{\"id\":" ++ decimal id ++ codes ",\"verified\":true,\"line\":" ++ decimal line ++ codes "}"
+-- a comma and a break point of this number that is set on a line of the model
+unfoldable pub set_item : ℕ → ℕ → Counting → List ℕ
+set_item id line counting =
+    codes ",{\"id\":" ++ decimal id
+    ++ codes ",\"verified\":true,\"line\":" ++ decimal (shown counting.lines_from_one line) ++ codes "}"
+
+-- a comma and a state as a target of goto: its number, what is said of it, and its line, as the editor counts
+unfoldable pub state_item : ℕ → List ℕ → ℕ → List ℕ
+state_item id label line =
+    codes ",{\"id\":" ++ decimal id ++ codes ",\"label\":" ++ quoted_bytes label
+    ++ codes ",\"line\":" ++ decimal line ++ codes "}"
 
 -- a comma and a data break point of this number that is set
 unfoldable pub watched_item : ℕ → List ℕ

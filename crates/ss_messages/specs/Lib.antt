@@ -2,6 +2,8 @@ pub mod Escapes
 pub mod Frames
 pub mod Messages
 pub mod Missing
+pub mod Counting
+pub mod Units
 pub mod Requests
 pub mod Bodies
 pub mod Shown

@@ -2,6 +2,7 @@
 use Rattle.std.specs.Prelude.{ℕ, List, codes}
 use Rattle.ss_messages.specs.declared.missing.Argument.{Argument}
 use Rattle.ss_messages.specs.declared.missing.Argument.TheVariants.{Model, Expression, Name, Typed, Column}
+use Rattle.ss_messages.specs.declared.missing.Argument.TheVariants.{Line, Target}
 
 -- which argument is missing, and what it must be
 abbrev pub wanted_text : Argument → List ℕ
@@ -10,3 +11,5 @@ wanted_text Expression = codes "expression: a text is wanted"
 wanted_text Name = codes "name: a text is wanted"
 wanted_text Typed = codes "text: a text is wanted"
 wanted_text Column = codes "column: a number is wanted"
+wanted_text Line = codes "line: a number is wanted"
+wanted_text Target = codes "targetId: a number is wanted"

@@ -1,6 +1,6 @@
 -- What a message asks for.
-use Rattle.std.specs.Prelude.{ℕ, ◌+◌, ◌-◌, Bool, true, false, not, ◌&&◌, List, [], ◌∷◌, codes, Option, Some, None}
-use Rattle.std.specs.Prelude.{option_and_then, unwrap_or, nat_le, nat_lt, if◌then◌else◌}
+use Rattle.std.specs.Prelude.{ℕ, Bool, true, false, not, ◌&&◌, List, [], ◌∷◌, codes, Option, Some, None}
+use Rattle.std.specs.Prelude.{option_and_then, unwrap_or, if◌then◌else◌}
 use Rattle.std.specs.Str.{bytes_eq}
 use Rattle.serde_json.specs.Data.{Data, null, Items, no_items, item}
 use Rattle.serde_json.specs.Find.{get, as_array, as_bool, as_number, as_str, as_u64}
@@ -8,16 +8,19 @@ use Rattle.ss_messages.specs.declared.request.Command.{Command}
 use Rattle.ss_messages.specs.declared.request.Command.TheVariants.{Initialize, Launch, ConfigurationDone}
 use Rattle.ss_messages.specs.declared.request.Command.TheVariants.{SetBreakpoints, SetFunctionBreakpoints}
 use Rattle.ss_messages.specs.declared.request.Command.TheVariants.{SetDataBreakpoints, SetExceptionBreakpoints}
-use Rattle.ss_messages.specs.declared.request.Command.TheVariants.{DataBreakpointInfo, Completions, Threads}
+use Rattle.ss_messages.specs.declared.request.Command.TheVariants.{DataBreakpointInfo, GotoTargets}
+use Rattle.ss_messages.specs.declared.request.Command.TheVariants.{Completions, Threads}
 use Rattle.ss_messages.specs.declared.request.Command.TheVariants.{StackTrace, Scopes, Variables}
 use Rattle.ss_messages.specs.declared.request.Command.TheVariants.{Obey, Ask, Source, LoadedSources, ExceptionInfo}
 use Rattle.ss_messages.specs.declared.request.Command.TheVariants.{Continue, Next, StepIn, StepOut, StepBack}
-use Rattle.ss_messages.specs.declared.request.Command.TheVariants.{ReverseContinue, Restart, Pause}
+use Rattle.ss_messages.specs.declared.request.Command.TheVariants.{ReverseContinue, Restart, Goto, Pause}
 use Rattle.ss_messages.specs.declared.request.Command.TheVariants.{Disconnect, Terminate, Missing, Unknown}
 use Rattle.ss_messages.specs.declared.request.Filter.{Filter}
 use Rattle.ss_messages.specs.declared.request.Filter.TheVariants.{All, Named, Indexed}
 use Rattle.ss_messages.specs.declared.missing.Argument.TheVariants.{Model, Expression, Name, Typed, Column}
+use Rattle.ss_messages.specs.declared.missing.Argument.TheVariants.{Line, Target}
 use Rattle.ss_messages.specs.declared.parts.LinePoint.{LinePoint}
+use Rattle.ss_messages.specs.declared.counting.Counting.{Counting}
 use Rattle.ss_messages.specs.declared.request.Stops.{Stops}
 use Rattle.ss_messages.specs.declared.request.Wanted.{Wanted}
 use Rattle.ss_messages.specs.declared.request.Request.{Request}
@@ -44,25 +47,29 @@ flag_at key other d = unwrap_or (option_and_then as_bool (get key d)) other
 abbrev pub is_text_at : List ℕ → List ℕ → Data → Bool
 is_text_at key text d = bytes_eq (unwrap_or (text_at key d) []) text
 
--- a break point: its line, 0 for one that has none, and whether it stops each time, so that it has no condition, no
--- count of hits, and no message in place of a stop
+-- whether a break point stops each time: it has no condition, no count of hits, and no message in place of a stop
+abbrev pub is_plain : Data → Bool
+is_plain d =
+    is_text_at (codes "condition") [] d && is_text_at (codes "hitCondition") [] d
+    && is_text_at (codes "logMessage") [] d
+
+-- a break point on a line: its line, 0 for one that has none, and whether it stops each time
 abbrev pub line_point_of : Data → LinePoint
-line_point_of d = record {
-  line = number_at (codes "line") d;
-  is_plain =
-      is_text_at (codes "condition") [] d && is_text_at (codes "hitCondition") [] d
-      && is_text_at (codes "logMessage") [] d;
-}
+line_point_of d = record { line = number_at (codes "line") d; is_plain = is_plain d }
 
 -- some break points on lines
 abbrev pub line_points_of : Items → List LinePoint
 line_points_of no_items = []
 line_points_of (item d ds) = line_point_of d ∷ line_points_of ds
 
--- the texts at a key of some break points, empty for one that has none
-abbrev pub texts_of : List ℕ → Items → List (List ℕ)
+-- the text at a key of a break point that stops each time, empty where it has none
+abbrev pub plain_text : List ℕ → Data → Option (List ℕ)
+plain_text key d = if is_plain d then Some (unwrap_or (text_at key d) []) else None
+
+-- those of some break points
+abbrev pub texts_of : List ℕ → Items → List (Option (List ℕ))
 texts_of key no_items = []
-texts_of key (item d ds) = unwrap_or (text_at key d) [] ∷ texts_of key ds
+texts_of key (item d ds) = plain_text key d ∷ texts_of key ds
 
 -- the break points of a request
 abbrev pub points_at : Data → Items
@@ -73,7 +80,7 @@ abbrev pub line_points_at : Data → List LinePoint
 line_points_at d = line_points_of (points_at d)
 
 -- their texts at a key
-abbrev pub texts_at : List ℕ → Data → List (List ℕ)
+abbrev pub texts_at : List ℕ → Data → List (Option (List ℕ))
 texts_at key d = texts_of key (points_at d)
 
 -- the path of the source that a request speaks of
@@ -85,6 +92,13 @@ abbrev pub arguments_of : Data → Data
 arguments_of d = unwrap_or (get (codes "arguments") d) null
 
 -- ---- commands
+
+-- from which numbers an editor counts lines and columns: from 1 on, unless it says that it does not
+abbrev pub counting_of : Data → Counting
+counting_of d = record {
+  lines_from_one = flag_at (codes "linesStartAt1") true d;
+  columns_from_one = flag_at (codes "columnsStartAt1") true d;
+}
 
 -- whether a run is debugged, as it is unless it is said that it is not
 abbrev pub is_debugged : Data → Bool
@@ -125,33 +139,33 @@ info_with reference (Some name) = DataBreakpointInfo reference name
 abbrev pub info_of : Data → Command
 info_of d = info_with (number_at (codes "variablesReference") d) (text_at (codes "name") d)
 
--- how many UTF-16 code units a byte of a text in UTF-8 begins
-abbrev pub units_of : ℕ → ℕ
-units_of b = if nat_lt b 128 then 1 else if nat_lt b 192 then 0 else if nat_lt b 240 then 1 else 2
-
--- what stands of a text within so many UTF-16 code units
-abbrev pub within_units : ℕ → List ℕ → List ℕ
-within_units n [] = []
-within_units n (b ∷ bs) = if nat_le (units_of b) n then b ∷ within_units (n - units_of b) bs else []
-
--- how many UTF-16 code units a text has
-abbrev pub count_units : List ℕ → ℕ
-count_units [] = 0
-count_units (b ∷ bs) = units_of b + count_units bs
-
--- completions of a text, and the column at its end, counted from 1 on in UTF-16 code units
-abbrev pub completions_at_end : List ℕ → Command
-completions_at_end text = Completions text (count_units text + 1)
-
--- completions needs a text and a column: past the text, its end is meant
+-- completions needs a text and a column
 abbrev pub completions_with : Option (List ℕ) → Option ℕ → Command
 completions_with None column = Missing Typed
 completions_with (Some text) None = Missing Column
-completions_with (Some text) (Some column) = completions_at_end (within_units (column - 1) text)
+completions_with (Some text) (Some column) = Completions text column
 
--- completions: of what stands before the column
+-- completions of a text at a column
 abbrev pub completions_of : Data → Command
 completions_of d = completions_with (text_at (codes "text") d) (number_in (codes "column") d)
+
+-- gotoTargets needs a line
+abbrev pub targets_with : Option (List ℕ) → Option ℕ → Command
+targets_with path None = Missing Line
+targets_with path (Some line) = GotoTargets path line
+
+-- gotoTargets: of the source that it speaks of
+abbrev pub targets_of : Data → Command
+targets_of d = targets_with (path_at d) (number_in (codes "line") d)
+
+-- goto needs a target
+abbrev pub goto_with : Option ℕ → Command
+goto_with None = Missing Target
+goto_with (Some target) = Goto target
+
+-- goto
+abbrev pub goto_of : Data → Command
+goto_of d = goto_with (number_in (codes "targetId") d)
 
 -- which variables of a reference are wanted
 abbrev pub filter_of : Data → Filter
@@ -171,13 +185,13 @@ wanted_of d = record {
 -- what a request says about the session
 unfoldable pub session_command : List ℕ → Data → Command
 session_command name d =
-    if bytes_eq name (codes "initialize") then Initialize else
+    if bytes_eq name (codes "initialize") then Initialize (counting_of d) else
     if bytes_eq name (codes "launch") then launch_of d else
     if bytes_eq name (codes "configurationDone") then ConfigurationDone else
     if bytes_eq name (codes "disconnect") then Disconnect else
     if bytes_eq name (codes "terminate") then Terminate else Unknown
 
--- what it says about break points, else about the session
+-- what it says about break points and the states on a line, else about the session
 unfoldable pub points_command : List ℕ → Data → Command
 points_command name d =
     if bytes_eq name (codes "setBreakpoints") then SetBreakpoints (path_at d) (line_points_at d) else
@@ -185,6 +199,7 @@ points_command name d =
     then SetFunctionBreakpoints (texts_at (codes "name") d) else
     if bytes_eq name (codes "setDataBreakpoints") then SetDataBreakpoints (texts_at (codes "dataId") d) else
     if bytes_eq name (codes "dataBreakpointInfo") then info_of d else
+    if bytes_eq name (codes "gotoTargets") then targets_of d else
     if bytes_eq name (codes "setExceptionBreakpoints") then SetExceptionBreakpoints else session_command name d
 
 -- what it says that asks about the state, else about break points
@@ -212,6 +227,7 @@ command_of name d =
     then StepBack (is_text_at (codes "granularity") (codes "instruction") d) else
     if bytes_eq name (codes "reverseContinue") then ReverseContinue else
     if bytes_eq name (codes "restart") then Restart else
+    if bytes_eq name (codes "goto") then goto_of d else
     if bytes_eq name (codes "pause") then Pause else looking_command name d
 
 -- ---- a request

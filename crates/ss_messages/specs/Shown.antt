@@ -2,6 +2,8 @@
 use Rattle.std.specs.Prelude.{ℕ, Bool, false, List, ◌++◌, codes, decimal, drop, if◌then◌else◌}
 use Rattle.ss_messages.specs.Escapes.{quoted_bytes}
 use Rattle.ss_messages.specs.Bodies.{source_text}
+use Rattle.ss_messages.specs.Counting.{shown}
+use Rattle.ss_messages.specs.declared.counting.Counting.{Counting}
 
 -- a comma and a variable that refers to so many others, which are asked for a page at a time
 unfoldable pub paged_item : List ℕ → List ℕ → ℕ → ℕ → List ℕ
@@ -47,9 +49,10 @@ point_text id is_verified =
     codes "{\"id\":" ++ decimal id ++ codes ",\"verified\":" ++ bool_text is_verified
 
 -- breakpoint: one of this number is set on a line of the model, where a place stands or not
-unfoldable pub new_point_body : ℕ → Bool → ℕ → List ℕ → List ℕ
-new_point_body id is_verified line path =
-    codes "{\"reason\":\"new\",\"breakpoint\":" ++ point_text id is_verified ++ codes ",\"line\":" ++ decimal line
+unfoldable pub new_point_body : ℕ → Bool → ℕ → List ℕ → Counting → List ℕ
+new_point_body id is_verified line path counting =
+    codes "{\"reason\":\"new\",\"breakpoint\":" ++ point_text id is_verified
+    ++ codes ",\"line\":" ++ decimal (shown counting.lines_from_one line)
     ++ codes ",\"source\":" ++ source_text path ++ codes "}}"
 
 -- breakpoint: the one of this number is set no more

@@ -1,14 +1,14 @@
 //! The arguments of a request.
-ghost use Rattle.std.specs.Prelude.{◌≡◌, ◌≤◌, map, IfOk, option_map};
+ghost use Rattle.std.specs.Prelude.{◌≡◌, map, IfOk, option_map};
 ghost use Rattle.serde_json.specs.View.{view};
 ghost use Rattle.std.specs.Prelude.{[], unwrap_or};
-ghost use Rattle.ss_messages.specs.Requests.{units_of, within_units, count_units};
 ghost use Rattle.ss_messages.specs.Requests.{number_at, number_in, text_at, flag_at, is_text_at, texts_at};
-ghost use Rattle.ss_messages.specs.Requests.{line_point_of, line_points_at};
+ghost use Rattle.ss_messages.specs.Requests.{is_plain, plain_text, line_point_of, line_points_at};
 ghost use Rattle.ss_messages.specs.Requests.{is_debugged, stops_of, launch_of, evaluate_of, info_of};
-ghost use Rattle.ss_messages.specs.Requests.{completions_of, filter_of, path_at, wanted_of};
+ghost use Rattle.ss_messages.specs.Requests.{completions_of, filter_of, path_at, wanted_of, targets_of, goto_of, counting_of};
 ghost use Rattle.ss_messages.specs.declared.request.Command.TheVariants.{SetBreakpoints};
 
+use crate::counting::Counting;
 use crate::missing::Argument;
 use crate::parts::{LinePoint, LinePoints, Text, Texts};
 use crate::request::{Command, Filter, Stops, Wanted};
@@ -114,66 +114,48 @@ pub fn info(alloc: Global, arguments: &Value) -> Result<Command, AllocError>
     Ok(Command::DataBreakpointInfo(number_at(arguments, "variablesReference"), name))
 }
 
-/// How many UTF-16 code units a byte of a text in UTF-8 begins.
-fn units_of(byte: u8) -> u64
-    ensures { result ≡ units_of byte }
-{
-    if byte < 128 {
-        return 1;
-    }
-    if byte < 192 {
-        return 0;
-    }
-    if byte < 240 { 1 } else { 2 }
-}
-
-/// What stands of a text within so many UTF-16 code units.
-fn within_units(alloc: Global, text: &[u8], units: u64) -> Result<Vec<u8>, AllocError>
-    ensures { IfOk result (λ part. part.items ≡ within_units units text.now) }
-{
-    let mut part = Vec::new(alloc);
-    let mut left = units;
-    for byte in text {
-        let units = units_of(*byte);
-        if units > left {
-            return Ok(part);
-        }
-        part.push(*byte)?;
-        left -= units;
-    }
-    Ok(part)
-}
-
-/// How many UTF-16 code units what stands of a text within so many has.
-fn units_within(text: &[u8], units: u64) -> u64
-    ensures count { result ≡ count_units (within_units units text.now) }
-    ensures bound { result ≤ units }
-{
-    let mut left = units;
-    for byte in text {
-        let units = units_of(*byte);
-        if units > left {
-            break;
-        }
-        left -= units;
-    }
-    units - left
-}
-
-/// completions, which needs a text and a column: of what stands before the column.
+/// completions, which needs a text and a column.
 pub fn completions(alloc: Global, arguments: &Value) -> Result<Command, AllocError>
     ensures { IfOk result (λ command. command ≡ completions_of (view arguments.now)) }
 {
-    let Some(text) = text_at(arguments, "text") else {
+    let Some(text) = own_text(alloc, arguments, "text")? else {
         return Ok(Command::Missing(Argument::Typed));
     };
-    let Some(column) = number_in(arguments, "column") else {
-        return Ok(Command::Missing(Argument::Column));
-    };
-    let units = column.saturating_sub(1);
-    let before = within_units(alloc, text.as_bytes(), units)?;
-    let end = units_within(text.as_bytes(), units) + 1;
-    Ok(Command::Completions(Text::of(alloc, &before)?, end))
+    match number_in(arguments, "column") {
+        Some(column) => Ok(Command::Completions(text, column)),
+        None => Ok(Command::Missing(Argument::Column)),
+    }
+}
+
+/// gotoTargets, which needs a line.
+pub fn targets(alloc: Global, arguments: &Value) -> Result<Command, AllocError>
+    ensures { IfOk result (λ command. command ≡ targets_of (view arguments.now)) }
+{
+    let path = path_at(alloc, arguments)?;
+    match number_in(arguments, "line") {
+        Some(line) => Ok(Command::GotoTargets(path, line)),
+        None => Ok(Command::Missing(Argument::Line)),
+    }
+}
+
+/// goto, which needs a target.
+pub fn goto(arguments: &Value) -> Command
+    ensures { result ≡ goto_of (view arguments.now) }
+{
+    match number_in(arguments, "targetId") {
+        Some(target) => Command::Goto(target),
+        None => Command::Missing(Argument::Target),
+    }
+}
+
+/// From which numbers an editor counts, as initialize says.
+pub fn counting(arguments: &Value) -> Counting
+    ensures { result ≡ counting_of (view arguments.now) }
+{
+    Counting {
+        lines_from_one: flag_at(arguments, "linesStartAt1", true),
+        columns_from_one: flag_at(arguments, "columnsStartAt1", true),
+    }
 }
 
 /// Which variables of a reference are wanted.
@@ -208,14 +190,38 @@ fn text_or_none(alloc: Global, value: &Value, key: &'static str) -> Result<Text,
     Text::of(alloc, text_at(value, key).unwrap_or("").as_bytes())
 }
 
+/// Whether a break point stops each time: it has no condition, no count of hits, and no message in
+/// place of a stop.
+fn is_plain(point: &Value) -> bool
+    ensures { result ≡ is_plain (view point.now) }
+{
+    is_text_at(point, "condition", b"")
+        && is_text_at(point, "hitCondition", b"")
+        && is_text_at(point, "logMessage", b"")
+}
+
+/// The text at a key of a break point that stops each time, an empty one where it has none.
+fn plain_text(alloc: Global, point: &Value, key: &'static str) -> Result<Option<Text>, AllocError>
+    ensures { IfOk result (λ text. text ≡ plain_text key.now (view point.now)) }
+{
+    if is_plain(point) {
+        return Ok(Some(text_or_none(alloc, point, key)?));
+    }
+    Ok(None)
+}
+
 /// The texts at a key of some break points.
-fn texts_of(alloc: Global, points: &[Value], key: &'static str) -> Result<Vec<Text>, AllocError>
+fn texts_of(
+    alloc: Global,
+    points: &[Value],
+    key: &'static str,
+) -> Result<Vec<Option<Text>>, AllocError>
     ensures { IfOk result (λ texts. texts.items
-        ≡ map (λ point. unwrap_or (text_at key.now (view point)) []) points.now) }
+        ≡ map (λ point. plain_text key.now (view point)) points.now) }
 {
     let mut texts = Vec::new(alloc);
     for point in points {
-        texts.push(text_or_none(alloc, point, key)?)?;
+        texts.push(plain_text(alloc, point, key)?)?;
     }
     Ok(texts)
 }
@@ -237,9 +243,7 @@ fn line_point_of(point: &Value) -> LinePoint
 {
     LinePoint {
         line: number_at(point, "line"),
-        is_plain: is_text_at(point, "condition", b"")
-            && is_text_at(point, "hitCondition", b"")
-            && is_text_at(point, "logMessage", b""),
+        is_plain: is_plain(point),
     }
 }
 

@@ -2,11 +2,12 @@
 ghost use Rattle.std.specs.Prelude.{◌≡◌, drop, IfOk};
 ghost use Rattle.ss_messages.specs.Bodies.{stopped_body, output_body, result_body, content_body, exception_body};
 ghost use Rattle.ss_messages.specs.Bodies.{sources_body, list_body, variable_item, frame_item, set_item, unset_item};
-ghost use Rattle.ss_messages.specs.Bodies.{without_last, hit_at, hit_text, watched_item};
+ghost use Rattle.ss_messages.specs.Bodies.{without_last, hit_at, hit_text, watched_item, state_item};
 
+use crate::counting::Counting;
 use crate::escape::push_quoted;
 use crate::messages::push_number;
-use crate::sources::source_text;
+use crate::sources::{Source, source_text};
 use std::alloc::{AllocError, Global};
 
 /// A body with no member.
@@ -168,31 +169,55 @@ pub fn frame_item(
     number: u64,
     name: &[u8],
     line: u64,
-    path: &[u8],
+    source: Source<'_>,
 ) -> Result<Vec<u8>, AllocError>
-    ensures { IfOk result (λ item. item.items ≡ frame_item number name.now line path.now) }
+    ensures { IfOk result (λ item. item.items
+        ≡ frame_item number name.now line source.entry.path.now source.entry.counting) }
 {
-    let source = source_text(alloc, path)?;
+    let text = source_text(alloc, source.path)?;
     let mut item = Vec::from_slice(alloc, b",{\"id\":")?;
     push_number(&mut item, number)?;
     item.extend_from_slice(b",\"name\":")?;
     push_quoted(&mut item, name)?;
     item.extend_from_slice(b",\"line\":")?;
-    push_number(&mut item, line)?;
-    item.extend_from_slice(b",\"column\":1,\"source\":")?;
-    item.extend_from_slice(&source)?;
+    push_number(&mut item, source.counting.shown_line(line))?;
+    item.extend_from_slice(b",\"column\":")?;
+    push_number(&mut item, source.counting.shown_column(1))?;
+    item.extend_from_slice(b",\"source\":")?;
+    item.extend_from_slice(&text)?;
     item.extend_from_slice(b"}")?;
     Ok(item)
 }
 
-/// A comma and a break point of this number that is set on a line.
+/// A comma and a break point of this number that is set on a line of the model.
 #[tactic(auto, unfolding(crate::specs::Bodies::set_item))]
-pub fn set_item(alloc: Global, id: u64, line: u64) -> Result<Vec<u8>, AllocError>
-    ensures { IfOk result (λ item. item.items ≡ set_item id line) }
+pub fn set_item(
+    alloc: Global,
+    id: u64,
+    line: u64,
+    counting: Counting,
+) -> Result<Vec<u8>, AllocError>
+    ensures { IfOk result (λ item. item.items ≡ set_item id line counting) }
 {
     let mut item = Vec::from_slice(alloc, b",{\"id\":")?;
     push_number(&mut item, id)?;
     item.extend_from_slice(b",\"verified\":true,\"line\":")?;
+    push_number(&mut item, counting.shown_line(line))?;
+    item.extend_from_slice(b"}")?;
+    Ok(item)
+}
+
+/// A comma and a state as a target of goto: its number, what is said of it, and its line, as the
+/// editor counts.
+#[tactic(auto, unfolding(crate::specs::Bodies::state_item))]
+pub fn state_item(alloc: Global, id: u64, label: &[u8], line: u64) -> Result<Vec<u8>, AllocError>
+    ensures { IfOk result (λ item. item.items ≡ state_item id label.now line) }
+{
+    let mut item = Vec::from_slice(alloc, b",{\"id\":")?;
+    push_number(&mut item, id)?;
+    item.extend_from_slice(b",\"label\":")?;
+    push_quoted(&mut item, label)?;
+    item.extend_from_slice(b",\"line\":")?;
     push_number(&mut item, line)?;
     item.extend_from_slice(b"}")?;
     Ok(item)

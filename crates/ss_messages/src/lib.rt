@@ -3,6 +3,7 @@
 
 mod arguments;
 mod bodies;
+mod counting;
 mod escape;
 mod frame;
 mod laws;
@@ -13,11 +14,14 @@ mod post;
 mod request;
 mod shown;
 mod sources;
+mod units;
 
 pub use bodies::{
     NOTHING, content_body, exception_body, frame_item, list_body, output_body, result_body,
-    set_item, sources_body, stopped_body, unset_item, variable_item, watched_item, without_last,
+    set_item, sources_body, state_item, stopped_body, unset_item, variable_item, watched_item,
+    without_last,
 };
+pub use counting::Counting;
 pub use escape::{push_quoted, push_quoted_text};
 pub use frame::{FrameFault, LONGEST_MESSAGE, read_message, split_message};
 pub use laws::messages_are_read_back;
@@ -30,3 +34,5 @@ pub use shown::{
     frames_body, info_body, new_point_body, no_info_body, paged_item, removed_point_body,
     scope_item, target_item,
 };
+pub use sources::Source;
+pub use units::{units_within, within_units};

@@ -15,6 +15,10 @@ pub enum Argument {
     Typed,
     /// `column` of completions.
     Column,
+    /// `line` of gotoTargets.
+    Line,
+    /// `targetId` of goto.
+    Target,
 }
 
 impl Argument {
@@ -28,6 +32,8 @@ impl Argument {
             Argument::Name => b"name: a text is wanted",
             Argument::Typed => b"text: a text is wanted",
             Argument::Column => b"column: a number is wanted",
+            Argument::Line => b"line: a number is wanted",
+            Argument::Target => b"targetId: a number is wanted",
         }
     }
 }

@@ -38,7 +38,7 @@ impl Text {
 /// A break point on a line of a source.
 #[derive(Clone, Copy, Debug, PartialEq, Eq)]
 pub struct LinePoint {
-    /// The line, counted from 1 on.
+    /// The line, as the editor counts.
     pub line: u64,
     /// Whether it stops each time: it has no condition, no count of hits, and no message in place of
     /// a stop.
@@ -78,16 +78,17 @@ impl LinePoints {
     }
 }
 
-/// Texts in the order in which a request names them.
+/// Texts of break points, in the order in which a request names them; `None` for one that would not
+/// stop each time.
 #[derive(Drop)]
 pub struct Texts {
-    texts: Vec<Text>,
+    texts: Vec<Option<Text>>,
 }
 
 impl Model for Texts {
-    ghost use Rattle.std.specs.Prelude.{List, ℕ};
+    ghost use Rattle.std.specs.Prelude.{List, Option, ℕ};
 
-    ghost Value = { List (List ℕ) };
+    ghost Value = { List (Option (List ℕ)) };
 
     ghost view = { λ t. t.texts.items };
 }
@@ -96,14 +97,14 @@ impl Texts {
     ghost use Rattle.std.specs.Prelude.{◌≡◌};
 
     /// These texts.
-    pub fn of(texts: Vec<Text>) -> Texts
+    pub fn of(texts: Vec<Option<Text>>) -> Texts
         ensures { result ≡ texts.items }
     {
         Texts { texts }
     }
 
     /// Them in order.
-    pub fn as_slice(&self) -> &[Text]
+    pub fn as_slice(&self) -> &[Option<Text>]
         ensures { result.now ≡ self.now }
     {
         &self.texts

@@ -8,9 +8,10 @@ ghost use Rattle.ss_messages.specs.Requests.{request_of};
 ghost use Rattle.ss_messages.specs.declared.request.RequestFault.TheVariants.{NoRequest};
 
 use crate::arguments::{
-    breakpoints, completions, evaluate, info, is_text_at, launch, number_at, number_in, text_at,
-    texts_at, wanted,
+    breakpoints, completions, counting, evaluate, goto, info, is_text_at, launch, number_at,
+    number_in, targets, text_at, texts_at, wanted,
 };
+use crate::counting::Counting;
 use crate::missing::Argument;
 use crate::parts::{LinePoints, Text, Texts};
 use serde_json::Value;
@@ -52,8 +53,8 @@ pub struct Stops {
 /// What a request says (docs/EDITORS.md).
 #[derive(Drop)]
 pub enum Command {
-    /// initialize.
-    Initialize,
+    /// initialize: from which numbers the editor counts.
+    Initialize(Counting),
     /// launch: the path of a model, perhaps that of its data, and where the run stops.
     Launch(Text, Option<Text>, Stops),
     /// setBreakpoints: these of the source at this path, and no others of it; where no path is named,
@@ -65,6 +66,9 @@ pub enum Command {
     SetDataBreakpoints(Texts),
     /// dataBreakpointInfo: what is shown in a reference under a name; reference 0 is none.
     DataBreakpointInfo(u64, Text),
+    /// gotoTargets: the states near by on this line, as the editor counts, of the source at this path;
+    /// where no path is named, of the model.
+    GotoTargets(Option<Text>, u64),
     /// setExceptionBreakpoints: a run stops at a fault whatever it says.
     SetExceptionBreakpoints,
     /// configurationDone.
@@ -81,7 +85,7 @@ pub enum Command {
     Obey(Text),
     /// evaluate, to be shown beside the model: a question.
     Ask(Text),
-    /// completions of the text that stands before this column.
+    /// completions of what stands in a text before this column, as the editor counts.
     Completions(Text, u64),
     /// source of a reference.
     Source(u64),
@@ -103,6 +107,8 @@ pub enum Command {
     ReverseContinue,
     /// restart.
     Restart,
+    /// goto: to the state of this number.
+    Goto(u64),
     /// pause.
     Pause,
     /// disconnect.
@@ -151,7 +157,7 @@ fn session_command(alloc: Global, name: &[u8], arguments: &Value) -> Result<Comm
     ensures { IfOk result (λ command. command ≡ session_command name.now (view arguments.now)) }
 {
     if name == b"initialize".as_slice() {
-        return Ok(Command::Initialize);
+        return Ok(Command::Initialize(counting(arguments)));
     }
     if name == b"launch".as_slice() {
         return launch(alloc, arguments);
@@ -168,7 +174,8 @@ fn session_command(alloc: Global, name: &[u8], arguments: &Value) -> Result<Comm
     Ok(Command::Unknown)
 }
 
-/// What a request says about break points; else what it says about the session.
+/// What a request says about break points and the states on a line; else what it says about the
+/// session.
 #[tactic(auto, unfolding(crate::specs::Requests::points_command))]
 fn points_command(alloc: Global, name: &[u8], arguments: &Value) -> Result<Command, AllocError>
     ensures { IfOk result (λ command. command ≡ points_command name.now (view arguments.now)) }
@@ -184,6 +191,9 @@ fn points_command(alloc: Global, name: &[u8], arguments: &Value) -> Result<Comma
     }
     if name == b"dataBreakpointInfo".as_slice() {
         return info(alloc, arguments);
+    }
+    if name == b"gotoTargets".as_slice() {
+        return targets(alloc, arguments);
     }
     if name == b"setExceptionBreakpoints".as_slice() {
         return Ok(Command::SetExceptionBreakpoints);
@@ -252,6 +262,9 @@ fn named_command(alloc: Global, name: &[u8], arguments: &Value) -> Result<Comman
     }
     if name == b"restart".as_slice() {
         return Ok(Command::Restart);
+    }
+    if name == b"goto".as_slice() {
+        return Ok(goto(arguments));
     }
     if name == b"pause".as_slice() {
         return Ok(Command::Pause);

@@ -6,7 +6,7 @@ ghost use Rattle.ss_messages.specs.Shown.{bool_text, point_text, new_point_body,
 use crate::bodies::without_first;
 use crate::escape::push_quoted;
 use crate::messages::push_number;
-use crate::sources::source_text;
+use crate::sources::{Source, source_text};
 use std::alloc::{AllocError, Global};
 
 /// A comma and a variable that refers to so many others, which are asked for a page at a time.
@@ -128,18 +128,19 @@ pub fn new_point_body(
     id: u64,
     is_verified: bool,
     line: u64,
-    path: &[u8],
+    source: Source<'_>,
 ) -> Result<Vec<u8>, AllocError>
-    ensures { IfOk result (λ body. body.items ≡ new_point_body id is_verified line path.now) }
+    ensures { IfOk result (λ body. body.items
+        ≡ new_point_body id is_verified line source.entry.path.now source.entry.counting) }
 {
     let point = point_text(alloc, id, is_verified)?;
-    let source = source_text(alloc, path)?;
+    let text = source_text(alloc, source.path)?;
     let mut body = Vec::from_slice(alloc, b"{\"reason\":\"new\",\"breakpoint\":")?;
     body.extend_from_slice(&point)?;
     body.extend_from_slice(b",\"line\":")?;
-    push_number(&mut body, line)?;
+    push_number(&mut body, source.counting.shown_line(line))?;
     body.extend_from_slice(b",\"source\":")?;
-    body.extend_from_slice(&source)?;
+    body.extend_from_slice(&text)?;
     body.extend_from_slice(b"}}")?;
     Ok(body)
 }

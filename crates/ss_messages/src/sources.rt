@@ -2,8 +2,18 @@
 ghost use Rattle.std.specs.Prelude.{◌≡◌, IfOk};
 ghost use Rattle.ss_messages.specs.Bodies.{file_name, source_text};
 
+use crate::counting::Counting;
 use crate::escape::push_quoted_text;
 use std::alloc::{AllocError, Global};
+
+/// The model, as an editor knows it.
+#[derive(Clone, Copy)]
+pub struct Source<'a> {
+    /// Its path.
+    pub path: &'a [u8],
+    /// From which numbers the editor counts its lines and columns.
+    pub counting: Counting,
+}
 
 /// The name of the file at a path: what stands after its last slash.
 #[tactic(auto, unfolding(crate::specs::Bodies::name_within))]

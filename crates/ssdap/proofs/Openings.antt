@@ -10,9 +10,11 @@ use Rattle.ss_session.specs.declared.load.LoadFault.TheVariants.{Memory}
 use Rattle.ss_messages.specs.Messages.{PostView, posted_with, posted_all, failure}
 use Rattle.ss_messages.proofs.Posts.{posted_one}
 use Rattle.ss_messages.specs.declared.request.Command.TheVariants.{Launch}
+use Rattle.ss_console.specs.declared.answerer.Go.{Go}
 use Rattle.ss_console.specs.declared.answerer.Go.TheVariants as go
 use Rattle.ss_messages.specs.declared.request.Request.{Request}
 use Rattle.ss_messages.specs.declared.request.Stops.{Stops}
+use Rattle.ss_messages.specs.declared.counting.Counting.{Counting}
 use Rattle.ss_adapter.specs.declared.turns.Further.{Further}
 use Rattle.ss_adapter.specs.Desk.{DeskView}
 use Rattle.ss_adapter.specs.Before.{IsLaunched, IsRefusedLaunch, answer_to_launch, answers_before}
@@ -21,7 +23,7 @@ use Rattle.ss_prompt.specs.Names.{warnings_told}
 use Rattle.ss_serve.specs.Meaning.{IsAnswer}
 use Rattle.ssdap.specs.Shelves.{Stands, Given}
 use Rattle.ssdap.specs.Editing.{editor_meaning, editing_state, go_behind, IsStart, Opens, Opening, no_model}
-use Rattle.ssdap.specs.Editing.{IsElsewhere, messages_by, run_by}
+use Rattle.ssdap.specs.Editing.{IsElsewhere, IsTurned, source_path, counting_after, messages_by, run_by}
 use Rattle.ssdap.specs.Editing.{no_data, refused}
 use Rattle.ssdap.specs.Editing.{opened, IsOpened, opening_messages, AnswersBefore}
 
@@ -33,73 +35,85 @@ same_state : (t u : Input) (d e : DebuggerState) (k j : DeskView) → t ≡ u �
 same_state t u d e k j p q r = rw (p, q, r) refl
 
 -- a debugger and a desk at the start of a run are at the start
-starts : (model text path : List ℕ) (stops : Stops) (d : DebuggerView) (k : DeskView) →
-    IsLaunched model text path stops d k → IsStart path model text stops (adapter_state_of d k)
-starts model text path stops d k l =
+starts : (model text path : List ℕ) (counting : Counting) (stops : Stops) (d : DebuggerView) (k : DeskView) →
+    IsLaunched model text path counting stops d k → IsStart path model text counting stops (adapter_state_of d k)
+starts model text path counting stops d k l =
     let same = same_state d.machine.input _ (debugger_state_of d) _ k _ l.input l.start l.desk in
     (d.machine.input.program, l.program, same)
 
 -- what launch says of the run that it leaves, and of what it posts
-abbrev Launches : Request → List ℕ → List ℕ → List ℕ → Stops → PostView → PostView →
+abbrev Launches : Request → List ℕ → List ℕ → List ℕ → Counting → Stops → PostView → PostView →
     Option (DebuggerView × DeskView) → Type 0
-Launches request path model text stops old new run =
+Launches request path model text counting stops old new run =
     MatchOption run
     ((fault : LoadFault) × (fault ≢ Memory) × IsLoadFault fault model × IsRefusedLaunch fault model request old new)
-    (λ r. IsLaunched model text path stops r.0 r.1
+    (λ r. IsLaunched model text path counting stops r.0 r.1
     × (new ≡ posted_all request old (answer_to_launch (warnings_told r.0.machine.input.program model))))
 
 -- that is one opening
 opens : (files : Option (List ℕ → Option (List ℕ))) (request : Request) (path : List ℕ)
-    (data_path : Option (List ℕ)) (stops : Stops) (model text : List ℕ) (old new : PostView)
+    (data_path : Option (List ℕ)) (counting : Counting) (stops : Stops) (model text : List ℕ) (old new : PostView)
     (run : Option (DebuggerView × DeskView)) → Stands files path (Some model) → Given files data_path (Some text) →
-    Launches request path model text stops old new run →
-    IsOpened files request path data_path stops old new (option_map (λ r. adapter_state_of r.0 r.1) run)
-opens files request path data_path stops model text old new None s g h = record {
+    Launches request path model text counting stops old new run →
+    IsOpened files request path data_path counting stops old new (option_map (λ r. adapter_state_of r.0 r.1) run)
+opens files request path data_path counting stops model text old new None s g h = record {
   opening = refused h.0 h.3.0;
   opens = (model, text, s, g, h.1, h.2, h.3.1);
   posted = h.3.2;
   run_is = refl;
 }
-opens files request path data_path stops model text old new (Some r) s g h = record {
+opens files request path data_path counting stops model text old new (Some r) s g h = record {
   opening = opened (adapter_state_of r.0 r.1);
-  opens = (model, text, s, g, starts model text path stops r.0 r.1 h.0);
+  opens = (model, text, s, g, starts model text path counting stops r.0 r.1 h.0);
   posted = rw (ap (λ k. k.model) h.0.desk) h.1;
   run_is = refl;
 }
 
 -- the same of what launch returned, of these texts
 pub launch_opens : (files : Option (List ℕ → Option (List ℕ))) (request : Request) (path : List ℕ)
-    (data_path : Option (List ℕ)) (stops : Stops) (model text : List ℕ) (old new : PostView) {E : Type 0}
-    (result : Result (Option (DebuggerView × DeskView)) E) (at over held : List ℕ) → at ≡ path → over ≡ model →
-    held ≡ text → Stands files path (Some model) → Given files data_path (Some text) →
-    IfOk result (λ run. Launches request at over held stops old new run) →
-    IfOk result (λ run. IsOpened files request path data_path stops old new
+    (data_path : Option (List ℕ)) (counting : Counting) (stops : Stops) (model text : List ℕ) (old new : PostView)
+    {E : Type 0} (result : Result (Option (DebuggerView × DeskView)) E) (at over held : List ℕ) → at ≡ path →
+    over ≡ model → held ≡ text → Stands files path (Some model) → Given files data_path (Some text) →
+    IfOk result (λ run. Launches request at over held counting stops old new run) →
+    IfOk result (λ run. IsOpened files request path data_path counting stops old new
     (option_map (λ r. adapter_state_of r.0 r.1) run))
-launch_opens files request path data_path stops model text old new (Ok run) at over held p m t s g h =
-    opens files request path data_path stops model text old new run s g (rw (p, m, t) at h)
-launch_opens files request path data_path stops model text old new (Err fault) at over held p m t s g h = tt
+launch_opens files request path data_path counting stops model text old new (Ok run) at over held p m t s g h =
+    opens files request path data_path counting stops model text old new run s g (rw (p, m, t) at h)
+launch_opens files request path data_path counting stops model text old new (Err fault) at over held p m t s g h = tt
 
 -- a turn about a run
-pub turned : (files : Option (List ℕ → Option (List ℕ))) (same : Option (List ℕ → List ℕ → Bool))
-    (s to : AdapterState) (request : Request) (old new : PostView) (further : Further) (count : Option ℕ) →
-    IsElsewhere same s.desk.path request.command count →
-    new ≡ posted_all request old (messages_by s request.command count) →
-    to ≡ run_by s request.command count → further ≡ further_of request.command →
-    IsAnswer editor_meaning (editing_state files same (Some s)) (editing_state files same (Some to)) request old new
-    (go_behind further)
-turned files same s to request old new further count elsewhere p e f = record {
-  sent = messages_by s request.command count;
-  answers = ((count, elsewhere, refl, ap Some e), refl, refl);
+pub turned : (same : Option (List ℕ → List ℕ → Bool)) (s to : AdapterState) (request : Request) (old new : PostView)
+    (further : Further) (elsewhere : Bool) → IsElsewhere same s.desk.path (source_path request.command) elsewhere →
+    new ≡ posted_all request old (messages_by s request.command elsewhere) →
+    to ≡ run_by s request.command elsewhere → further ≡ further_of request.command →
+    IsTurned same s to request old new (go_behind further)
+turned same s to request old new further elsewhere e p l f = record {
+  elsewhere = elsewhere;
+  is_elsewhere = e;
   posted = p;
+  leads = l;
   goes = ap go_behind f;
+}
+
+-- it is an answer, however the editor counts
+pub answered : (files : Option (List ℕ → Option (List ℕ))) (same : Option (List ℕ → List ℕ → Bool))
+    (counting : Counting) (s to : AdapterState) (request : Request) (old new : PostView) (go : Go) →
+    IsTurned same s to request old new go →
+    IsAnswer editor_meaning (editing_state files same counting (Some s))
+    (editing_state files same (counting_after counting request.command) (Some to)) request old new go
+answered files same counting s to request old new go t = record {
+  sent = messages_by s request.command t.elsewhere;
+  answers = ((t.elsewhere, t.is_elsewhere, refl, ap Some t.leads), refl, refl, refl);
+  posted = t.posted;
+  goes = t.goes;
 }
 
 -- the model can't be read
 pub no_model_is : (files : Option (List ℕ → Option (List ℕ))) (request : Request) (path : List ℕ)
-    (data_path : Option (List ℕ)) (stops : Stops) (old new : PostView) → Stands files path None →
-    new ≡ posted_with request old (failure (codes "cannot read the model")) →
-    IsOpened files request path data_path stops old new None
-no_model_is files request path data_path stops old new s p = record {
+    (data_path : Option (List ℕ)) (counting : Counting) (stops : Stops) (old new : PostView) →
+    Stands files path None → new ≡ posted_with request old (failure (codes "cannot read the model")) →
+    IsOpened files request path data_path counting stops old new None
+no_model_is files request path data_path counting stops old new s p = record {
   opening = no_model;
   opens = s;
   posted = p ∙ sym (posted_one request old (failure (codes "cannot read the model")));
@@ -108,11 +122,11 @@ no_model_is files request path data_path stops old new s p = record {
 
 -- the data can't be read
 pub no_data_is : (files : Option (List ℕ → Option (List ℕ))) (request : Request) (path : List ℕ)
-    (data_path : Option (List ℕ)) (stops : Stops) (model : List ℕ) (old new : PostView) →
+    (data_path : Option (List ℕ)) (counting : Counting) (stops : Stops) (model : List ℕ) (old new : PostView) →
     Stands files path (Some model) → Given files data_path None →
     new ≡ posted_with request old (failure (codes "cannot read the data")) →
-    IsOpened files request path data_path stops old new None
-no_data_is files request path data_path stops model old new s g p = record {
+    IsOpened files request path data_path counting stops old new None
+no_data_is files request path data_path counting stops model old new s g p = record {
   opening = no_data;
   opens = (model, s, g);
   posted = p ∙ sym (posted_one request old (failure (codes "cannot read the data")));
@@ -121,27 +135,29 @@ no_data_is files request path data_path stops model old new s g p = record {
 
 -- launch is answered
 pub launched_is : (files : Option (List ℕ → Option (List ℕ))) (same : Option (List ℕ → List ℕ → Bool))
-    (request : Request) (path : List ℕ) (data_path : Option (List ℕ)) (stops : Stops) (old new : PostView)
-    (run : Option AdapterState) → request.command ≡ Launch path data_path stops →
-    IsOpened files request path data_path stops old new run →
-    IsAnswer editor_meaning (editing_state files same None) (editing_state files same run) request old new go.On
+    (counting : Counting) (request : Request) (path : List ℕ) (data_path : Option (List ℕ)) (stops : Stops)
+    (old new : PostView) (run : Option AdapterState) → request.command ≡ Launch path data_path stops →
+    IsOpened files request path data_path counting stops old new run →
+    IsAnswer editor_meaning (editing_state files same counting None)
+    (editing_state files same (counting_after counting request.command) run) request old new go.On
 unfolding AnswersBefore
-launched_is files same request path data_path stops old new run e o = record {
+launched_is files same counting request path data_path stops old new run e o = record {
   sent = opening_messages o.opening;
-  answers = (rw e (o.opening, o.opens, refl, o.run_is), refl, refl);
+  answers = (rw e (o.opening, o.opens, refl, o.run_is), refl, refl, refl);
   posted = o.posted;
   goes = rw e refl;
 }
 
 -- another request is, before a run is launched
 pub before_is : (files : Option (List ℕ → Option (List ℕ))) (same : Option (List ℕ → List ℕ → Bool))
-    (request : Request) (old new : PostView) (further : Further) → AnswersBefore files request.command (answers_before request.command) None →
+    (counting : Counting) (request : Request) (old new : PostView) (further : Further) →
+    AnswersBefore files counting request.command (answers_before request.command) None →
     new ≡ posted_all request old (answers_before request.command) → further ≡ further_of request.command →
-    IsAnswer editor_meaning (editing_state files same None) (editing_state files same None) request old new
-    (go_behind further)
-before_is files same request old new further a p f = record {
+    IsAnswer editor_meaning (editing_state files same counting None)
+    (editing_state files same (counting_after counting request.command) None) request old new (go_behind further)
+before_is files same counting request old new further a p f = record {
   sent = answers_before request.command;
-  answers = (a, refl, refl);
+  answers = (a, refl, refl, refl);
   posted = p;
   goes = ap go_behind f;
 }

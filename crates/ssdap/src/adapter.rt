@@ -2,8 +2,9 @@
 ghost use Rattle.std.specs.Prelude.{◌≡◌, ◌<◌, ◌^◌, Some, None, option_map, IfOk};
 ghost use Rattle.ss_adapter.specs.Turn.{adapter_state_of};
 ghost use Rattle.ss_serve.specs.Meaning.{IsAnswer};
-ghost use Rattle.ssdap.specs.Editing.{editor_meaning, editing_state, go_behind, IsOpened};
-ghost use Rattle.ssdap.specs.Editing.{IsElsewhere};
+ghost use Rattle.ss_messages.specs.Counting.{from_one};
+ghost use Rattle.ssdap.specs.Editing.{editor_meaning, editing_state, counting_after, go_behind, IsOpened};
+ghost use Rattle.ssdap.specs.Editing.{IsElsewhere, IsTurned, source_path};
 ghost use Rattle.ssdap.specs.Shelves.{Given};
 
 use crate::shelf::Shelf;
@@ -11,7 +12,7 @@ use ss_adapter::{Desk, Further, launch, turn, turn_before, turn_elsewhere};
 use ss_console::Go;
 use ss_debug::Debugger;
 use ss_links::LinkedSets;
-use ss_messages::{Command, Post, Request, Stops, Text};
+use ss_messages::{Command, Counting, Post, Request, Source, Stops, Text};
 use ss_serve::Answerer;
 use std::alloc::{AllocError, Global};
 use std::mem;
@@ -23,16 +24,22 @@ type Run = (Debugger<LinkedSets>, Desk);
 #[derive(Drop)]
 pub struct Adapter<'a, F: Shelf> {
     shelf: &'a F,
+    counting: Counting,
     run: Option<Run>,
 }
 
 impl<'a, F: Shelf> Adapter<'a, F> {
-    /// No run is launched.
+    /// No run is launched, and the editor counts from 1 on.
     pub fn new(shelf: &'a F) -> Self
         ensures shelf { result.shelf.now ≡ shelf.now }
+        ensures counting { result.counting ≡ from_one }
         ensures run { result.run ≡ None }
     {
-        Adapter { shelf, run: None }
+        Adapter {
+            shelf,
+            counting: Counting::from_one(),
+            run: None,
+        }
     }
 
     /// Lets the run go, if one was launched.
@@ -63,20 +70,31 @@ fn data_at<F: Shelf>(
     }
 }
 
+/// How the editor counts after a request.
+fn counting_after(counting: Counting, command: &Command) -> Counting
+    ensures { result ≡ counting_after counting command.now }
+{
+    match command {
+        Command::Initialize(said) => *said,
+        _ => counting,
+    }
+}
+
 /// Reads the files of launch and opens the run of the model over the data; answers launch.
 fn open<F: Shelf>(
     shelf: &F,
     request: &Request,
     post: &mut Post,
-    path: &Text,
+    source: Source<'_>,
     data_path: &Option<Text>,
     stops: Stops,
 ) -> Result<Option<Run>, AllocError>
     requires { post.old.sent < 2 ^ 53 }
-    ensures { IfOk result (λ run. IsOpened (F.files shelf.now) request.now path.now data_path.now
-        stops post.old post.new (option_map (λ r. adapter_state_of r.0 r.1) run)) }
+    ensures { IfOk result (λ run. IsOpened (F.files shelf.now) request.now source.entry.path.now
+        data_path.now source.entry.counting stops post.old post.new
+        (option_map (λ r. adapter_state_of r.0 r.1) run)) }
 {
-    let Some(model) = shelf.bytes_at(path.as_slice())? else {
+    let Some(model) = shelf.bytes_at(source.path)? else {
         post.fail(request, b"cannot read the model")?;
         return Ok(None);
     };
@@ -84,7 +102,7 @@ fn open<F: Shelf>(
         post.fail(request, b"cannot read the data")?;
         return Ok(None);
     };
-    launch(request, post, path.as_slice(), stops, &model, &text)
+    launch(request, post, source, stops, &model, &text)
 }
 
 /// Whether a session goes on.
@@ -97,24 +115,30 @@ fn go_behind(further: Further) -> Go
     }
 }
 
-/// Answers a request before a run is launched; launch leaves the run that it opens.
+/// Answers a request before a run is launched, of an editor that counts so; launch leaves the run that
+/// it opens.
 #[tactic(auto, using(crate::proofs::Openings::firsts), unfolding(crate::specs::Editing::AnswersBefore))]
 fn answer_before<F: Shelf>(
     shelf: &F,
+    counting: Counting,
     run: &mut Option<Run>,
     request: &Request,
     post: &mut Post,
 ) -> Result<Go, AllocError>
     requires none { run.old ≡ None }
     requires room { post.old.sent < 2 ^ 53 }
-    ensures { IfOk result (λ go. IsAnswer editor_meaning (editing_state (F.files shelf.now) (F.same shelf.now) None)
+    ensures { IfOk result (λ go. IsAnswer editor_meaning
+        (editing_state (F.files shelf.now) (F.same shelf.now) counting None)
         (editing_state (F.files shelf.now) (F.same shelf.now)
+        (counting_after counting request.now.command)
         (option_map (λ r. adapter_state_of r.0 r.1) run.new))
         request.now post.old post.new go) }
 {
     match &request.command {
         Command::Launch(path, data_path, stops) => {
-            let opened = open(shelf, request, post, path, data_path, *stops)?;
+            let path = path.as_slice();
+            let source = Source { path, counting };
+            let opened = open(shelf, request, post, source, data_path, *stops)?;
             let_go(mem::replace(run, opened));
             Ok(Go::On)
         }
@@ -122,24 +146,28 @@ fn answer_before<F: Shelf>(
     }
 }
 
-/// How many break points a request sets of another file than the model; `None` where it sets some of
-/// the model, or of no file that it names.
-fn points_elsewhere<F: Shelf>(shelf: &F, desk: &Desk, command: &Command) -> Option<usize>
-    ensures { IsElsewhere (F.same shelf.now) desk.now.path command.now result }
+/// The path of the source that a request speaks of.
+fn source_path(command: &Command) -> Option<&[u8]>
+    ensures { option_map (λ path. path.now) result ≡ source_path command.now }
 {
     match command {
-        Command::SetBreakpoints(Some(path), points) => {
-            if shelf.is_same(desk.path(), path.as_slice()) {
-                None
-            } else {
-                Some(points.as_slice().len())
-            }
-        }
+        Command::SetBreakpoints(Some(path), _) => Some(path.as_slice()),
+        Command::GotoTargets(Some(path), _) => Some(path.as_slice()),
         _ => None,
     }
 }
 
-/// Answers a request about a run; break points of another file than the model are not set.
+/// Whether the file at a path is another than the model; no path is the model.
+fn is_elsewhere<F: Shelf>(shelf: &F, desk: &Desk, path: Option<&[u8]>) -> bool
+    ensures { IsElsewhere (F.same shelf.now) desk.now.path (option_map (λ p. p.now) path.entry) result }
+{
+    match path {
+        Some(path) => !shelf.is_same(desk.path(), path),
+        None => false,
+    }
+}
+
+/// Answers a request about a run; one that speaks of another file than the model is not heeded.
 #[tactic(auto, using(crate::proofs::Openings::turned))]
 fn answer_about_run<F: Shelf>(
     shelf: &F,
@@ -149,29 +177,29 @@ fn answer_about_run<F: Shelf>(
     post: &mut Post,
 ) -> Result<Go, AllocError>
     requires { post.old.sent < 2 ^ 53 }
-    ensures { IfOk result (λ go. IsAnswer editor_meaning
-        (editing_state (F.files shelf.now) (F.same shelf.now)
-        (Some (adapter_state_of debugger.old desk.old)))
-        (editing_state (F.files shelf.now) (F.same shelf.now)
-        (Some (adapter_state_of debugger.new desk.new)))
+    ensures { IfOk result (λ go. IsTurned (F.same shelf.now)
+        (adapter_state_of debugger.old desk.old) (adapter_state_of debugger.new desk.new)
         request.now post.old post.new go) }
 {
-    match points_elsewhere(shelf, desk, &request.command) {
-        Some(count) => Ok(go_behind(turn_elsewhere(request, post, count)?)),
-        None => Ok(go_behind(turn(debugger, desk, request, post)?)),
+    if is_elsewhere(shelf, desk, source_path(&request.command)) {
+        return Ok(go_behind(turn_elsewhere(request, post)?));
     }
+    Ok(go_behind(turn(debugger, desk, request, post)?))
 }
 
 impl<F: Shelf> Answerer for Adapter<'_, F> {
     ghost meaning = { editor_meaning };
 
-    ghost state = { λ a. editing_state (F.files a.shelf.now) (F.same a.shelf.now)
+    ghost state = { λ a. editing_state (F.files a.shelf.now) (F.same a.shelf.now) a.counting
         (option_map (λ r. adapter_state_of r.0 r.1) a.run) };
 
+    #[tactic(auto, using(crate::proofs::Openings::answered))]
     fn answer(&mut self, request: &Request, post: &mut Post) -> Result<Go, AllocError> {
+        let counting = self.counting;
+        self.counting = counting_after(counting, &request.command);
         if let Some((debugger, desk)) = &mut self.run {
             return answer_about_run(self.shelf, debugger, desk, request, post);
         }
-        answer_before(self.shelf, &mut self.run, request, post)
+        answer_before(self.shelf, counting, &mut self.run, request, post)
     }
 }

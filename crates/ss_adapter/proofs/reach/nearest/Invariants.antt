@@ -11,7 +11,7 @@ invariant-loop-text g l = record {
   state : debugger_state_of l.debugger ≡ debugger_state_of l.fn.debugger;
   place : l.place ≡ l.text-index;
   found : nearest_from l.found l.place
-      (map (λ text. reach_of l.fn.debugger.machine.input (debugger_state_of l.fn.debugger) l.way (question_of text))
-      (drop l.text-index l.texts))
+      (map (λ text. reach_of l.fn.debugger.machine.input (debugger_state_of l.fn.debugger) l.way
+      (question_of l.fn.debugger.machine.input.program text)) (drop l.text-index l.texts))
       ≡ nearest (reaches l.fn.debugger.machine.input (debugger_state_of l.fn.debugger) l.way l.texts);
 }

@@ -1,9 +1,8 @@
-use Rattle.std.proofs.Common.{◌≡◌, take, map, []}
-use Rattle.std.specs.Prelude.{unwrap_or}
+use Rattle.std.proofs.Common.{◌≡◌, take, map}
 use Rattle.serde_json.specs.View.{view}
-use Rattle.ss_messages.specs.Requests.{text_at}
+use Rattle.ss_messages.specs.Requests.{plain_text}
 use Rattle.ss_messages.proofs.arguments.texts_of.Given as goal
 
 abbrev pub invariant-loop-point : goal.invariant-loop-point
 invariant-loop-point l =
-    l.texts.items ≡ map (λ point. unwrap_or (text_at l.key (view point)) []) (take l.point-index l.points)
+    l.texts.items ≡ map (λ point. plain_text l.key (view point)) (take l.point-index l.points)

@@ -1,6 +1,6 @@
 use Rattle.std.proofs.Common.{◌≡◌, ◌≤◌, ◌+◌, ◌-◌, drop}
-use Rattle.ss_messages.specs.Requests.{count_units, within_units}
-use Rattle.ss_messages.proofs.arguments.units_within.Given as goal
+use Rattle.ss_messages.specs.Units.{count_units, within_units}
+use Rattle.ss_messages.proofs.units.units_within.Given as goal
 
 -- what is counted so far and what is left of the text make the whole count
 abbrev pub invariant-loop-byte : goal.invariant-loop-byte

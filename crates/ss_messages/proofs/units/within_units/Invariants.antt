@@ -1,6 +1,6 @@
 use Rattle.std.proofs.Common.{◌≡◌, ◌++◌, drop}
-use Rattle.ss_messages.specs.Requests.{within_units}
-use Rattle.ss_messages.proofs.arguments.within_units.Given as goal
+use Rattle.ss_messages.specs.Units.{within_units}
+use Rattle.ss_messages.proofs.units.within_units.Given as goal
 
 -- the bytes that are left bring the part so far to the whole part
 abbrev pub invariant-loop-byte : goal.invariant-loop-byte
