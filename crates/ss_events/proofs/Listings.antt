@@ -14,7 +14,8 @@ use Rattle.ss_events.specs.declared.pending_notice.Row.{Row}
 use Rattle.ss_events.specs.declared.listing.Listing.{Listing}
 use Rattle.ss_events.specs.Agenda.{Pending, pending_at, is_before, least, of_class}
 use Rattle.ss_events.specs.State.{AgendaState, Each, IsPending, seat_in, seats_of, order}
-use Rattle.ss_events.specs.Places.{first, earlier, notice_on, pending_on, IsTakenIfSome}
+use Rattle.std.specs.Option.{IsSome, option_map}
+use Rattle.ss_events.specs.Places.{first, earlier, notice_on, pending_on, IsTaken, IsTakenIfSome}
 use Rattle.ss_events.specs.Listings.{seat_of_class, left_of, IsListing}
 use Rattle.ss_events.specs.Views.{notice_of}
 use Rattle.ss_events.specs.Rows.{and_others, notices_from, IsAgenda}
@@ -90,9 +91,10 @@ pub record IsFirstOf (s : AgendaState) (es : List Pending) (c : ℕ) (at : Optio
   pub first : pending_on s at ≡ first (of_class c es)
   pub taken : IsTakenIfSome s at
 
-pub first-of_class : (rows : List Row) (s : AgendaState) (b : Board) (l : Listing) (c : ℕ) (at : Option ℕ) →
-    IsAgenda rows s b → IsListing s l → c < length s.rules → at ≡ seat_of_class l c → IsFirstOf s (left_of s l) c at
-first-of_class rows s b l c at k i m h = rw (h ∙ i.seats c m) (go (of_class c (left_of s l)) refl)
+first-left : (rows : List Row) (s : AgendaState) (b : Board) (l : Listing) (c : ℕ) (at : Option ℕ) →
+    IsAgenda rows s b → at ≡ first_of (seats_of s.notices (of_class c (left_of s l))) →
+    IsFirstOf s (left_of s l) c at
+first-left rows s b l c at k h = rw h (go (of_class c (left_of s l)) refl)
   where
     done : List Pending
     done = of_class c (take l.listed (order s))
@@ -119,6 +121,10 @@ first-of_class rows s b l c at k i m h = rw (h ∙ i.seats c m) (go (of_class c 
               ∙ (t.pending ∙ ap first (sym e));
           taken = taken-stands s c done f fs t;
         })
+
+pub first-of_class : (rows : List Row) (s : AgendaState) (b : Board) (l : Listing) (c : ℕ) (at : Option ℕ) →
+    IsAgenda rows s b → IsListing s l → c < length s.rules → at ≡ seat_of_class l c → IsFirstOf s (left_of s l) c at
+first-of_class rows s b l c at k i m h = first-left rows s b l c at k (h ∙ i.seats c m)
 
 -- a class more
 pub first-more : (rows : List Row) (s : AgendaState) (b : Board) (l : Listing) (c : ℕ) (at own new : Option ℕ) →
@@ -288,3 +294,53 @@ pub none-at : (n c : ℕ) → get_or {A = Option ℕ} (replicate n None) c None 
 none-at zero c = refl
 none-at (suc n) zero = refl
 none-at (suc n) (suc c) = none-at n c
+
+-- a listing that has listed nothing: what it has left is the order
+abbrev pub nothing_listed : Listing
+nothing_listed = record { seats = []; listed = 0 }
+
+pub first-among : (rows : List Row) (s : AgendaState) (b : Board) (c : ℕ) (at : Option ℕ) → IsAgenda rows s b →
+    at ≡ first_of (class_seats s c) → IsFirstOf s (order s) c at
+first-among rows s b c at k h = first-left rows s b nothing_listed c at k h
+
+-- a class more, and one that is no event class
+pub least-more : (rows : List Row) (s : AgendaState) (b : Board) (c : ℕ) (at own new : Option ℕ) → IsAgenda rows s b →
+    IsFirst s (order s) c at → IsFirstOf s (order s) c own →
+    pending_on s new ≡ earlier (is_before s.rules) (pending_on s at) (pending_on s own) → IsTakenIfSome s new →
+    IsFirst s (order s) (c + 1) new
+least-more rows s b c at own new k f o e t = first-more rows s b nothing_listed c at own new k f o e t
+
+earlier-none : (lt : Pending → Pending → Bool) (o : Option Pending) → o ≡ earlier lt o None
+earlier-none lt None = refl
+earlier-none lt (Some e) = refl
+
+pub least-same : (rows : List Row) (s : AgendaState) (b : Board) (c : ℕ) (at : Option ℕ) → IsAgenda rows s b →
+    is_event_class s.rules c ≡ false → IsFirst s (order s) c at → IsFirst s (order s) (c + 1) at
+least-same rows s b c at k e f =
+    let none : of_class c (order s) ≡ [] = none-of_class s.rules c (order s) (Each-order (λ g. is_event_class s.rules
+    g.class ≡ true) s (told rows s b k) (event-each rows s b k)) e in
+    let own : IsFirstOf s (order s) c None = record { first = sym (ap first none); taken = tt } in
+    least-more rows s b c at None at k f own (earlier-none (is_before s.rules) (pending_on s at)) f.taken
+
+pub least-all : (rows : List Row) (s : AgendaState) (b : Board) (c : ℕ) (at : Option ℕ) → IsAgenda rows s b →
+    c ≡ length s.rules → IsFirst s (order s) c at → pending_on s at ≡ least s.rules s.agenda.pending
+least-all rows s b c at k h f = first-all rows s b nothing_listed c at k h f ∙ least-at rows s b k
+
+-- a pending notice that is found has the reference that it was looked for by
+found-has : (es : List Pending) (n : ℕ) (e : Pending) → pending_at es n ≡ Some e → e.notice ≡ n
+found-has [] n e h = absurd (cc)
+found-has (f ∷ fs) n e h = elim (eqb f.notice n)
+    as (λ t. eqb f.notice n ≡ t → cond t (Some f) (pending_at fs n) ≡ Some e → e.notice ≡ n) [
+      | true ↦ λ t g. let one : f ≡ e = cc in rw (← one) (grind (arith, nat_tests, t))
+      | false ↦ λ t g. found-has fs n e g
+    ] refl h
+
+some-notice : (es : List Pending) (n : ℕ) (o : Option Pending) → IsSome (pending_at es n) → pending_at es n ≡ o →
+    Some n ≡ option_map (λ e. e.notice) o
+some-notice es n None there is = let none : false ≡ true = rw is at there in absurd (cc)
+some-notice es n (Some e) there is = ap Some (sym (found-has es n e is))
+
+-- the notice of a seat that has the least
+pub least-notice : (s : AgendaState) (x : ℕ) (o : Option Pending) → IsTaken s x → pending_on s (Some x) ≡ o →
+    Some (notice_on s x) ≡ option_map (λ e. e.notice) o
+least-notice s x o t is = some-notice s.agenda.pending (notice_on s x) o t.pending is

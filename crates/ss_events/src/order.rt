@@ -84,13 +84,31 @@ impl<S: SetBoard> Agenda<S> {
         Some(self.notices[seat as usize])
     }
 
+    /// The seat of the notice that is due before all others. Each class's first is compared, and no
+    /// listing is begun.
+    fn least_seat(&self) -> Option<u32>
+        ensures notice { pending_on self.now result
+            ≡ least self.now.rules self.now.agenda.pending }
+        ensures taken { IsTakenIfSome self.now result }
+    {
+        let mut least = None;
+        let mut list = 0;
+        for class in 0..self.rules.len() {
+            if self.rules[class].for_events {
+                least = self.earlier(least, self.board.first(list));
+                list += 1;
+            }
+        }
+        least
+    }
+
     /// The notice that is due before all others, or none where none is pending.
     pub fn next(&self) -> Option<u32>
         ensures { result
             ≡ option_map (λ e. e.notice) (least self.now.rules self.now.agenda.pending) }
     {
-        let mut listing = self.listing();
-        self.list_next(&mut listing)
+        let seat = self.least_seat()?;
+        Some(self.notice(seat))
     }
 
     /// The notice with this number in the order of all pending ones, from 0.

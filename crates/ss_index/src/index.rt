@@ -51,6 +51,10 @@ impl SeatIndex {
         ensures seats { self.new ≡ seats_filed (O.behind order.now) node self.old }
         ensures before { result ≡ last_of (seats_passed (O.behind order.now) self.old) }
     {
+        if let Tree::Leaf = self.root {
+            self.root = Tree::Fork(node.fork);
+            return None;
+        }
         let (front, rest) = split(mem::replace(&mut self.root, Tree::Leaf), order);
         let before = last(&front);
         let rest = merge(Tree::Fork(node.fork), rest);
