@@ -5,8 +5,7 @@ ghost use Rattle.ss_prompt.specs.Help.{all_rows, rows_of, has_row, help_rows, he
 use ss_debug::Name;
 use std::alloc::AllocError;
 
-/// A row for each form of a command: the word that it begins with; how it is written, and what it
-/// does.
+/// A row for each form of a command: the word that it begins with; its form, and its effect.
 pub const HELP_ROWS: [(&[u8], &[u8]); 57] = [
     (b"STEP", b"STEP [n]: n steps forward, 1 if not said"),
     (
@@ -206,7 +205,7 @@ fn push_no_help(text: &mut Vec<u8>, word: &[u8]) -> Result<(), AllocError>
     text.extend_from_slice(b"\n")
 }
 
-/// Appends what HELP answers on a word, by these rows.
+/// Appends the answer to HELP on a word, by these rows.
 fn push_help_by(
     text: &mut Vec<u8>,
     word: &[u8],
@@ -223,7 +222,7 @@ fn push_help_by(
     push_no_help(text, word)
 }
 
-/// Appends what HELP answers.
+/// Appends the answer to HELP.
 #[tactic(auto, unfolding(crate::specs::Help::help_said))]
 pub(crate) fn push_help(text: &mut Vec<u8>, word: Option<Name>) -> Result<(), AllocError>
     ensures { OnOk result (text.new.items ≡ text.old.items ++ help_said word) }

@@ -7,8 +7,8 @@ ghost use Rattle.ss_sentences.specs.Wording as spec;
 use ss_words::RunFault;
 
 /// The sentence of each rule on the text and of each rule of the checker, by its code. The first
-/// `{}` stands for what is refused; the second, of L3, for its length, and of a rule P for the word
-/// before it.
+/// `{}` is the place of the words that are refused. The second is for L3 the place of their length,
+/// and for a rule P that of the word before them.
 pub const RULE_SENTENCES: [(&[u8], &[u8]); 22] = [
     (b"L1", b"The byte {} has no meaning where it stands."),
     (
@@ -124,7 +124,7 @@ pub const FAULT_SENTENCES: [(u8, &[u8]); 22] = [
 ];
 
 /// The sentence of the rule with this code, as `C10`, with `{}` in the place of the words that it
-/// names (docs/SENTENCES.md); empty where no rule has this code.
+/// names (docs/SENTENCES.md); empty if no rule has this code.
 #[tactic(auto, unfolding(crate::specs::Wording::rule_sentence))]
 pub fn rule_sentence(code: &str) -> &'static [u8]
     ensures { result.now ≡ spec.rule_sentence code.now }
@@ -153,7 +153,7 @@ pub fn fault_sentence(fault: RunFault) -> &'static [u8]
     text_beside_number(fault.number(), &FAULT_SENTENCES)
 }
 
-/// The text beside a number in a table; empty where it has none.
+/// The text in the row of a number in a table; empty if there is no such row.
 pub fn text_beside_number(number: u8, mut rows: &'static [(u8, &'static [u8])]) -> &'static [u8]
     ensures { result.now
         ≡ spec.beside_number number (map (λ row. (row.0, row.1.now)) rows.entry.now) }
