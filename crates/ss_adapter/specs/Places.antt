@@ -73,7 +73,7 @@ with_next counting reason setting None =
 -- the break line for a line that the request names, if a place stands on it or after it
 abbrev pub with_asked : ProgramTable → Counting → Setting → ℕ → Setting
 with_asked program counting setting line =
-    with_next counting (codes "no statement stands here") setting
+    with_next counting (codes "no statement is here") setting
     (next_line program (meant counting.lines_from_one line))
 
 -- a break point that would not stop each time

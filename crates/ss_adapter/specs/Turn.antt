@@ -224,7 +224,7 @@ setting_in state points =
 abbrev pub answer_unset : List ℕ → ℕ → List Sent
 answer_unset reason n = reply (list_body (codes "breakpoints") (unset_items reason n)) ∷ []
 
--- what a request is answered with that speaks of another file than the model: of its break points none is set
+-- what a request is answered with that speaks of a file other than the model: of its break points none is set
 abbrev pub answers_elsewhere : Command → List Sent
 answers_elsewhere (SetBreakpoints path points) = answer_unset ELSEWHERE.now (length points)
 answers_elsewhere other = failure ELSEWHERE.now ∷ []

@@ -18,7 +18,7 @@ use ss_program::{Program, Section, Spot};
 use std::alloc::{AllocError, Global};
 
 /// Why a break point is not set that would not stop each time.
-pub const UNHEEDED: &[u8] = b"conditions, counts of hits and messages are not heeded";
+pub const UNHEEDED: &[u8] = b"conditions, hit counts and messages are not supported";
 
 /// The nearer of two lines, the first of which may be none, that are not before a line.
 fn nearer_line(from: u64, nearest: Option<u32>, line: usize) -> Option<u32>
@@ -216,7 +216,7 @@ fn set_line<S: SetBoard>(
 {
     let line = pen.counting.meant_line(asked);
     let next = next_line(debugger.machine().program(), line);
-    set_next(pen, debugger, set, text, b"no statement stands here", next)
+    set_next(pen, debugger, set, text, b"no statement is here", next)
 }
 
 /// Sets the break line for a break point of a request, if it stops each time.

@@ -111,10 +111,10 @@ pub(crate) fn further_behind(command: &Command) -> Further
     }
 }
 
-/// Why a request is not heeded that speaks of another file than the model.
-const ELSEWHERE: &[u8] = b"another file than the model";
+/// Why a request is not heeded that speaks of a file other than the model.
+const ELSEWHERE: &[u8] = b"a file other than the model";
 
-/// Answers a request that speaks of another file than the model: of its break points none is set.
+/// Answers a request that speaks of a file other than the model: of its break points none is set.
 #[tactic(auto, unfolding(ss_messages::specs::Messages::posted_all))]
 fn refuse_elsewhere(request: &Request, post: &mut Post) -> Result<(), AllocError>
     requires { post.old.sent < 2 ^ 64 - 1 }
@@ -129,7 +129,7 @@ fn refuse_elsewhere(request: &Request, post: &mut Post) -> Result<(), AllocError
     }
 }
 
-/// One turn of a request that speaks of another file than the model: it is not heeded, and the run is
+/// One turn of a request that speaks of a file other than the model: it is not heeded, and the run is
 /// not asked.
 pub fn turn_elsewhere(request: &Request, post: &mut Post) -> Result<Further, AllocError>
     requires { post.old.sent < 2 ^ 64 - 1 }

@@ -1,4 +1,5 @@
 //! The parts of a state that are compared from step to step.
+
 /// A part of a state that a step may change. Frames and places are none of them.
 #[derive(Clone, Copy)]
 pub enum Part {

@@ -28,7 +28,7 @@ further_words (word ∷ words) = 32 ∷ (word ++ further_words words)
 
 -- the nearest words, or that HELP lists the commands
 abbrev pub near_text : List (List ℕ) → List ℕ
-near_text [] = codes "HELP TELLS THE COMMANDS.\n"
+near_text [] = codes "HELP SHOWS THE COMMANDS.\n"
 near_text (word ∷ words) = codes "NEAREST: " ++ word ++ further_words words ++ 10 ∷ []
 
 -- the range of numbers, if there is a number

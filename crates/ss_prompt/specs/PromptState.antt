@@ -107,5 +107,5 @@ place_text state =
 -- model, and the state of the debugger
 abbrev pub greeting : PromptState → List ℕ
 greeting state =
-    codes "HELP TELLS THE COMMANDS.\n" ++ warnings_told state.input.program state.model
+    codes "HELP SHOWS THE COMMANDS.\n" ++ warnings_told state.input.program state.model
     ++ state_line state.input state.debugger.position ++ place_text state

@@ -50,7 +50,7 @@ pub(crate) fn has_number(line: &[u8]) -> bool
 fn push_nothing_near(text: &mut Vec<u8>) -> Result<(), AllocError>
     ensures { OnOk result (text.new.items ≡ text.old.items ++ near_text []) }
 {
-    text.extend_from_slice(b"HELP TELLS THE COMMANDS.\n")
+    text.extend_from_slice(b"HELP SHOWS THE COMMANDS.\n")
 }
 
 /// Appends the words that begin with the first letters of a word, or that HELP lists the commands.

@@ -208,7 +208,7 @@ impl<'a> PromptDesk<'a> {
         ensures { OnOk result (text.new.items
             ≡ text.old.items ++ greeting (state_at debugger.now self.now)) }
     {
-        text.extend_from_slice(b"HELP TELLS THE COMMANDS.\n")?;
+        text.extend_from_slice(b"HELP SHOWS THE COMMANDS.\n")?;
         self.push_warnings(debugger, text)?;
         push_place(debugger, text)?;
         self.push_place_text(debugger, text)

@@ -15,7 +15,7 @@ pub const HELP_ROWS: [(&[u8], &[u8]); 57] = [
     (b"RUN", b"RUN TO t: forward to time t or a break line"),
     (
         b"RUN",
-        b"RUN CHANGE x: forward to behind a step that changes x",
+        b"RUN CHANGE x: forward to after a step that changes x",
     ),
     (b"NEXT", b"NEXT: forward to the next event start"),
     (
@@ -34,7 +34,10 @@ pub const HELP_ROWS: [(&[u8], &[u8]); 57] = [
         b"BACK",
         b"BACK OVER [n]: back over n statements of this section",
     ),
-    (b"BACK", b"BACK OUT: back to what called this section"),
+    (
+        b"BACK",
+        b"BACK OUT: back to the statement that called this section",
+    ),
     (b"BACK", b"BACK TO t: back to a state before time t"),
     (b"GO", b"GO p: to state p, forward or back"),
     (b"GO", b"GO END: forward to the end, without a bound"),
@@ -64,7 +67,7 @@ pub const HELP_ROWS: [(&[u8], &[u8]); 57] = [
     ),
     (
         b"SHOW",
-        b"SHOW IN c k: the lists in which it stands, and when it is to happen",
+        b"SHOW IN c k: the lists that it is in, and when it is due",
     ),
     (
         b"SHOW",
@@ -104,7 +107,7 @@ pub const HELP_ROWS: [(&[u8], &[u8]); 57] = [
     (b"UNDISPLAY", b"UNDISPLAY x: answer x at stops no more"),
     (
         b"NAMES",
-        b"NAMES: the names of the model, how often each stands, and its first line",
+        b"NAMES: the names of the model, how often each occurs, and its first line",
     ),
     (
         b"NAMES",

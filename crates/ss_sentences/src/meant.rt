@@ -71,7 +71,7 @@ pub const LOOP_END_HINT: &[u8] =
     b"WHILE and UNTIL belong to a FOR: FOR I = 1 TO 1000, WHILE X < 3, DO .. LOOP.\n";
 
 pub const NOT_HINT: &[u8] =
-    b"NOT stands in IS NOT EMPTY and IS NOT IN alone: turn the comparison, as = to NE.\n";
+    b"NOT is part of IS NOT EMPTY and IS NOT IN only: turn the comparison, as = to NE.\n";
 
 pub const UNEQUAL_HINT: &[u8] = b"Unequal is NE.\n";
 

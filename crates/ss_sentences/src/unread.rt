@@ -22,9 +22,9 @@ pub const CUT_MARK: &[u8] = b"..";
 pub const BYTE_HINTS: [(u8, &[u8]); 17] = [
     (
         b'/',
-        b"A quotient is DIV.F(x, y), and what is left over MOD.F(x, y).\n",
+        b"A quotient is DIV.F(x, y), and a remainder is MOD.F(x, y).\n",
     ),
-    (b'%', b"What is left over by a division is MOD.F(x, y).\n"),
+    (b'%', b"The remainder of a division is MOD.F(x, y).\n"),
     (
         b'_',
         b"A name is of letters, digits and stops: MEAN.WAIT.\n",
@@ -35,28 +35,22 @@ pub const BYTE_HINTS: [(u8, &[u8]); 17] = [
     ),
     (
         b'"',
-        b"Only the picture of a PRINT is a text: the lines behind it, as they stand.\n",
+        b"Only the picture of a PRINT is a text: the lines after it, as they are.\n",
     ),
     (b'!', b"Unequal is NE, and a comment begins with ''.\n"),
     (b'#', b"A comment begins with ''.\n"),
     (
         b';',
-        b"Nothing parts statements: a new one begins with its first word.\n",
+        b"No sign separates statements: a new one begins with its first word.\n",
     ),
     (
         b':',
-        b"Nothing parts statements: a new one begins with its first word.\n",
+        b"No sign separates statements: a new one begins with its first word.\n",
     ),
-    (b'[', b"A subscript stands in parentheses: SIZE(JOB).\n"),
-    (b']', b"A subscript stands in parentheses: SIZE(JOB).\n"),
-    (
-        b'{',
-        b"What belongs together ends with its word: ALWAYS, LOOP or END.\n",
-    ),
-    (
-        b'}',
-        b"What belongs together ends with its word: ALWAYS, LOOP or END.\n",
-    ),
+    (b'[', b"A subscript is written in parentheses: SIZE(JOB).\n"),
+    (b']', b"A subscript is written in parentheses: SIZE(JOB).\n"),
+    (b'{', b"A block ends with its word: ALWAYS, LOOP or END.\n"),
+    (b'}', b"A block ends with its word: ALWAYS, LOOP or END.\n"),
     (b'&', b"Conditions are joined by AND.\n"),
     (b'|', b"Conditions are joined by OR.\n"),
     (b'^', b"A power is written as a product: X * X.\n"),
@@ -71,20 +65,20 @@ pub const OUTSIDE_HINT: &[u8] =
     b"A text has the characters from the blank to ~, and tabs; no others.\n";
 
 pub const LETTER_HINT: &[u8] =
-    b"It is of a letter outside ASCII, as an accented one: a text has none.\n";
+    b"It is part of a letter outside ASCII, such as an accented one: a text has none.\n";
 
-pub const MARK_HINT: &[u8] = b"A byte order mark stands here: save the text without one.\n";
+pub const MARK_HINT: &[u8] = b"A byte order mark is here: save the text without one.\n";
 
 /// The byte order mark of UTF-8, and the last byte of ASCII.
 pub const BYTE_ORDER_MARK: [u8; 3] = [239, 187, 191];
 
 pub const LAST_OF_ASCII: u8 = 127;
 
-pub const STOP_HINT: &[u8] = b"Values are whole: no digits stand behind a stop.\n";
+pub const STOP_HINT: &[u8] = b"Values are whole numbers: no digits follow a stop.\n";
 
 pub const GREAT_HINT: &[u8] = b"It is greater than the greatest value.\n";
 
-pub const BEHIND_HINT: &[u8] = b"More stands behind it on this line.\n";
+pub const BEHIND_HINT: &[u8] = b"More follows it on this line.\n";
 
 pub const BELOW_HINT: &[u8] = b"Lines below this one: {}.\n";
 
