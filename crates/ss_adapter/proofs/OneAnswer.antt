@@ -47,7 +47,7 @@ events_more (event name body ∷ ms) b p q = events_more ms b p q
 events_more (reply body ∷ ms) b p q = absurd p
 events_more (failure reason ∷ ms) b p q = absurd p
 
--- ---- what follows a movement
+-- ---- the messages after a movement
 
 output_by : (told : ℕ) (report : List ℕ) (more : Bool) →
     AreEvents (cond more (event (codes "output") (output_body (codes "stdout") (drop told report)) ∷ []) [])
@@ -85,7 +85,7 @@ going_told state going answer =
     movement_told state.input state.desk (state_behind state.input state.debugger going) answer
     (watched_by going answer)
 
--- ---- what follows a command of the console
+-- ---- the messages after a command of the console
 
 point_is_told : (program : ProgramTable) (path : List ℕ) (counting : Counting) (line : ℕ) (new old : Bool) →
     AreEvents (point_told program path counting line new old)

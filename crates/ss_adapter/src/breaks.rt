@@ -153,7 +153,7 @@ pub fn push_unset(
     text.extend_from_slice(&item)
 }
 
-/// Appends so many break points that are not set, for one reason.
+/// Appends `count` break points that are not set, for one reason.
 pub fn push_all_unset(
     alloc: Global,
     text: &mut Vec<u8>,
@@ -168,7 +168,7 @@ pub fn push_all_unset(
     Ok(())
 }
 
-/// Sets a break line, if there is one, and tells where, or why not.
+/// Sets a break line, if there is one, and appends its line, or why there is none.
 #[tactic(auto, unfolding(ss_debug::proofs::Unfoldings::turns))]
 fn set_next<S: SetBoard>(
     pen: Pen,
@@ -263,7 +263,7 @@ fn set_section<S: SetBoard>(
 }
 
 /// Sets the break lines of a request in place of those of an earlier one, keeps those that requests
-/// for sections set, and appends what the reply says of each.
+/// for sections set, and appends the item of the reply for each.
 pub fn set_lines<S: SetBoard>(
     pen: Pen,
     debugger: &mut Debugger<S>,
@@ -288,7 +288,7 @@ pub fn set_lines<S: SetBoard>(
 }
 
 /// Sets the break lines of the sections of a request in place of those of an earlier one, keeps
-/// those that requests for lines set, and appends what the reply says of each.
+/// those that requests for lines set, and appends the item of the reply for each.
 pub fn set_sections<S: SetBoard>(
     pen: Pen,
     debugger: &mut Debugger<S>,

@@ -16,7 +16,7 @@ use ss_links::SetBoard;
 use ss_messages::{Command, Post, Request};
 use std::alloc::AllocError;
 
-/// Whether a session goes on behind a request.
+/// Whether a session goes on after a request.
 #[derive(Clone, Copy)]
 pub enum Further {
     /// The next request is read.
@@ -25,7 +25,7 @@ pub enum Further {
     Ended,
 }
 
-/// Answers a request that asks for no movement, where all its break points may be set.
+/// Answers a request that asks for no movement, if all its break points may be set.
 #[tactic(auto, unfolding(crate::specs::Turn::told_debugged, crate::specs::Turn::left_debugged))]
 fn answer_debugged<S: SetBoard>(
     debugger: &mut Debugger<S>,
@@ -141,10 +141,10 @@ pub fn turn_elsewhere(request: &Request, post: &mut Post) -> Result<Further, All
     Ok(further_behind(&request.command))
 }
 
-/// One turn: does what a request asks, and posts its reply and the events that follow it.
+/// One turn: obeys a request, and posts its reply and the events that follow it.
 ///
-/// `AllocError` where memory was refused: the run is the same one, and nothing is said of what is
-/// posted.
+/// `AllocError` if memory was refused: the run is the same one, and the posted messages are not
+/// known.
 pub fn turn<S: SetBoard>(
     debugger: &mut Debugger<S>,
     desk: &mut Desk,
