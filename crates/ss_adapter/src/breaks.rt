@@ -6,7 +6,8 @@ ghost use Rattle.ss_debug.specs.Turn.{debugger_state_with};
 ghost use Rattle.ss_messages.specs.Bodies.{unset_item};
 ghost use Rattle.ss_adapter.specs.Places.{nearer_line, next_line, first_place_line, named_line};
 ghost use Rattle.ss_adapter.specs.Places.{without_lines, breaks_left};
-ghost use Rattle.ss_adapter.specs.Places.{with_next, with_asked, with_point, with_named, unset_items, setting_of, section_setting_of};
+ghost use Rattle.ss_adapter.specs.Places.{with_next, with_asked, with_point, with_named};
+ghost use Rattle.ss_adapter.specs.Places.{unset_items, setting_of, section_setting_of};
 ghost use Rattle.ss_adapter.specs.Places.{IsSetting};
 
 use crate::desk::MOST_WATCHED;

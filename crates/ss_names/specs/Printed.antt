@@ -1,5 +1,6 @@
 -- Lines of a picture that look like statements.
-use Rattle.std.specs.Prelude.{ℕ, ◌+◌, ◌==◌, ◌&&◌, not, nat_lt, Bool, true, false, List, [], ◌∷◌, ◌++◌, length, take, drop}
+use Rattle.std.specs.Prelude.{ℕ, ◌+◌, ◌==◌, ◌&&◌, not, nat_lt, Bool, true}
+use Rattle.std.specs.Prelude.{false, List, [], ◌∷◌, ◌++◌, length, take, drop}
 use Rattle.std.specs.Prelude.{take_while, map, codes, decimal}
 use Rattle.std.specs.List.{list_any}
 use Rattle.ss_words.specs.declared.characters.TheConstants.{ASTERISK}

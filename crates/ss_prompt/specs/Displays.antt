@@ -1,5 +1,6 @@
 -- Questions that are answered at each stop.
-use Rattle.std.specs.Prelude.{ℕ, Bool, Option, Some, None, is_some, position, List, [], ◌∷◌, ◌++◌, length, codes, decimal, if◌then◌else◌, nat_le}
+use Rattle.std.specs.Prelude.{ℕ, Bool, Option, Some, None, is_some, position, List}
+use Rattle.std.specs.Prelude.{[], ◌∷◌, ◌++◌, length, codes, decimal, if◌then◌else◌, nat_le}
 use Rattle.std.specs.List.{list_any, remove}
 use Rattle.std.specs.Str.{bytes_eq}
 use Rattle.ss_trace.specs.declared.question.Question.{Question}

@@ -1,5 +1,6 @@
 -- Laws of the prompt, in other words than those of its definitions.
-use Rattle.std.specs.Prelude.{ℕ, ℤ, ◌≡◌, ◌⊎◌, true, false, List, [], ◌∷◌, ◌++◌, map, ⊤, Option, Some, None, Err, is_some}
+use Rattle.std.specs.Prelude.{ℕ, ℤ, ◌≡◌, ◌⊎◌, true, false, List, [], ◌∷◌}
+use Rattle.std.specs.Prelude.{◌++◌, map, ⊤, Option, Some, None, Err, is_some}
 use Rattle.ss_program.specs.Program.{ProgramTable}
 use Rattle.ss_debug.specs.declared.commands.Command.{Command}
 use Rattle.ss_debug.specs.declared.commands.Command.TheVariants.{Bad, Break, Show}
@@ -10,7 +11,8 @@ use Rattle.ss_debug.specs.Command.{command_of}
 use Rattle.ss_state.specs.Run.{Input, run}
 use Rattle.ss_store.specs.Store.{number_of, exists}
 use Rattle.ss_trace.specs.Question.{attribute_text, count_text}
-use Rattle.ss_debug.specs.Turn.{DebuggerState, show_answer, answer, debugger_state_after, debugger_state_after_lines, obeyed_lines}
+use Rattle.ss_debug.specs.Turn.{DebuggerState, show_answer, answer}
+use Rattle.ss_debug.specs.Turn.{debugger_state_after, debugger_state_after_lines, obeyed_lines}
 use Rattle.ss_console.specs.Dialogue.{answered, state_after_all}
 use Rattle.ss_console.specs.Lines.{lines, kept_part}
 use Rattle.ss_console.specs.Laws.{answers}

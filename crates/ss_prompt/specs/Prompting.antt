@@ -7,7 +7,8 @@ use Rattle.ss_console.specs.Meaning.{Meaning}
 use Rattle.ss_prompt.specs.declared.commands.PromptCommand.{PromptCommand}
 use Rattle.ss_prompt.specs.declared.commands.PromptCommand.TheVariants.{Plain, Travel, Lines, SectionLines}
 use Rattle.ss_prompt.specs.declared.commands.PromptCommand.TheVariants.{BreakSection, ClearSection, Breaks}
-use Rattle.ss_prompt.specs.declared.commands.PromptCommand.TheVariants.{Changed, Missing, NoPlace, LinesBetween, UndisplayOne, Unread}
+use Rattle.ss_prompt.specs.declared.commands.PromptCommand.TheVariants.{Changed, Missing, NoPlace}
+use Rattle.ss_prompt.specs.declared.commands.PromptCommand.TheVariants.{LinesBetween, UndisplayOne, Unread}
 use Rattle.ss_prompt.specs.declared.commands.PromptCommand.TheVariants.{Ask, See, Why, History, Display, Undisplay}
 use Rattle.ss_prompt.specs.declared.commands.PromptCommand.TheVariants.{Names, Warnings, Help}
 use Rattle.ss_prompt.specs.Reading.{plain_command_of, prompt_command_of}
