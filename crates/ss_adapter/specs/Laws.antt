@@ -9,7 +9,7 @@ use Rattle.ss_messages.specs.declared.request.Command.{Command}
 use Rattle.ss_messages.specs.Messages.{Sent, reply, failure, event}
 use Rattle.ss_adapter.specs.declared.reach.Way.TheVariants.{Forward, Back}
 use Rattle.ss_adapter.specs.Targets.{is_on_line, line_condition, line_end}
-use Rattle.ss_adapter.specs.Turn.{AdapterState, answers}
+use Rattle.ss_adapter.specs.Turn.{AdapterState, answers, answers_elsewhere}
 use Rattle.ss_adapter.specs.Before.{answers_before, answer_to_launch, answer_to_refused_launch}
 
 -- messages are only events
@@ -26,10 +26,13 @@ AreOneAnswer (reply body ∷ ms) = AreEvents ms
 AreOneAnswer (failure reason ∷ ms) = AreEvents ms
 AreOneAnswer (event name body ∷ ms) = ⊥
 
--- each request has one answer: in each state, before a run is launched, and if it launches one
+-- each request has one answer: in each state, also about another file; before a run is launched;
+-- and if it launches one
 pub record HaveOneAnswer : Type 0 where
   -- while a run is launched
   pub after : (state : AdapterState) (command : Command) → AreOneAnswer (answers state command)
+  -- about a file other than the model
+  pub elsewhere : (command : Command) → AreOneAnswer (answers_elsewhere command)
   -- before
   pub before : (command : Command) → AreOneAnswer (answers_before command)
   -- launch, if the model is accepted

@@ -1,5 +1,5 @@
--- The glance at a state for a question. If it is the same on both sides of a step that touches no
--- other part at which the question looks, the answer is the same.
+-- Private: the glance at a state for a question. If it is the same on both sides of a step that
+-- touches no other part at which the question looks, the answer is the same.
 use Rattle.std.specs.Prelude.{ℕ, ◌<◌, ◌==◌, ◌&&◌, ℤ, pos, Bool, true, false, List, [], codes, length, take, drop}
 use Rattle.std.specs.Prelude.{Option, Some, None, option_map, position, bytes_eq, slice_get, slice_index_or}
 use Rattle.std.specs.Prelude.{if◌then◌else◌}

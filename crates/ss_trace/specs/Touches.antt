@@ -1,5 +1,5 @@
--- How much a step may change of the parts of a state that no glance shows, by the kind of its
--- place.
+-- Private: how much a step may change of the parts of a state that no glance shows, by the kind of
+-- its place.
 use Rattle.std.specs.Prelude.{ℕ, Bool, true, false, Option, Some, None, if◌then◌else◌}
 use Rattle.ss_program.specs.Program.{ProgramTable, spot_at}
 use Rattle.ss_program.specs.declared.filing.Filing.{Filing}
