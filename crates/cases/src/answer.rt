@@ -1,12 +1,13 @@
+//! The answer of a case, by the way in which its text is read.
 use crate::notation::{Repeats, text_of};
 use crate::{checked, items, pieces, places, plain, raw, sections};
 use ss_words::TextFault;
 use std::alloc::{AllocError, Global};
 
-// What is written is lent to each function below, and what a text spells to those that write it: an
+// The output is lent to each function below, and the bytes of a text to those that write it. An
 // owner that may end early costs the proof the end of all that it holds.
 
-/// Puts what a noted text gives, read in a way.
+/// Puts the answer to a noted text that is read in this way.
 pub fn put_answer(
     alloc: Global,
     out: &mut Vec<u8>,
@@ -23,7 +24,7 @@ pub fn put_answer(
     put
 }
 
-/// The same of a text as it is.
+/// Puts the answer to a text as it is.
 fn put_given(alloc: Global, out: &mut Vec<u8>, way: &str, text: &[u8]) -> Result<(), AllocError> {
     match way {
         "EXAMPLE" => put_example(alloc, out, text),
@@ -39,7 +40,7 @@ fn put_given(alloc: Global, out: &mut Vec<u8>, way: &str, text: &[u8]) -> Result
     }
 }
 
-/// The same of a text that is given up where it is refused.
+/// Puts the answer to a text that may be refused; then its answer is given up.
 fn put_refusable(
     alloc: Global,
     out: &mut Vec<u8>,
@@ -57,7 +58,7 @@ fn put_refusable(
     }
 }
 
-/// The same of words.
+/// Puts the words of a text, or how many there are.
 fn put_of_words(alloc: Global, out: &mut Vec<u8>, way: &str, text: &[u8]) -> Result<(), TextFault> {
     match way {
         "WORDS" => raw::put_words(alloc, out, text),
@@ -68,7 +69,7 @@ fn put_of_words(alloc: Global, out: &mut Vec<u8>, way: &str, text: &[u8]) -> Res
     }
 }
 
-/// Puts the rule and the line of a refusal; nothing where there is none.
+/// Puts the rule and the line of a refusal; nothing if there is none.
 pub fn or_refusal(
     alloc: Global,
     out: &mut Vec<u8>,
@@ -84,7 +85,8 @@ pub fn or_refusal(
     }
 }
 
-/// Puts what a document says of a text: the rule and the line of its refusal, or that there is none.
+/// Puts the answer of a document to a text: the rule and the line of its refusal, or that there is
+/// none.
 fn put_example(alloc: Global, out: &mut Vec<u8>, text: &[u8]) -> Result<(), AllocError> {
     match places::counts(alloc, text) {
         Ok(_) => put_text(out, "NO REFUSAL"),
@@ -102,17 +104,18 @@ pub fn put_number(alloc: Global, out: &mut Vec<u8>, number: usize) -> Result<(),
     put_string(out, format!(in alloc; " {number}"))
 }
 
-/// Puts a text behind what is written.
+/// Appends a text to the output.
 pub fn put_text(out: &mut Vec<u8>, text: &str) -> Result<(), AllocError> {
     out.extend_from_slice(text.as_bytes())
 }
 
-/// The same of a text that is made for it, and ends with it.
+/// Appends a text that is made for the output, and ends with it.
 pub fn put_string(out: &mut Vec<u8>, text: Result<String, AllocError>) -> Result<(), AllocError> {
     put_text(out, text?.as_str())
 }
 
-/// Puts what is given for each beginning of the text that ends with a line, a comma behind each.
+/// Puts the answer of `LINES` for each beginning of the text that ends with a line, a comma after
+/// each.
 fn put_beginnings(alloc: Global, out: &mut Vec<u8>, text: &[u8]) -> Result<(), AllocError> {
     for (index, byte) in text.iter().enumerate() {
         if *byte == b'\n' {
@@ -122,7 +125,7 @@ fn put_beginnings(alloc: Global, out: &mut Vec<u8>, text: &[u8]) -> Result<(), A
     Ok(())
 }
 
-/// Puts what is given for a beginning, and a comma.
+/// Puts the answer for a beginning, and a comma.
 fn put_beginning(alloc: Global, out: &mut Vec<u8>, beginning: &[u8]) -> Result<(), AllocError> {
     let put = items::put_lines(alloc, out, beginning);
     or_refusal(alloc, out, put)?;

@@ -1,3 +1,4 @@
+//! The answers about a program that is checked: its outcome, MAIN's local variables and places.
 use crate::answer::{put_number, put_string, put_text};
 use ss_program::Program;
 use ss_session::{LoadFault, load_program};
@@ -25,8 +26,9 @@ pub fn put_outcome(alloc: Global, out: &mut Vec<u8>, text: &[u8]) -> Result<(), 
     }
 }
 
-/// Puts the number of the local variable of MAIN, and what the whole program knows, by the name
-/// that is the first line; the program stands behind it.
+/// Puts the number of the local variable of MAIN of a name, and the name's meaning in the program.
+///
+/// The name is the first line; the program is after it.
 pub fn put_local(alloc: Global, out: &mut Vec<u8>, text: &[u8]) -> Result<(), AllocError> {
     let end = text.iter().position(|byte| *byte == b'\n').unwrap_or(0);
     let (name, rest) = text.split_at(end);
@@ -40,7 +42,7 @@ pub fn put_local(alloc: Global, out: &mut Vec<u8>, text: &[u8]) -> Result<(), Al
     }
 }
 
-/// The same of a program.
+/// Puts that number and that meaning of a name in a program.
 fn put_local_of(
     alloc: Global,
     out: &mut Vec<u8>,
@@ -65,7 +67,7 @@ pub fn put_places(alloc: Global, out: &mut Vec<u8>, text: &[u8]) -> Result<(), A
     }
 }
 
-/// The same of a program.
+/// Puts the number, line, locals and places of MAIN in a program.
 fn put_places_of(alloc: Global, out: &mut Vec<u8>, program: &Program) -> Result<(), AllocError> {
     let main = program.main();
     let section = program.section(main);

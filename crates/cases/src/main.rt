@@ -1,35 +1,37 @@
 //! Reads the cases of its standard input, one a line, `WAY TEXT -> ANSWER`: the text, read in that
-//! way, is to give that answer. It prints each case that has another, with what it gave, and last
-//! how many cases there were. A line that begins with no capital is a remark.
+//! way, is to give that answer. The program prints each case that gives another answer, with that
+//! answer. Last it prints how many cases there were. A line that begins with no capital is a
+//! remark.
 //!
 //! - `WORKED`: the text is the name of a worked example of data/; the boards, `linked` and `plain`,
 //!   over which its session gives its transcript and its status.
-//! - `TURNS`: nothing; each command's answer is written at once, also where a growth is refused.
-//! - `WORDS`: each word behind its line and a colon.
+//! - `TURNS`: nothing; each command's answer is written at once, also if a growth is refused.
+//! - `WORDS`: each word after its line and a colon.
 //! - `COUNT`: how many words there are.
-//! - `PLAIN`: the plain words; `PLACED`: each behind its line and its place in the list of words.
-//! - `LINES`: the line of each item of the preamble, that of END, and the first word behind it.
-//! - `ITEMS`: the items of the preamble, and the first word behind it.
+//! - `PLAIN`: the plain words; `PLACED`: each after its line and its place in the list of words.
+//! - `LINES`: the line of each item of the preamble, that of END, and the first word after it.
+//! - `ITEMS`: the items of the preamble, and the first word after it.
 //! - `CHECK`: that the program is checked, or the rule that it breaks and its line.
-//! - `LOCAL`: the number of MAIN's local variable of the name that is the first line, and what the
-//!   whole program knows by it; the program stands behind that line.
+//! - `LOCAL`: the number of MAIN's local variable of the name that is the first line, and the
+//!   meaning of that name in the whole program; the program is after that line.
 //! - `PLACES`: the number and the line of MAIN, how many local variables it has, and the line of
 //!   each of its places.
-//! - `PROGRAM`: how many items the preamble has, and how many sections stand behind it.
-//! - `BEGINNINGS`: what `LINES` gives for each beginning of the text that ends with a line.
-//! - `SECTIONS`: each section: its line, what it is, its name, its local DEFINEs and its places,
-//!   the DEFINEs and places each behind its line.
-//! - `BODY`: the places of MAIN but its END, where the text stands between MAIN and END.
+//! - `PROGRAM`: how many items the preamble has, and how many sections are after it.
+//! - `BEGINNINGS`: the answer of `LINES` for each beginning of the text that ends with a line.
+//! - `SECTIONS`: each section: its line, its kind, its name, its local DEFINEs and its places, the
+//!   DEFINEs and places each after its line.
+//! - `BODY`: the places of MAIN but its END; the text is put between MAIN and END.
 //! - `SIZES`: how many sections there are, and how many places they have.
-//! - `PIECES`: the beginnings of the text that end before a blank or a line's end, and the whole: of
-//!   each that P2 does not refuse at its last line, how many pieces it has and `Ok` or the refusal.
+//! - `PIECES`: for the beginnings of the text that end before a blank or a line's end, and for the
+//!   whole: how many pieces each has and `Ok` or the refusal; those that P2 refuses at their last
+//!   line are left out.
 //!
-//! The last four show names of one letter and numbers of one digit as that letter and that digit.
-//! A text that is refused gives its rule and line. How a text is noted says `notation`.
+//! The last four show names of one letter and numbers of one digit as that letter and that digit. A
+//! text that is refused gives its rule and line. The module `notation` says how a text is noted.
 //!
 //! A line that begins with four blanks is an example as docs/LANGUAGE.md writes it, `TEXT ->
-//! ANSWER`, perhaps with a note behind two blanks: the answer is `P1 LINE 3` or the like, or `NO
-//! REFUSAL`, as the preamble and the sections behind it are read.
+//! ANSWER`, perhaps with a note after two blanks. The answer is `P1 LINE 3` or the like, or `NO
+//! REFUSAL`, as the preamble and the sections after it are read.
 #![tactic(auto)]
 
 mod answer;
@@ -98,7 +100,7 @@ fn is_tried<R: Files + AllocGlobal + Print>(rt: &R, line: &str) -> io::Result<bo
     }
 }
 
-/// Tries the case of a line, and prints the line with what it gave, where that is another answer.
+/// Tries the case of a line; prints the line with the answer that it gives, if that is another one.
 fn try_case<R: Files + AllocGlobal + Print>(rt: &R, line: &str, case: Case<'_>) -> io::Result<()> {
     let mut given = Vec::new(rt.alloc());
     let tried = match put_given(rt, &mut given, case) {
@@ -109,7 +111,7 @@ fn try_case<R: Files + AllocGlobal + Print>(rt: &R, line: &str, case: Case<'_>) 
     tried
 }
 
-/// Puts what a case gives.
+/// Puts the answer that a case gives.
 fn put_given<R: Files + AllocGlobal + Print>(
     rt: &R,
     given: &mut Vec<u8>,
@@ -122,7 +124,7 @@ fn put_given<R: Files + AllocGlobal + Print>(
     }
 }
 
-/// Prints a line with what its case gave, where that is not what is wanted.
+/// Prints a line with the answer that its case gave, if that is not the one wanted.
 fn compare<R: Print>(rt: &R, line: &str, given: &[u8], wanted: &str) -> io::Result<()> {
     if given == wanted.as_bytes() {
         return Ok(());

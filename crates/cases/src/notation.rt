@@ -1,6 +1,7 @@
+//! The notation of texts in cases and in documents.
 use std::alloc::{AllocError, Global};
 
-/// What stands between the count and the item of `{n:item}`.
+/// The sign between the count and the item of `{n:item}`.
 #[derive(Clone, Copy)]
 pub enum Repeats {
     /// `{n:item}`, as cases write it
@@ -45,7 +46,7 @@ fn put_noted(
     Ok(())
 }
 
-/// `n:item`, or `n item`; nothing where no count stands there.
+/// Puts `n:item`, or `n item`; nothing if there is no count.
 fn put_repeated(
     alloc: Global,
     text: &mut Vec<u8>,

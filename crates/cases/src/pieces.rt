@@ -1,10 +1,11 @@
+//! The answer about the beginnings of a text, piece by piece.
 use crate::answer::{put_number, put_string, put_text};
 use crate::sections::sections_of;
 use ss_words::{TextFault, TextRule};
 use std::alloc::{AllocError, Global};
 
-/// Puts, of each beginning of the text that ends before a blank or a line's end, and of the whole,
-/// how many pieces it has and what it gives, if P2 does not refuse it at its last line.
+/// Puts, for each beginning of the text that ends before a blank or a line's end, and for the
+/// whole, how many pieces it has and its result, if P2 does not refuse it at its last line.
 pub fn put_refusals(alloc: Global, out: &mut Vec<u8>, text: &[u8]) -> Result<(), AllocError> {
     let mut pieces: usize = 0;
     let mut line: usize = 1;
@@ -20,7 +21,7 @@ pub fn put_refusals(alloc: Global, out: &mut Vec<u8>, text: &[u8]) -> Result<(),
     put_other(alloc, out, text, pieces.wrapping_add(1), line)
 }
 
-/// Puts the number of pieces and what the beginning gives, if that is not P2 at this line.
+/// Puts the number of pieces and the result of the beginning, if that is not P2 at this line.
 fn put_other(
     alloc: Global,
     out: &mut Vec<u8>,
@@ -48,14 +49,14 @@ fn put_other(
     }
 }
 
-/// With what a text is refused, if it is no sections.
+/// The refusal of a text, if it is no sections.
 fn refusal(alloc: Global, text: &[u8]) -> Result<(), TextFault> {
     let sections = sections_of(alloc, text)?;
     drop(sections);
     Ok(())
 }
 
-/// Puts the number of pieces and a colon, behind a comma where something stands before.
+/// Puts the number of pieces and a colon; after a comma, if the output is not empty.
 fn put_pieces(alloc: Global, out: &mut Vec<u8>, pieces: usize) -> Result<(), AllocError> {
     if !out.is_empty() {
         put_text(out, ", ")?;

@@ -1,10 +1,11 @@
+//! The answers about the plain words of a text.
 use crate::answer::{put_string, put_text};
 use crate::raw::sign_text;
 use ss_session::drop_words;
 use ss_words::{Mark, Plain, PlainWord, TextFault, Words, plain_words, words};
 use std::alloc::{AllocError, Global};
 
-/// Whether a plain word stands behind its place.
+/// Whether a plain word is put by itself or after its place.
 #[derive(Clone, Copy)]
 enum Shown {
     Alone,
@@ -17,7 +18,7 @@ pub fn put_words(alloc: Global, out: &mut Vec<u8>, text: &[u8]) -> Result<(), Te
     put_shown(alloc, out, text, Shown::Alone)
 }
 
-/// The same, each behind its line, a stop, and its place in the list of words.
+/// Puts the plain words, each after its line, a stop, and its place in the list of words.
 pub fn put_placed(alloc: Global, out: &mut Vec<u8>, text: &[u8]) -> Result<(), TextFault> {
     put_shown(alloc, out, text, Shown::Placed)
 }
@@ -29,7 +30,7 @@ fn put_shown(alloc: Global, out: &mut Vec<u8>, text: &[u8], shown: Shown) -> Res
     put
 }
 
-/// The same of the words of a text.
+/// Puts the plain words from the words of a text.
 fn put_plain(
     alloc: Global,
     out: &mut Vec<u8>,

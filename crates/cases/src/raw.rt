@@ -1,10 +1,12 @@
+//! The answers about the words of a text.
 use crate::answer::{put_string, put_text};
 use ss_session::drop_words;
 use ss_words::{Sign, TextFault, Word, WordKind, words};
 use std::alloc::{AllocError, Global};
 
-/// Puts each word behind its line and a colon; a number behind `#`, a picture's lines each between
-/// bars.
+/// Puts each word after its line and a colon.
+///
+/// A number is after `#`; the lines of a picture are each between bars.
 pub fn put_words(alloc: Global, out: &mut Vec<u8>, text: &[u8]) -> Result<(), TextFault> {
     let words = words(alloc, text)?;
     let put = put_all(alloc, out, &words.list);

@@ -1,3 +1,4 @@
+//! The answers about the sections of a text and their places.
 use crate::answer::put_string;
 use crate::shown::{put_places, put_section};
 use ss_routines::{Sections, sections};
@@ -28,7 +29,7 @@ fn put_all(alloc: Global, out: &mut Vec<u8>, sections: &Sections) -> Result<(), 
     Ok(())
 }
 
-/// Puts the places of MAIN but its END, where the text stands between MAIN and END.
+/// Puts the places of MAIN but its END; the text is put between MAIN and END.
 pub fn put_body(alloc: Global, out: &mut Vec<u8>, text: &[u8]) -> Result<(), TextFault> {
     let sections = sections_of_body(alloc, text)?;
     let put = put_first(alloc, out, &sections);

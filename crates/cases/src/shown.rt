@@ -1,3 +1,4 @@
+//! The short form in which sections and places are shown.
 use crate::answer::put_text;
 use ss_routines::{LocalNames, Section, Spot};
 use std::alloc::{AllocError, Global};
@@ -7,7 +8,7 @@ const LETTERS: &str = "A B C D E F G H I J K L M N O P Q R S T U V W X Y Z";
 
 const DIGITS: &str = "0 1 2 3 4 5 6 7 8 9";
 
-/// Puts a section: its line, what it is, its name, its local DEFINEs and its places.
+/// Puts a section: its line, its kind, its name, its local DEFINEs and its places.
 pub fn put_section(alloc: Global, out: &mut Vec<u8>, section: &Section) -> Result<(), AllocError> {
     let line = section.line;
     let kind = &section.kind;
@@ -27,7 +28,7 @@ fn put_local(alloc: Global, out: &mut Vec<u8>, local: &LocalNames) -> Result<(),
     put_shown(alloc, out, format!(in alloc; " ({line} {names:?})"))
 }
 
-/// Puts places, each behind its line.
+/// Puts places, each after its line.
 pub fn put_places(alloc: Global, out: &mut Vec<u8>, places: &[Spot]) -> Result<(), AllocError> {
     for (index, spot) in places.iter().enumerate() {
         if index > 0 {
@@ -44,8 +45,8 @@ fn put_place(alloc: Global, out: &mut Vec<u8>, spot: &Spot) -> Result<(), AllocE
     put_shown(alloc, out, format!(in alloc; "{line} {place:?}"))
 }
 
-/// Puts a text with each name of one letter, alone or as a reference or a value, as its letter, and
-/// with each value of one digit as that digit.
+/// Puts a text in short form: each name of one letter as its letter, each value of one digit as
+/// that digit. The name may be by itself, a reference or a value.
 fn put_shown(
     alloc: Global,
     out: &mut Vec<u8>,
@@ -57,7 +58,7 @@ fn put_shown(
     put
 }
 
-/// The same of a text that is lent.
+/// Puts the short form of a text that is lent.
 fn put_shortened(alloc: Global, out: &mut Vec<u8>, text: &mut String) -> Result<(), AllocError> {
     for letter in LETTERS.split(' ') {
         shorten_name(alloc, text, letter)?;

@@ -1,3 +1,4 @@
+//! The turns of a debugger over a worked example.
 use crate::answer::{put_string, put_text};
 use crate::worked::file;
 use ss_debug::{Debugger, command, obey};
@@ -10,9 +11,11 @@ use std::io::Write;
 use std::rt::Files;
 
 /// Obeys commands over a worked example, and writes each answer by itself before the next command
-/// is obeyed; `MEMORY` in place of one where a growth was refused. The text is the example's name
-/// and the commands, a `|` before each. The command `MACHINE` is answered by what no answer of the
-/// debugger tells of its machine.
+/// is obeyed.
+///
+/// It writes `MEMORY` in place of an answer if a growth was refused. The text is the example's name
+/// and the commands, a `|` before each. The answer to the command `MACHINE` holds the facts of the
+/// machine that no answer of the debugger shows.
 pub fn show<R: Files + AllocGlobal + Print>(rt: &R, text: &str) -> io::Result<()> {
     let (name, commands) = text.split_once('|').unwrap_or((text, ""));
     match example_debugger(rt, name)? {
@@ -26,7 +29,7 @@ pub fn show<R: Files + AllocGlobal + Print>(rt: &R, text: &str) -> io::Result<()
     }
 }
 
-/// A debugger at the start of an example's run over its data, nothing where it has none.
+/// A debugger at the start of an example's run over its data; the data is empty if there is none.
 fn example_debugger<R: Files + AllocGlobal>(
     rt: &R,
     name: &str,
@@ -47,7 +50,7 @@ fn obey_all<R: AllocGlobal + Print>(
     Ok(())
 }
 
-/// Writes what a line is answered.
+/// Writes the answer to a line.
 fn show_turn<R: AllocGlobal + Print>(
     rt: &R,
     debugger: &mut Debugger<LinkedSets>,
@@ -62,7 +65,7 @@ fn show_turn<R: AllocGlobal + Print>(
     shown
 }
 
-/// Puts what a line is answered.
+/// Puts the answer to a line.
 fn put_turn(
     alloc: Global,
     debugger: &mut Debugger<LinkedSets>,

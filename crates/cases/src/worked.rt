@@ -1,3 +1,4 @@
+//! The worked examples, and the boards over which their sessions give their transcripts.
 ghost use Rattle.std.specs.Prelude.{◌≡◌};
 ghost use Rattle.ss_links.specs.Board.{empty_board};
 
@@ -9,7 +10,8 @@ use std::io::ErrorKind;
 use std::rt::Files;
 use std::{fs, io};
 
-/// A worked example: a model, its data and commands, and what they are to give.
+/// A worked example: a model, its data and commands, and the transcript and status that they are to
+/// give.
 #[derive(Clone, Copy)]
 struct Example<'a> {
     model: &'a [u8],
@@ -19,8 +21,8 @@ struct Example<'a> {
     status: &'a [u8],
 }
 
-/// The endings of an example's files, in the order of its fields, and what stands for a file that
-/// is not there.
+/// The endings of an example's files, in the order of its fields, and the bytes that replace a file
+/// that is not there.
 const FILES: [(&str, Option<&[u8]>); 5] = [
     ("sim", None),
     ("data", Some(b"")),
@@ -37,7 +39,7 @@ pub fn put_boards<R: Files + AllocGlobal>(rt: &R, out: &mut Vec<u8>, name: &str)
     Ok(put?)
 }
 
-/// The same of the files of an example.
+/// Puts those boards for the files of an example.
 fn put_boards_of(alloc: Global, out: &mut Vec<u8>, files: &[Vec<u8>]) -> Result<(), AllocError> {
     let Some(example) = example_of(files) else {
         return Ok(());
@@ -88,7 +90,7 @@ fn example_of(files: &[Vec<u8>]) -> Option<Example<'_>> {
     }
 }
 
-/// The file of this name and ending, or these bytes where there is none.
+/// The file of this name and ending, or these bytes if there is none.
 pub fn file<R: Files + AllocGlobal>(
     rt: &R,
     name: &str,

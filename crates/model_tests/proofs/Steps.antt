@@ -1,4 +1,4 @@
--- What the calls leave.
+-- The stores and tables that the calls leave.
 use Rattle.std.proofs.Common.{◌≡◌, List, [], ◌∷◌, refl, ap, sym, subst, ◌∙◌}
 use Rattle.std.specs.Prelude.{Result, Ok, Err}
 use Rattle.ss_words.specs.declared.fault.RunFault.{RunFault}

@@ -1,4 +1,4 @@
--- What a small answerer of lines means, of the tests.
+-- The meaning of a small answerer of lines, for the tests.
 use Rattle.std.specs.Prelude.{ℕ, ◌≡◌, ◌+◌, ◌%◌, ◌^◌, ◌==◌, ◌||◌, Bool, List, [], ◌++◌, length, codes, decimal}
 use Rattle.std.specs.Prelude.{bytes_eq}
 use Rattle.std.specs.Prelude.{if◌then◌else◌}

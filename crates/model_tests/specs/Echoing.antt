@@ -1,4 +1,4 @@
--- What a small answerer of requests means, of the tests.
+-- The meaning of a small answerer of requests, for the tests.
 use Rattle.std.specs.Prelude.{ℕ, ◌≡◌, ◌+◌, ◌%◌, ◌^◌, Bool, true, false, List, [], ◌∷◌, decimal}
 use Rattle.ss_messages.specs.Messages.{reply}
 use Rattle.ss_messages.specs.declared.request.Command.{Command}

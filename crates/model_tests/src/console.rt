@@ -1,3 +1,4 @@
+//! Dialogues over memory and over streams, and how each ends.
 ghost use Rattle.std.specs.Prelude.{◌≡◌, ◌-◌, ◌^◌, ◌<◌};
 ghost use Rattle.model_tests.specs.Counting.{counter_meaning};
 
@@ -37,10 +38,10 @@ fn ends<A: Answerer, C: Console>(
 }
 
 /// A dialogue over memory: the text that is read, how many bytes are taken, whether prompts are
-/// written, how it ends, and what happens.
+/// written, how it ends, and the events.
 type Dialogue = (&'static [u8], usize, bool, Result<(), Cut>, &'static [u8]);
 
-/// Holds a dialogue over memory, and compares how it ends and what happens.
+/// Holds a dialogue over memory, and compares how it ends and its events.
 fn holds<A: Answerer>(rt: &impl Abort, alloc: Global, answerer: &mut A, dialogue: Dialogue) {
     let (text, room, terminal, ended, events) = dialogue;
     let mut console = MemoryConsole::new(alloc, text, room, terminal);
@@ -113,7 +114,7 @@ fn a_refused_answer_is_told(rt: HostRuntime) {
     holds(&rt, rt.alloc(), &mut Refused, ALL_REFUSED);
 }
 
-/// Reads the one line of a console, which is cut behind an x.
+/// Reads the one line of a console, which is cut after an x.
 fn cuts(rt: &impl Abort, alloc: Global, console: &mut MemoryConsole<'_>)
     requires { console.old.read_faults ≡ 0 }
 {

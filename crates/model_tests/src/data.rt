@@ -1,10 +1,11 @@
+//! The calls on a feed of data: taking, passing and giving back its pieces.
 use crate::compare::same;
 use ss_data::{Feed, PieceKind};
 use ss_words::RunFault;
 use std::alloc::Global;
 use std::process::Abort;
 
-// A feed; where memory is refused once, a second try makes it.
+// A feed; if memory is refused once, a second try makes it.
 fn feed_of(rt: &impl Abort, alloc: Global, text: &[u8]) -> Feed {
     match Feed::new(alloc, text) {
         Ok(feed) => feed,
@@ -17,7 +18,7 @@ fn takes(rt: &impl Abort, feed: &mut Feed, text: &[u8], number: Result<i64, RunF
     same(rt, (text, feed.take()), (text, number));
 }
 
-// So many pieces are taken.
+// This number of pieces is taken.
 fn has_taken(rt: &impl Abort, feed: &Feed, taken: usize) {
     same(rt, feed.taken(), taken);
 }
@@ -82,7 +83,7 @@ fn what_is_no_number_is_not_taken(rt: HostRuntime) {
     gives(&rt, alloc, &[b'9'; 90], &[], end);
 }
 
-// Gives back all but so many pieces.
+// Gives back all pieces but this number of them.
 fn undo(rt: &impl Abort, feed: &mut Feed, taken: usize) {
     assert!(rt; taken <= feed.taken());
     feed.undo(taken);
@@ -109,7 +110,7 @@ fn what_is_given_back_is_taken_again(rt: HostRuntime) {
     gives_back(&rt, &mut feed, text);
 }
 
-// Passes the next piece, where there is one.
+// Passes the next piece, if there is one.
 fn pass(feed: &mut Feed) {
     if feed.kind() != PieceKind::End {
         feed.pass();
@@ -128,7 +129,7 @@ fn tells(rt: &impl Abort, feed: &mut Feed, told: bool) {
     pass(feed);
 }
 
-// Passes the pieces up to and with the next mark, or meets none; so many are then taken.
+// Passes the pieces up to and with the next mark, or meets none; this number is then taken.
 fn passes_entry(rt: &impl Abort, feed: &mut Feed, passed: Result<(), RunFault>, taken: usize) {
     same(rt, feed.pass_entry(), passed);
     has_taken(rt, feed, taken);

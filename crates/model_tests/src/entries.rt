@@ -1,4 +1,4 @@
-//! What happened at a console or on a channel over memory.
+//! The events at a console or on a channel over memory.
 use crate::compare::same;
 use ss_console::Entry;
 use std::alloc::{AllocError, Global};
@@ -17,7 +17,8 @@ fn put_entry(text: &mut Vec<u8>, entry: &Entry<'_>) -> Result<(), AllocError> {
     }
 }
 
-/// Compares what happened with a text: what was read in angle brackets, and bytes that were written.
+/// Compares events with a text: the bytes that were read in angle brackets, and those that were
+/// written.
 pub fn tell(rt: &impl Abort, alloc: Global, entries: &[Entry<'_>], wanted: &[u8]) {
     let mut text = Vec::new(alloc);
     for entry in entries {

@@ -1,5 +1,5 @@
-//! Calls on an agenda that are refused memory, and what no answer shows: filing numbers and heads. Calls
-//! as by chance are cases: tests/answers/chance.tsv.
+//! Calls on an agenda that are refused memory, and facts that no answer shows: filing numbers and
+//! heads. Calls as by chance are cases: tests/answers/chance.tsv.
 mod agree;
 mod plain;
 mod rules;
@@ -29,7 +29,7 @@ const ROWS: [(u32, i64, usize, i64); 5] = [
     (900_000, 5, 0, 0),
 ];
 
-// The order behind each number of these schedulings, so many long.
+// The order after each number of these schedulings, as many long.
 const ORDERS: [[u32; 5]; 6] = [
     [0, 0, 0, 0, 0],
     [3, 0, 0, 0, 0],
@@ -39,7 +39,7 @@ const ORDERS: [[u32; 5]; 6] = [
     [2, 4, 1, 3, 900_000],
 ];
 
-// Compares the order with that behind so many of the rows.
+// Compares the order with that after this number of the rows.
 fn stand_behind<S: SetBoard>(rt: &impl Abort, agenda: &Agenda<S>, count: usize)
     requires { count < 6 }
 {
@@ -103,7 +103,7 @@ fn there_and_back<S: SetBoard>(
     all_back(rt, agenda, journal);
 }
 
-// Compares a change with one that took off notice 9, behind notice 7 and of the second filing.
+// Compares a change with one that took off notice 9, after notice 7 and of the second filing.
 fn took_second_filing(rt: &impl Abort, change: &AgendaChange) {
     match change {
         AgendaChange::TakenOff {
@@ -149,7 +149,7 @@ fn counts_keys<S: SetBoard>(rt: &impl Abort, agenda: &Agenda<S>) {
     same(rt, agenda.key_count(4), None);
 }
 
-// Schedules a notice of each event class, which stands at its head.
+// Schedules a notice of each event class, which is at its head.
 fn stand_at_heads<S: SetBoard>(
     rt: &impl Abort,
     agenda: &mut Agenda<S>,
@@ -166,7 +166,7 @@ fn stand_at_heads<S: SetBoard>(
     behind_seat(rt, agenda, first_seat(rt, agenda, 1), 2);
 }
 
-// What a test does on an agenda at its start.
+// The actions of a test on an agenda at its start.
 #[derive(Clone, Copy)]
 enum Scene {
     ThereAndBack,
@@ -203,7 +203,7 @@ fn plays<S: SetBoard>(rt: &impl Abort, alloc: Global, agenda: Agenda<S>, scene: 
     drop(agenda);
 }
 
-// The same on linked sets, made again where memory was refused.
+// Plays the scene on linked sets, made again if memory was refused.
 fn plays_again(rt: &impl Abort, alloc: Global, scene: Scene) {
     plays(rt, alloc, linked_again(rt, alloc), scene);
 }

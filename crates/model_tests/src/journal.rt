@@ -1,3 +1,4 @@
+//! Steps of a journal over a small state, forward and back, also if memory is refused.
 ghost use Rattle.std.specs.Prelude.{◌≡◌, ◌≤◌, []};
 ghost use Rattle.ss_journal.specs.Undoing.{FitsSteps};
 
@@ -41,7 +42,7 @@ impl Dial {
     }
 }
 
-// One step, a turn for each value; nothing where memory was refused.
+// One step, a turn for each value; nothing if memory was refused.
 fn forward(dial: &mut Dial, journal: &mut Journal<Turn>, values: &[u64]) -> Result<(), AllocError>
     requires closed { journal.old.current ≡ [] }
     requires fits { FitsSteps ⟦<Dial as Undo>⟧.fits ⟦<Dial as Undo>⟧.unapply journal.old.steps dial.old }
@@ -69,7 +70,7 @@ fn forward_again(rt: &impl Abort, dial: &mut Dial, journal: &mut Journal<Turn>, 
     }
 }
 
-// One step back; false where there is none.
+// One step back; false if there is none.
 fn back(dial: &mut Dial, journal: &mut Journal<Turn>) -> bool
     requires closed { journal.old.current ≡ [] }
     requires fits { FitsSteps ⟦<Dial as Undo>⟧.fits ⟦<Dial as Undo>⟧.unapply journal.old.steps dial.old }
@@ -113,7 +114,7 @@ fn forget(dial: &Dial, journal: &mut Journal<Turn>, kept: usize)
     journal.keep_last(kept);
 }
 
-// Tells that memory was refused for a step, whose number counts from 0.
+// Prints that memory was refused for a step, whose number counts from 0.
 fn tell(rt: &(impl Abort + Print), step: usize) {
     println!(rt; "memory was refused at step {step}").expect(rt, "a line");
 }
@@ -141,10 +142,10 @@ fn step(
     }
 }
 
-// The turns of six steps, one step behind the other.
+// The turns of six steps, one step after the other.
 const TURNS: [u64; 12] = [3, 5, 7, 11, 13, 17, 2, 19, 23, 29, 31, 37];
 
-// Of each step the value before it, and where its turns begin and end; the third has none.
+// For each step: the value before it, and the bounds of its turns; the third step has none.
 const STEPS: [(u64, usize, usize); 6] = [
     (0, 0, 1),
     (3, 1, 3),
@@ -202,7 +203,7 @@ fn each_earlier_state_comes_back(rt: HostRuntime) {
     drop(journal);
 }
 
-// Makes room for two turns. Where memory is refused nothing has changed, and room is made again.
+// Makes room for two turns. If memory is refused, nothing has changed, and room is made again.
 fn make_room(rt: &(impl Abort + Print), journal: &mut Journal<Turn>)
     ensures current { journal.new.current ≡ journal.old.current }
     ensures notes { 2 ≤ journal.new.notes }

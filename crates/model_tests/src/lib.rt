@@ -1,6 +1,7 @@
 //! Tests of ss_report, ss_data, ss_journal, ss_links, ss_store, ss_events, ss_machine, ss_session,
-//! ss_console and ss_serve, a module each, in one crate of their own: the gate proves a crate once
-//! more with its tests, and reads all that a checked model stands on for each crate that has one.
+//! ss_console and ss_serve, a module each, in one crate of their own. The gate proves a crate once
+//! more with its tests. It also reads all the files on which a checked model depends, for each
+//! crate that has one.
 #![tactic(auto)]
 
 #[cfg(test)]

@@ -1,3 +1,4 @@
+//! The calls on a set board, compared with plain lists.
 mod agree;
 mod calls;
 mod changes;
@@ -11,8 +12,8 @@ use crate::links::changes::{Lists, STEPS, Step};
 use ss_links::{LinkedSets, PlainSets, SetBoard};
 use std::process::Abort;
 
-/// Makes a change, and compares every reading call with the lists behind it. Where memory is
-/// refused the board is seen as it was, and the change is made again.
+/// Makes a change, and compares every reading call with the lists after it. If memory is refused,
+/// the board is seen as it was, and the change is made again.
 fn make_again<S: SetBoard>(
     rt: &(impl Abort + Print),
     board: &mut S,
@@ -43,7 +44,7 @@ fn drive_all<S: SetBoard>(rt: &(impl Abort + Print), board: &mut S) {
     drive(rt, board, &STEPS);
 }
 
-/// Makes so many seats, and puts each first in the list of the head.
+/// Makes this number of seats, and puts each first in the list of the head.
 fn link_many<S: SetBoard>(rt: &impl Abort, board: &mut S, head: u32, seats: u32) {
     for _ in 0..seats {
         assert!(rt; board.seats() < u32::MAX);
@@ -87,10 +88,10 @@ fn every_call_agrees_with_lists(rt: HostRuntime) {
     drives(&rt, LinkedSets::new(rt.alloc()));
 }
 
-/// The number of seats in one list where a call that walks it would move 10^12 times.
+/// The number of seats in one list; a call that walks the list would move 10^12 times.
 const MANY_SEATS: u32 = 1_000_000;
 
-/// Makes a list of so many seats, and takes each off and puts it back.
+/// Makes a list of this number of seats, and takes each off and puts it back.
 fn return_many<S: SetBoard>(rt: &impl Abort, board: &mut S) {
     assert!(rt; board.heads() < u32::MAX);
     let head = board.try_add_head().expect(rt, "a head");

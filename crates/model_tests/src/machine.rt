@@ -18,7 +18,7 @@ const GREATEST: &[u8] = b"MAIN\nLET X = 9223372036854775807\nLET Y = 7\nLET Y = 
 
 const PRODUCTS: &[u8] = b"MAIN\nLET X = 3037000500\nLET Y = 7 + 2 * X\nLET Y = 1 + X * X\nEND\n";
 
-// A machine at the start of a model's run, made again where memory was refused.
+// A machine at the start of a model's run, made again if memory was refused.
 fn start(rt: &(impl Abort + Print), alloc: Global, model: &[u8]) -> Machine<LinkedSets> {
     if let Some(machine) = started(alloc, model) {
         return machine;
@@ -31,7 +31,7 @@ fn start(rt: &(impl Abort + Print), alloc: Global, model: &[u8]) -> Machine<Link
 type State = ([i64; 2], Status, &'static [u8]);
 
 // A model, how many locals its MAIN has, and the states of its run: two steps lead from place to
-// place, and a last one stays where it is.
+// place, and a last one stays at its place.
 #[derive(Clone, Copy)]
 struct Run {
     model: &'static [u8],

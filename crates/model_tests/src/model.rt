@@ -5,7 +5,7 @@ use ss_program::Program;
 use ss_session::{load_program, machine};
 use std::alloc::Global;
 
-/// The program of a model; `None` where the text is no model, or memory was refused.
+/// The program of a model; `None` if the text is no model, or memory was refused.
 pub fn checked(alloc: Global, model: &[u8]) -> Option<Program> {
     load_program(alloc, model).ok()
 }

@@ -1,10 +1,11 @@
+//! Pictures that are refused, and calls on a report that are refused.
 use crate::compare::same;
 use ss_report::{Picture, PictureFault, Report};
 use ss_words::{RunFault, StepFault};
 use std::alloc::{AllocError, Global};
 use std::process::Abort;
 
-/// Puts the lines that stand between the bars of a text.
+/// Puts the lines that are between the bars of a text.
 fn put_lines(alloc: Global, lines: &mut Vec<Vec<u8>>, text: &[u8]) -> Result<(), AllocError> {
     for line in text.split(|b| *b == b'|') {
         lines.push(Vec::from_slice(alloc, line)?)?;
@@ -12,7 +13,7 @@ fn put_lines(alloc: Global, lines: &mut Vec<Vec<u8>>, text: &[u8]) -> Result<(),
     Ok(())
 }
 
-/// The picture with the lines that stand between the bars of a text.
+/// The picture with the lines that are between the bars of a text.
 fn picture(alloc: Global, text: &[u8]) -> Result<Picture, PictureFault> {
     let mut lines = Vec::new(alloc);
     match put_lines(alloc, &mut lines, text) {
@@ -28,7 +29,8 @@ fn is_refused(alloc: Global, text: &[u8]) -> bool {
     matches!(picture(alloc, text), Err(PictureFault::DecimalField))
 }
 
-// What is no decimal field, and how values stand in their fields, are cases of the program `cases`.
+// Texts that are no decimal field, and the places of values in their fields, are cases of the
+// program `cases`.
 #[test]
 fn a_decimal_field_is_refused(rt: HostRuntime) {
     for text in b"*.*;**.**;A|B *.*.;..*.*".split(|byte| *byte == b';') {
@@ -63,7 +65,7 @@ fn print_seven(rt: &impl Abort, report: &mut Report, picture: &Picture) -> &'sta
     }
 }
 
-/// A report that refuses to skip so many lines, which is to be for this reason, has these bytes.
+/// A report that refuses to skip this number of lines, for this reason, has these bytes.
 fn refuses(rt: &impl Abort, report: &mut Report, lines: usize, reason: StepFault, bytes: &[u8]) {
     if let Err(fault) = skip(report, lines) {
         same(rt, fault, reason);
@@ -71,8 +73,8 @@ fn refuses(rt: &impl Abort, report: &mut Report, lines: usize, reason: StepFault
     }
 }
 
-/// Appends to an empty report; where memory is refused, or where the limit would be passed, it
-/// stays as it was.
+/// Appends to an empty report; if memory is refused, or the limit would be passed, it stays as it
+/// was.
 fn append(rt: &impl Abort, report: &mut Report, picture: &Picture) {
     let bytes = print_seven(rt, report, picture);
     same(rt, report.bytes(), bytes);

@@ -1,3 +1,4 @@
+//! Sessions over memory and over streams, and how each ends.
 ghost use Rattle.std.specs.Prelude.{◌≤◌, length};
 
 mod echo;
@@ -10,18 +11,18 @@ use std::alloc::Global;
 use std::io::{self, ErrorKind, Read};
 use std::process::Abort;
 
-/// A request, and what answers it where it is the first, in angle brackets.
+/// A request. If it is the first, the answer to it is `ANSWERED`.
 const ASKED: &[u8] = b"Content-Length: 29\r\n\r\n{\"seq\":1,\"command\":\"threads\"}";
 
-/// A request that ends the session, behind a line that is passed over.
+/// A request that ends the session, after a line that is passed over.
 const ENDED: &[u8] = b"Host: x\r\nContent-Length: 32\r\n\r\n{\"seq\":2,\"command\":\"disconnect\"}";
 
-/// What happens where the first is read and answered.
+/// The events if the first request is read, in angle brackets, and answered.
 const ANSWERED: &[u8] =
     b"<{\"seq\":1,\"command\":\"threads\"}>Content-Length: 87\r\n\r\n{\"seq\":1,\"type\":\"response\",\
     \"request_seq\":1,\"command\":\"threads\",\"success\":true,\"body\":0}";
 
-/// What happens where the second is, behind the first.
+/// The events if the second request is read and answered, after the first.
 const LEFT: &[u8] =
     b"<{\"seq\":2,\"command\":\"disconnect\"}>Content-Length: 90\r\n\r\n{\"seq\":2,\"type\":\"response\",\
     \"request_seq\":2,\"command\":\"disconnect\",\"success\":true,\"body\":1}";
@@ -35,7 +36,7 @@ fn joined(rt: &impl Abort, alloc: Global, texts: &[&[u8]]) -> Vec<u8> {
     all
 }
 
-/// Holds a session over memory, and compares how it ends and what happens.
+/// Holds a session over memory, and compares how it ends and its events.
 fn holds(
     rt: &impl Abort,
     alloc: Global,
@@ -84,7 +85,7 @@ fn each_request_is_answered_before_the_next(rt: HostRuntime) {
     answers(&rt, alloc, &[ASKED], 7, full, &[begun]);
 }
 
-/// Cuts a stream of two requests, and compares how the session ends and what happens.
+/// Cuts a stream of two requests, and compares how the session ends and its events.
 fn cuts(rt: &impl Abort, alloc: Global, both: &[u8], cut: usize)
     requires { cut ≤ length both.now }
 {
@@ -111,8 +112,8 @@ fn a_stream_is_cut_anywhere(rt: HostRuntime) {
     drop(both);
 }
 
-/// A reader that gives a byte at a time, and is interrupted before each; in the end it fails, where
-/// it is told to.
+/// A reader that gives a byte at a time, and is interrupted before each; in the end it fails, if
+/// `fails`.
 #[derive(Drop)]
 struct Slow<'a> {
     text: &'a [u8],
@@ -138,7 +139,7 @@ impl Read for Slow<'_> {
     }
 }
 
-/// Holds a session over a slow reader, and compares how it ends and what is written.
+/// Holds a session over a slow reader, and compares how it ends and the bytes that are written.
 fn reads_slowly(rt: &impl Abort, alloc: Global, fails: bool, ended: Result<(), SessionFault>) {
     let reader = Slow {
         text: ASKED,

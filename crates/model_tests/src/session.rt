@@ -1,4 +1,4 @@
-//! Whole sessions whose outlet fails or whose memory is refused, and what each session ends with.
+//! Whole sessions whose outlet fails or whose memory is refused, and how each session ends.
 ghost use Rattle.std.specs.Prelude.{◌≡◌};
 
 use crate::compare::same;
@@ -76,8 +76,8 @@ impl Outlet for FailsOnce {
     }
 }
 
-/// Runs a session over an outlet. Behind a call that fails, whichever of the session's calls it is,
-/// there is none, although the outlet would take all again.
+/// Runs a session over an outlet. After a call that fails, whichever of the session's calls it is,
+/// there is no other call, although the outlet would take all again.
 fn fail_once(rt: &impl Abort, alloc: Global, out: &mut FailsOnce, of: Session, calls: u64)
     requires { out.old.failures ≡ 0 }
 {
@@ -109,7 +109,7 @@ fn fails_once(rt: &impl Abort, alloc: Global, of: Session, fails_at: u64, calls:
     drop(out);
 }
 
-/// The same whichever of the session's calls fails, and where none does.
+/// Runs it once for each of the session's calls, which fails, and once with none that fails.
 fn put_ends(rt: &impl Abort, alloc: Global, of: Session, calls: u64) {
     for fails_at in 0..calls {
         fails_once(rt, alloc, of, fails_at, calls);
@@ -128,7 +128,7 @@ fn nothing_is_put_after_a_failure(rt: HostRuntime) {
 /// Commands over the model of five that make the journal, the report and the answers grow.
 const GROWING: &str = "STEP 2\nSHOW VAR X\nSHOW REPORT\nBACK\nFOO\nRUN 5";
 
-/// What they are answered, and the report behind them.
+/// The answers to these commands, and the report after them.
 const GROWN: [&str; 7] = [
     "DONE: STATE 2 CLOCK 0 READY IN MAIN LINE 5\n",
     "X = 5\n",
@@ -155,7 +155,7 @@ fn count_whole(bytes: &[u8], answers: &[&str]) -> Option<usize> {
     }
 }
 
-/// An outlet that takes all, and has its room from the start, so that the session alone takes
+/// An outlet that takes all, and has its room from the start, so that only the session takes
 /// memory.
 fn roomy(rt: &impl Abort, alloc: Global) -> FailsOnce {
     let mut bytes = Vec::new(alloc);
@@ -176,8 +176,8 @@ fn grow(alloc: Global, out: &mut FailsOnce) -> Result<End, SessionFault> {
     run(alloc, FIVE, GROWING, out)
 }
 
-/// Runs that session again where it ended with Memory, having written the whole answers of the
-/// first lines.
+/// Runs that session again if it ended with Memory, having written the whole answers of the first
+/// lines.
 fn grow_again(
     rt: &impl Abort,
     alloc: Global,

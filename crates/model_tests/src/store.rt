@@ -17,7 +17,7 @@ use ss_words::RunFault;
 use std::alloc::{AllocError, Global};
 use std::process::Abort;
 
-// A call that names what there isn't is refused, by the lowest fault that applies.
+// A call that names a thing that isn't there is refused, by the lowest fault that applies.
 fn refuses<S: SetBoard>(rt: &impl Abort, store: &Store<S>)
     requires { IsGround store.now.tables }
 {
@@ -28,7 +28,7 @@ fn refuses<S: SetBoard>(rt: &impl Abort, store: &Store<S>)
     same(rt, store.walk_next(0, 0, 1), Err(RunFault::MemberLeft));
 }
 
-// Makes a call whose answer is this. Where memory is refused nothing changes, and it is made again.
+// Makes a call whose answer is this. If memory is refused, nothing changes, and it is made again.
 fn answers<S: SetBoard>(
     rt: &impl Abort,
     store: &mut Store<S>,
@@ -125,7 +125,7 @@ fn linked(alloc: Global) -> Result<Store<LinkedSets>, AllocError>
     ground(alloc, LinkedSets::new(alloc))
 }
 
-// The same, made again where memory was refused.
+// A store on linked sets, made again if memory was refused.
 fn linked_again(rt: &impl Abort, alloc: Global) -> Store<LinkedSets>
     ensures { IsGround result.tables }
 {

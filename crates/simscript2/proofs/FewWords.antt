@@ -3,7 +3,7 @@ use Rattle.std.proofs.lemmas.List.{length-map}
 use Rattle.std.specs.List.{list_any}
 use Rattle.simscript2.specs.Words.{are_wrong_words, is_option}
 
--- a test of what a function makes of some of them is a test of these
+-- a test of the values of a function on some items is a test of these items
 any_of_map : {A B : Type 0} (p : B → Bool) (f : A → B) (xs : List A) →
     list_any p (map f xs) ≡ list_any (λ x. p (f x)) xs
 any_of_map p f [] = refl
@@ -12,7 +12,7 @@ any_of_map p f (x ∷ xs) = rw (any_of_map p f xs) refl
 not_many : (n : ℕ) → n ≤ 3 → nat_lt 3 n ≡ false
 not_many n h = search rules
 
--- behind the program's name, at most three words are wrong exactly where an option is among them
+-- at most three words after the program's name are wrong exactly if an option is among them
 pub wrong_among_few : {A : Type 0} (f : A → List ℕ) (words paths : List A) (name : A) → words ≡ name ∷ paths →
     length paths ≤ 3 →
     are_wrong_words (map f words) ≡ list_any (λ w. is_option (f w)) paths

@@ -1,1 +1,2 @@
+-- The definition of the words with which the program refuses to start.
 pub mod Words

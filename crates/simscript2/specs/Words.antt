@@ -1,4 +1,4 @@
--- Which words the program is started with.
+-- The words with which the program is started.
 use Rattle.std.specs.Prelude.{◌||◌, ℕ, Bool, false, List, [], ◌∷◌, length, nat_eq, nat_lt}
 use Rattle.std.specs.List.{list_any}
 
@@ -8,7 +8,7 @@ is_option [] = false
 is_option (b ∷ []) = false
 is_option (b ∷ c ∷ more) = nat_eq b 45
 
--- the words with which the program was started: behind its name stand more than three, or an option is among them
+-- whether the words are wrong: more than three are after the program's name, or one is an option
 abbrev pub are_wrong_words : List (List ℕ) → Bool
 are_wrong_words [] = false
 are_wrong_words (name ∷ paths) = nat_lt 3 (length paths) || list_any is_option paths

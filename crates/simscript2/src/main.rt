@@ -15,14 +15,13 @@ use std::io;
 use std::process::ExitCode;
 use std::rt::Files;
 
-/// The commands where no file of commands is named.
+/// The commands, if no file of commands is named.
 const RUN: &[u8] = b"RUN\n";
 
 /// The words that the program takes.
 const USAGE: &str = "simscript2 [MODEL [DATA [COMMANDS]]]";
 
-/// Reads the words, then MODEL, DATA and COMMANDS in that order, and runs the session where all
-/// were read.
+/// Reads the words, then MODEL, DATA and COMMANDS in that order; runs the session if all were read.
 fn run<'a, R: Files + Input + Print + AllocGlobal>(
     rt: &R,
     arguments: &'a [String],
@@ -35,7 +34,7 @@ fn run<'a, R: Files + Input + Print + AllocGlobal>(
     Ok(session(rt.alloc(), &model, &input, &commands, &mut out))
 }
 
-/// Says what stopped the program, and gives its exit status.
+/// Explains the stop of the program, and gives its exit status.
 fn stopped<R: Eprint>(rt: &R, stop: Stop<'_>) -> u8
     ensures { result ≡ stop_status stop.entry }
 {
@@ -43,7 +42,7 @@ fn stopped<R: Eprint>(rt: &R, stop: Stop<'_>) -> u8
     stop.status()
 }
 
-/// Says what cut a session short, and gives the exit status of its end.
+/// Says why a session was cut short, and gives the exit status of its end.
 fn ended<R: Eprint>(rt: &R, outcome: Result<End, SessionFault>) -> u8
     ensures { result ≡ status_of outcome }
 {

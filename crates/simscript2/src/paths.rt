@@ -1,3 +1,4 @@
+//! The paths that the words of the program name.
 ghost use Rattle.std.specs.Prelude.{◌≡◌, ◌≢◌, Err, IfErr, map, true};
 ghost use Rattle.std.specs.List.{list_any};
 ghost use Rattle.std.specs.String.{string_bytes};
@@ -13,7 +14,7 @@ use std::alloc::Global;
 /// The most paths that the program takes.
 const MOST_PATHS: usize = 3;
 
-/// The three paths, where they are given.
+/// The three paths, each if it is given.
 #[derive(Drop)]
 pub struct Paths<'a> {
     pub model: Option<&'a str>,
@@ -34,7 +35,7 @@ fn has_option(words: &[String]) -> bool
     words.iter().any(|word| is_option(word.as_str()))
 }
 
-/// Whether more than three words stand behind the program's name, or an option is among them.
+/// Whether more than three words are after the program's name, or an option is among them.
 fn are_wrong_words(words: &[String]) -> bool
     ensures { result ≡ are_wrong_words (map string_bytes words.now) }
 {

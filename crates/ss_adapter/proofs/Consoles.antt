@@ -1,4 +1,4 @@
--- The console behind a command of the prompt.
+-- The console after a command of the prompt.
 use Rattle.std.proofs.Common.{◌≡◌, List, ap}
 use Rattle.ss_debug.specs.View.{DebuggerView, debugger_state_of}
 use Rattle.ss_trace.specs.declared.question.Question.{Question}
@@ -21,5 +21,5 @@ pub shown : (old new : DebuggerView) (k : DeskView) (displays : List Question) (
     desk_showing k displays ≡ desk_showing k (console_after (adapter_state_of old k) command).displays
 shown old new k displays command e = ap (λ (v : PromptState). desk_showing k v.displays) e
 
--- what a command of the prompt left: the debugger and the desk
+-- the debugger and the desk that a command of the prompt left
 pub ruleset left_behind = (led, shown)

@@ -5,7 +5,7 @@ use Rattle.ss_messages.specs.Messages.{PostView, posted_with, posted_all, reply,
 use Rattle.ss_messages.proofs.Posts.{posted_both}
 use Rattle.ss_adapter.specs.Before.{warning_events, answer_to_launch}
 
--- behind the reply and what the model is warned of: that the adapter is ready
+-- the event after the reply and the warnings of the model: that the adapter is ready
 pub accepted : (r : Request) (p replied warned : PostView) (warnings : List ℕ) →
     replied ≡ posted_with r p (reply (codes "{}")) → warned ≡ posted_all r replied (warning_events warnings) →
     posted_with r warned (event (codes "initialized") (codes "{}")) ≡ posted_all r p (answer_to_launch warnings)

@@ -64,7 +64,7 @@ there_by : (b : Bool) (all : List Reach) (p : ℕ) (g : Found) (r : Reach) → s
 there_by true all p g r e h = h
 there_by false all p g r e h = e
 
--- what is left behind p others begins with the one in place p
+-- the rest after p others begins with the one in place p
 at_drop : (all : List Reach) (p : ℕ) (r : Reach) (rs : List Reach) → drop p all ≡ r ∷ rs →
     (slice_get all p ≡ Some r) × (drop (suc p) all ≡ rs)
 at_drop [] zero r rs e = absurd (cc)

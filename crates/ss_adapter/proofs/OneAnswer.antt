@@ -13,6 +13,7 @@ use Rattle.ss_state.specs.Run.{run}
 use Rattle.ss_messages.specs.declared.request.Command.{Command}
 use Rattle.ss_messages.specs.declared.request.Command.TheVariants.{ConfigurationDone, Obey, Ask, Source}
 use Rattle.ss_messages.specs.declared.request.Command.TheVariants.{ExceptionInfo, Goto, Terminate}
+use Rattle.ss_messages.specs.declared.request.Command.TheVariants.{SetBreakpoints}
 use Rattle.ss_messages.specs.declared.counting.Counting.{Counting}
 use Rattle.ss_messages.specs.Messages.{Sent, reply, failure, event}
 use Rattle.ss_messages.specs.Bodies.{output_body, content_body, result_body, without_last}
@@ -25,7 +26,7 @@ use Rattle.ss_adapter.specs.Console.{point_told}
 use Rattle.ss_adapter.specs.Turn.{AdapterState, report_at, untold_output, stop_events, end_by, end_of}
 use Rattle.ss_adapter.specs.Turn.{behind_movement, behind_going, going_to_stop, point_behind, behind_command}
 use Rattle.ss_adapter.specs.Turn.{console_after, answer_to_question, answer_on_fault}
-use Rattle.ss_adapter.specs.Turn.{answer_to_goto, going_to_state}
+use Rattle.ss_adapter.specs.Turn.{answer_to_goto, going_to_state, answers_elsewhere}
 use Rattle.ss_adapter.specs.Turn.{answer_about_run, told_debugged, told_by, undebugged_count, answers_by, answer_to_configuration}
 use Rattle.ss_adapter.specs.Turn.{exit_events, stopped_event, reply_with_stop, reply_with_going, source_messages}
 use Rattle.ss_adapter.specs.Before.{answers_before, warning_events}
@@ -47,7 +48,7 @@ events_more (event name body ∷ ms) b p q = events_more ms b p q
 events_more (reply body ∷ ms) b p q = absurd p
 events_more (failure reason ∷ ms) b p q = absurd p
 
--- ---- what follows a movement
+-- ---- the messages after a movement
 
 output_by : (told : ℕ) (report : List ℕ) (more : Bool) →
     AreEvents (cond more (event (codes "output") (output_body (codes "stdout") (drop told report)) ∷ []) [])
@@ -85,7 +86,7 @@ going_told state going answer =
     movement_told state.input state.desk (state_behind state.input state.debugger going) answer
     (watched_by going answer)
 
--- ---- what follows a command of the console
+-- ---- the messages after a command of the console
 
 point_is_told : (program : ProgramTable) (path : List ℕ) (counting : Counting) (line : ℕ) (new old : Bool) →
     AreEvents (point_told program path counting line new old)
@@ -160,6 +161,10 @@ request_answered state command (Some g) =
     going_told state g (going_answer state.input state.debugger g)
 request_answered state command None = answered_by state command (undebugged_count state command)
 
+elsewhere_answered : (command : Command) → AreOneAnswer (answers_elsewhere command)
+elsewhere_answered (SetBreakpoints path points) = tt
+elsewhere_answered _ = tt
+
 before_answered : (command : Command) → AreOneAnswer (answers_before command)
 unfolding answers_before
 before_answered Terminate = tt
@@ -173,6 +178,7 @@ pub one_answer : HaveOneAnswer
 one_answer = record {
   after = λ state command. request_answered state command
       (going_of state.input state.debugger state.desk.watched command);
+  elsewhere = elsewhere_answered;
   before = before_answered;
   accepted = λ warnings. events_more (warning_events warnings) _ (warned warnings) tt;
   refused = λ line said. tt;

@@ -7,7 +7,7 @@ use Rattle.ss_debug.specs.View.{DebuggerView, debugger_state_of}
 use Rattle.ss_adapter.specs.declared.reach.Way.{Way}
 use Rattle.ss_adapter.specs.Reach.{nearest_place}
 
--- it stands where it was to go, if its position says so
+-- the debugger is at the position to which it was to go, if its position says so
 pub stands_at : (d : DebuggerView) (old : DebuggerState) (e to : ℕ) → debugger_state_of d ≡ debugger_state_at old e →
     position d.machine ≡ to → debugger_state_of d ≡ debugger_state_at old to
 stands_at d old e to h p = h ∙ ap (λ q. debugger_state_at old q) (sym (ap (λ s. s.position) h) ∙ p)

@@ -1,4 +1,4 @@
--- What is answered before a run is launched, and to launch.
+-- The answers before a run is launched, and to launch.
 use Rattle.std.specs.Prelude.{ℕ, ◌≡◌, List, [], ◌∷◌, ◌++◌, codes}
 use Rattle.ss_words.specs.Faults.{text_rule_code}
 use Rattle.ss_check.specs.CheckRules.{check_rule_code}
@@ -22,7 +22,7 @@ use Rattle.ss_adapter.specs.Desk.{DeskView}
 use Rattle.ss_adapter.specs.Refused.{IsExplained}
 use Rattle.ss_adapter.specs.Turn.{answer_to_terminate}
 
--- what a request is answered with before a run is launched
+-- the answer to a request before a run is launched
 unfoldable pub answers_before : Command → List Sent
 answers_before (Initialize counting) = reply CAPABILITIES.now ∷ []
 answers_before Disconnect = reply (codes "{}") ∷ []
@@ -31,31 +31,31 @@ answers_before (Missing argument) = failure (wanted_text argument) ∷ []
 answers_before Unknown = failure (codes "unknown request") ∷ []
 answers_before other = failure (codes "no run is launched") ∷ []
 
--- what a model is warned of, as output, if it is of something
+-- the warnings of a model, as output, if there are some
 abbrev pub warning_events : List ℕ → List Sent
 warning_events [] = []
 warning_events (b ∷ bs) = event (codes "output") (output_body (codes "console") (b ∷ bs)) ∷ []
 
--- what launch is answered with: where the model is accepted, and warned of this
+-- the answer to launch, if the model is accepted, with these warnings
 abbrev pub answer_to_launch : List ℕ → List Sent
 answer_to_launch warnings =
     reply (codes "{}") ∷ warning_events warnings ++ event (codes "initialized") (codes "{}") ∷ []
 
--- where it is refused: the line of the refusal, and what explains it
+-- the answer to launch, if the model is refused: the line of the refusal, and its explanation
 abbrev pub answer_to_refused_launch : List ℕ → List ℕ → List Sent
 answer_to_refused_launch line said =
     failure (without_last line) ∷ event (codes "output") (output_body (codes "stderr") (line ++ said)) ∷ []
 
--- a debugger at the start of the run of a model over its data, and a desk on which nothing is set or told
+-- a debugger at the start of a model's run over its data, and a desk with nothing set or sent
 pub record IsLaunched (model text path : List ℕ) (counting : Counting) (stops : Stops) (debugger : DebuggerView)
     (k : DeskView) : Type 0 where
   -- the program is that of the model
   pub program : IsOutcome model (accepted debugger.machine.input.program)
   -- its run is the one over the data
   pub input : debugger.machine.input ≡ input_with debugger.machine.input.program text
-  -- the debugger stands at its start
+  -- the debugger is at its start
   pub start : debugger_state_of debugger ≡ initial_debugger_state
-  -- nothing is set or told
+  -- nothing is set, and nothing of the report is sent
   pub desk : k ≡ record {
     path = path;
     model = model;
@@ -74,7 +74,7 @@ fault_line (Text rule line) = refusal_line (text_rule_code rule) line
 fault_line (Check rule line) = refusal_line (check_rule_code rule) line
 fault_line Memory = []
 
--- a launch of a model that is refused for this: its line and what explains it were posted
+-- a launch of a model that is refused for this: its line and its explanation were posted
 abbrev pub IsRefusedLaunch : LoadFault → List ℕ → Request → PostView → PostView → Type 0
 IsRefusedLaunch fault model request old new =
     (said : List ℕ) × IsExplained fault model said

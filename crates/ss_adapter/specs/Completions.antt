@@ -1,4 +1,4 @@
--- The words that may stand where a word is typed in a line of the debugger.
+-- The words that may be typed at a place in a line of the debugger.
 use Rattle.std.specs.Prelude.{ℕ, ◌+◌, ◌-◌, Bool, true, false, List, [], ◌∷◌, ◌++◌, length, map, nat_eq, if◌then◌else◌}
 use Rattle.std.specs.List.{starts_with, list_all}
 use Rattle.std.specs.Char.{to_ascii_uppercase}
@@ -11,7 +11,7 @@ use Rattle.ss_messages.specs.declared.counting.Counting.{Counting}
 use Rattle.ss_adapter.specs.declared.completions.TheConstants.{FIRST_WORDS, FURTHER_WORDS}
 use Rattle.ss_adapter.specs.Words.{before_word, last_word}
 
--- a word as an item, where it begins with what is typed before a column, in whose place it comes
+-- a word as an item, if it begins with the text typed before a column; it replaces that text
 abbrev pub target : List ℕ → ℕ → List ℕ → List ℕ
 target typed column word =
     if starts_with nat_eq word typed then target_item word (column - length typed) (length typed) else []
@@ -38,13 +38,13 @@ name_targets program section typed column =
     ++ set_targets typed column program.sets
     ++ targets typed column (locals_in program section)
 
--- those that may stand first in a line, or behind another word
+-- the items of the words that may be first in a line, or of those that may be after another word
 abbrev pub targets_by : ProgramTable → ℕ → Bool → List ℕ → ℕ → List ℕ
 targets_by program section true typed column = targets typed column (map (λ word. word.now) FIRST_WORDS)
 targets_by program section false typed column =
     targets typed column (map (λ word. word.now) FURTHER_WORDS) ++ name_targets program section typed column
 
--- whether no word stands before the last one of a text
+-- whether no word is before the last one of a text
 abbrev pub is_first : List ℕ → Bool
 is_first text = list_all (λ b. nat_eq b 32) (before_word text)
 
@@ -58,7 +58,7 @@ abbrev pub targets_typed : ProgramTable → ℕ → Counting → List ℕ → Li
 targets_typed program section counting typed =
     completions program section typed (shown counting.columns_from_one (count_units typed + 1))
 
--- the same, of what stands of a text before a column, as the editor counts
+-- the items for the part of a text before a column, as the editor counts
 abbrev pub targets_before : ProgramTable → ℕ → Counting → List ℕ → ℕ → List ℕ
 targets_before program section counting text column =
     targets_typed program section counting (within_units (meant counting.columns_from_one column - 1) text)

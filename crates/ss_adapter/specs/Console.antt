@@ -1,5 +1,5 @@
--- The console: what is shown of a line of the model that becomes a break line, or is none any more; what is said of a
--- movement.
+-- The console: the event for a line of the model that becomes a break line, or is none any more;
+-- the message for a movement.
 use Rattle.std.specs.Prelude.{ℕ, ◌+◌, Bool, true, false, List, [], ◌∷◌, ◌++◌, codes, nat_eq, Option, Some, None}
 use Rattle.std.specs.List.{before_first}
 use Rattle.ss_program.specs.Program.{ProgramTable}
@@ -18,11 +18,11 @@ abbrev pub is_nearest : ℕ → Option ℕ → Bool
 is_nearest line None = false
 is_nearest line (Some nearest) = nat_eq nearest line
 
--- whether a place stands on a line
+-- whether a place is on a line
 abbrev pub has_place : ProgramTable → ℕ → Bool
 has_place program line = is_nearest line (next_line program line)
 
--- what is told of a line, which is a break line now or not, and was one or not: its break point is new, or is removed
+-- the event for a line that is a break line now (true) or not, and was one or not: new, or removed
 abbrev pub point_told : ProgramTable → List ℕ → Counting → ℕ → Bool → Bool → List Sent
 point_told program path counting line true false =
     event (codes "breakpoint")
@@ -30,18 +30,18 @@ point_told program path counting line true false =
 point_told program path counting line false true = event (codes "breakpoint") (removed_point_body (line + MOST_WATCHED)) ∷ []
 point_told program path counting line _ _ = []
 
--- the break lines of requests, where a line became one, as if a request for lines had set it
+-- the lines that requests set; a line that became a break line counts as set by a request for lines
 abbrev pub lines_behind : List ℕ → ℕ → Bool → Bool → List ℕ
 lines_behind set line true false = set ++ line ∷ []
 lines_behind set line false true = without_line line set
 lines_behind set line _ _ = set
 
--- those of requests for sections
+-- the lines that requests for sections set, after a line became a break line or is none any more
 abbrev pub sections_behind : List ℕ → ℕ → Bool → Bool → List ℕ
 sections_behind sections line false true = without_line line sections
 sections_behind sections line _ _ = sections
 
--- the desk behind that
+-- the desk after a line became a break line or is none any more
 abbrev pub desk_with : DeskView → ℕ → Bool → Bool → DeskView
 desk_with desk line new old = record {
   path = desk.path;

@@ -1,10 +1,10 @@
--- What the adapter keeps beside the debugger.
+-- The data that the adapter keeps in addition to the debugger.
 use Rattle.std.specs.Prelude.{ℕ, List}
 use Rattle.ss_trace.specs.declared.question.Question.{Question}
 use Rattle.ss_messages.specs.declared.counting.Counting.{Counting}
 use Rattle.ss_messages.specs.declared.request.Stops.{Stops}
 
--- what the adapter keeps beside the debugger
+-- the data that the adapter keeps in addition to the debugger
 pub record DeskView : Type 0 where
   -- the path of the model
   pub path : List ℕ
@@ -18,9 +18,9 @@ pub record DeskView : Type 0 where
   pub sections : List ℕ
   -- the questions that are data break points, as they were asked
   pub watched : List (List ℕ)
-  -- how much of the report is told
+  -- how much of the report is sent
   pub told : ℕ
   -- from which numbers the editor counts lines and columns
   pub counting : Counting
-  -- whether configurationDone stops where the run stands, and whether the run stops at its end
+  -- whether configurationDone stops at the run's position, and whether the run stops at its end
   pub stops : Stops

@@ -1,4 +1,4 @@
--- What the movements of a request are: those of the debugger, and no others.
+-- The movements of a request: those of the debugger, and no others.
 use Rattle.std.specs.Prelude.{ℕ, ◌&&◌, List, [], Option, Some, None, nat_le, slice_get, unwrap_or, if◌then◌else◌}
 use Rattle.ss_program.specs.Program.{ProgramTable}
 use Rattle.ss_state.specs.Run.{Input}
@@ -25,13 +25,13 @@ use Rattle.ss_adapter.specs.declared.reach.Reach.{Reach}
 use Rattle.ss_adapter.specs.declared.reach.Found.{Found}
 use Rattle.ss_adapter.specs.Reach.{change_movement, movement_reach, reaches, nearest, nearest_place, says_change}
 
--- the state of the debugger behind a movement
+-- the state of the debugger after a movement
 abbrev pub state_behind : Input → DebuggerState → Going → DebuggerState
 state_behind input d (Standing m) = debugger.debugger_state_after input d (Move m)
 state_behind input debugger (Traced m) = trace.state_after input debugger m
 state_behind input debugger (Watched place m) = trace.state_after input debugger m
 
--- what the debugger answers
+-- the answer of the debugger to a movement
 abbrev pub going_answer : Input → DebuggerState → Going → List ℕ
 going_answer input d (Standing m) = debugger.answer input d (Move m)
 going_answer input debugger (Traced m) = trace.answer input debugger m
@@ -42,7 +42,7 @@ abbrev pub place_of : Going → Option ℕ
 place_of (Watched place m) = Some place
 place_of _ = None
 
--- that place, where the movement ended at a change, by its answer
+-- that place, if the movement ended at a change, by its answer
 abbrev pub place_met : Option ℕ → List ℕ → Option ℕ
 place_met None answer = None
 place_met (Some place) answer = if says_change answer then Some place else None
@@ -51,40 +51,40 @@ place_met (Some place) answer = if says_change answer then Some place else None
 abbrev pub watched_by : Going → List ℕ → Option ℕ
 watched_by going answer = place_met (place_of going) answer
 
--- the movement to where the run stops, or back to there: RUN, BACK BREAK
+-- the movement on to the stop of the run, or back to a stop: RUN, BACK BREAK
 abbrev pub plain_going : Way → Going
 plain_going way.Forward = Standing (Run GREATEST_BOUND)
 plain_going way.Back = Standing BackBreak
 
--- to where a question changes that is the data break point in this place
+-- the movement to a change of the question that is the data break point in this place
 abbrev pub change_going : Way → ℕ → Option Question → Going
 change_going way place None = plain_going way
 change_going way place (Some x) = Watched place (change_movement way x)
 
--- to the change of the data break point in this place
+-- the movement to the change of the data break point in this place
 abbrev pub watched_going : ProgramTable → Way → List (List ℕ) → Option ℕ → Going
 watched_going program way watched None = plain_going way
 watched_going program way watched (Some place) =
     change_going way place (question_of program (unwrap_or (slice_get watched place) []))
 
--- to where the run stops: with data break points it is RUN CHANGE or BACK CHANGE for the one whose change is nearest
+-- the movement to a stop; with data break points, RUN CHANGE or BACK CHANGE to the nearest change
 abbrev pub run_going : Input → DebuggerState → List (List ℕ) → Way → Going
 run_going input debugger watched way =
     watched_going input.program way watched (nearest_place input debugger way watched)
 
--- the movement of a stride: over what is called, or out of the section
+-- the movement of a stride: over a called section, or out of the section
 abbrev pub stride_movement : Stride → Movement
 stride_movement stride.Over = Over 1
 stride_movement stride.Out = Out
 
--- OVER or OUT, or to the change of the data break point that is nearest, where that is no further
+-- OVER or OUT, or the movement to the nearest change of a data break point, if that is no further
 abbrev pub step_by : ProgramTable → List (List ℕ) → Movement → Reach → Option Found → Going
 step_by program watched movement reach None = Traced movement
 step_by program watched movement reach (Some f) =
     if f.reach.met && nat_le f.reach.steps reach.steps then watched_going program way.Forward watched (Some f.place)
     else Traced movement
 
--- the same, by how far each leads
+-- that movement, by how far each one leads
 abbrev pub step_going : Input → DebuggerState → List (List ℕ) → Movement → Going
 step_going input debugger watched movement =
     step_by input.program watched movement (movement_reach input debugger movement)

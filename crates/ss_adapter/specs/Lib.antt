@@ -1,3 +1,4 @@
+-- The definitions of the adapter: the answers to an editor's requests, and the states after them.
 pub mod Desk
 pub mod Words
 pub mod Completions

@@ -1,4 +1,5 @@
--- What the debugger's states show: the bodies of replies, each read off one state of the run.
+-- The parts of the debugger's states that replies show: their bodies, each read off one state of
+-- the run.
 use Rattle.std.specs.Prelude.{ℕ, Bool, true, false, not, ◌&&◌, List, ◌++◌, codes, nat_eq}
 use Rattle.std.specs.Prelude.{Option, Some, None, Result, Ok, Err, if◌then◌else◌, bytes_eq}
 use Rattle.std.specs.Option.{option_or}
@@ -22,7 +23,7 @@ use Rattle.ss_prompt.specs.Reading.{prompt_command_of}
 use Rattle.ss_messages.specs.Bodies.{exception_body}
 use Rattle.ss_adapter.specs.Places.{line_id}
 
--- ---- where the run stands
+-- ---- the position of the run
 
 -- why it stops in state p that is ready
 abbrev pub ready_reason : Input → List ℕ → ℕ → List ℕ
@@ -41,7 +42,7 @@ reason_by (Faulted f) ready = codes "exception"
 abbrev pub reason_at : Input → List ℕ → ℕ → List ℕ
 reason_at input breaks p = reason_by (run input p).status (ready_reason input breaks p)
 
--- the break line at which it stops, where that is why
+-- the break line at which it stops, if it stops because of that
 abbrev pub hit_at : Input → List ℕ → ℕ → Option ℕ
 hit_at input breaks p =
     if bytes_eq (reason_at input breaks p) (codes "breakpoint") then line_id (line_at input p) else None
@@ -52,7 +53,7 @@ is_end Stopped = true
 is_end Finished = true
 is_end _ = false
 
--- whether a run with this status is over for the editor: at its end, where it doesn't stop there
+-- whether a run with this status is over for the editor: at its end, if it doesn't stop there
 abbrev pub is_over : Bool → Status → Bool
 is_over at_end status = not at_end && is_end status
 
@@ -68,7 +69,7 @@ abbrev pub named_in : ProgramTable → Command → Option (Result Question NoNam
 named_in program (Show q) = Some (asked_of_program program (Shown q))
 named_in program _ = None
 
--- the same of what a line of the prompt asks, or has answered at each stop
+-- the question that a line of the prompt asks, or has answered at each stop; or its unknown name
 abbrev pub named_by : ProgramTable → PromptCommand → Option (Result Question NoName)
 named_by program (Plain command) = named_in program command
 named_by program (Ask x) = Some (Ok x)
@@ -76,7 +77,7 @@ named_by program (Display x) = Some (Ok x)
 named_by program (Missing m) = Some (Err m)
 named_by program _ = None
 
--- the question that an expression is: what may follow DISPLAY, or a line of the prompt
+-- the question that an expression is: a text that may follow DISPLAY, or a line of the prompt
 abbrev pub asked_of : ProgramTable → List ℕ → Option (Result Question NoName)
 asked_of program text =
     option_or (named_by program (prompt_command_of program (codes "DISPLAY " ++ text)))

@@ -1,4 +1,4 @@
--- Lines of the model on which a place stands, and the break lines of a request.
+-- Lines of the model that have a place, and the break lines of a request.
 use Rattle.std.specs.Prelude.{ℕ, ◌≡◌, ◌+◌, ◌^◌, Bool, ◌&&◌, List, [], ◌∷◌, ◌++◌, codes, map, flat_map, fold}
 use Rattle.std.specs.Prelude.{Option, Some, None, option_and_then, position, slice_get, zero, suc}
 use Rattle.std.specs.Prelude.{if◌then◌else◌, nat_le, nat_lt}
@@ -36,7 +36,7 @@ nearer_line from nearest line = if nat_le from line && is_nearer_line line neare
 unfoldable pub next_line : ProgramTable → ℕ → Option ℕ
 next_line program from = fold (nearer_line from) None (place_lines program)
 
--- the number of the break point of a line, behind those of data break points
+-- the number of the break point of a line, after those of data break points
 abbrev pub line_id : ℕ → Option ℕ
 line_id line = if nat_lt line (2 ^ 32) then Some (line + MOST_WATCHED) else None
 
@@ -46,7 +46,7 @@ pub record Setting : Type 0 where
   pub breaks : List ℕ
   -- those of them that the request sets
   pub set : List ℕ
-  -- what the reply says of each
+  -- the item of the reply for each
   pub text : List ℕ
 
 -- a break line, or why it is none, to an editor that counts so
@@ -70,10 +70,10 @@ with_next counting reason setting (Some line) = with_break counting setting line
 with_next counting reason setting None =
     record { breaks = setting.breaks; set = setting.set; text = setting.text ++ unset_item reason }
 
--- the break line for a line that the request names, if a place stands on it or after it
+-- the break line for a line that the request names, if a place is on it or after it
 abbrev pub with_asked : ProgramTable → Counting → Setting → ℕ → Setting
 with_asked program counting setting line =
-    with_next counting (codes "no statement stands here") setting
+    with_next counting (codes "no statement is here") setting
     (next_line program (meant counting.lines_from_one line))
 
 -- a break point that would not stop each time
@@ -129,12 +129,12 @@ abbrev pub section_setting_of : ProgramTable → Counting → List ℕ → List 
 section_setting_of program counting breaks set kept names =
     fold (with_named program counting) (initial_setting breaks set kept) names
 
--- so many break points that are not set, for this reason
+-- n break points that are not set, for this reason
 abbrev pub unset_items : List ℕ → ℕ → List ℕ
 unset_items reason zero = []
 unset_items reason (suc n) = unset_items reason n ++ unset_item reason
 
--- what was set, and what is said of it
+-- the break lines that were set, and their items
 abbrev pub IsSetting : DebuggerState → DebuggerState → List ℕ → List ℕ → Setting → Type 0
 IsSetting old new set text setting =
     (new ≡ debugger_state_with old setting.breaks) × (set ≡ setting.set) × (text ≡ setting.text)

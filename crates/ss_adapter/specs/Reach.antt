@@ -15,7 +15,7 @@ use Rattle.ss_adapter.specs.declared.reach.Reach.{Reach}
 use Rattle.ss_adapter.specs.declared.reach.Found.{Found}
 use Rattle.ss_adapter.specs.Looking.{question_of}
 
--- the movement to where a question changes: RUN CHANGE, BACK CHANGE
+-- the movement to a change of a question: RUN CHANGE, BACK CHANGE
 abbrev pub change_movement : Way → Question → Movement
 change_movement Forward question = RunChange question
 change_movement Back question = BackChange question
@@ -35,7 +35,7 @@ movement_reach input debugger movement = record {
   met = says_change (trace.answer input debugger movement);
 }
 
--- that of the movement to where a question changes; without one, further than any movement leads
+-- the reach of the movement to a change of a question; without one, further than any movement leads
 abbrev pub reach_of : Input → DebuggerState → Way → Option Question → Reach
 reach_of input debugger way None = record { steps = GREATEST_BOUND + 1; met = false }
 reach_of input debugger way (Some x) = movement_reach input debugger (change_movement way x)
@@ -46,16 +46,16 @@ reaches input debugger way texts = map (λ text. reach_of input debugger way (qu
 
 -- ---- the nearest
 
--- whether one is nearer than another: it is less far, or as far where it alone ends at a change
+-- whether a is nearer than b: it has fewer steps, or as many if only a ends at a change
 abbrev pub is_nearer : Reach → Reach → Bool
 is_nearer a b = if nat_eq a.steps b.steps then a.met && not b.met else nat_lt a.steps b.steps
 
--- the nearest so far, where one more is in this place
+-- the nearest so far, if one more is in this place
 abbrev pub nearer : Option Found → ℕ → Reach → Found
 nearer None place reach = record { place = place; reach = reach }
 nearer (Some f) place reach = if is_nearer reach f.reach then record { place = place; reach = reach } else f
 
--- the nearest, where these are left, the first of them in this place
+-- the nearest, if these are left, the first of them in this place
 abbrev pub nearest_from : Option Found → ℕ → List Reach → Option Found
 nearest_from found place [] = found
 nearest_from found place (r ∷ rs) = nearest_from (Some (nearer found place r)) (place + 1) rs

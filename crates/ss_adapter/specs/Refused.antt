@@ -1,4 +1,4 @@
--- What explains the refusal of a model.
+-- The explanation of the refusal of a model.
 use Rattle.std.specs.Prelude.{ℕ, ◌≡◌, List, []}
 use Rattle.ss_check.specs.CheckRules.{check_rule_code}
 use Rattle.ss_session.specs.declared.load.LoadFault.{LoadFault}
@@ -6,7 +6,7 @@ use Rattle.ss_session.specs.declared.load.LoadFault.TheVariants.{Text, Check, Me
 use Rattle.ss_sentences.specs.Refusals.{IsSaid}
 use Rattle.ss_prompt.specs.Explained.{check_explanation}
 
--- what explains a refusal: where the text is refused, what is said of the word, its place, and what could be there
+-- the explanation of a refusal; for a text, the word, its place, and the words that could be there
 abbrev pub IsExplained : LoadFault → List ℕ → List ℕ → Type 0
 IsExplained (Text rule line) model said = IsSaid model said
 IsExplained (Check rule line) model said = said ≡ check_explanation model (check_rule_code rule) line

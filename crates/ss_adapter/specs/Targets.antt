@@ -15,12 +15,12 @@ use Rattle.ss_adapter.specs.declared.reach.Way.TheVariants.{Forward, Back}
 abbrev pub is_on_line : Input → ℕ → ℕ → Bool
 is_on_line input line p = nat_eq (line_at input p) line
 
--- a search forward stops at a later state on a line, and where the run ends
+-- a search forward stops at a later state on a line, and at the end of the run
 abbrev pub line_condition : Input → ℕ → StopCondition
 line_condition input line =
     record { time = None; test = is_on_line input line; word = codes "LINE"; bound_word = codes "BOUND" }
 
--- where a search for a line ends
+-- the state at which a search for a line ends
 abbrev pub line_end : Input → DebuggerState → Way → ℕ → ℕ
 line_end input debugger Forward line = forward_end input (line_condition input line) debugger.position GREATEST_BOUND
 line_end input debugger Back line =
@@ -30,7 +30,7 @@ line_end input debugger Back line =
 abbrev pub state_target : Input → ℕ → ℕ → List ℕ
 state_target input p n = state_item p (without_last (state_line input p)) n
 
--- the same of the state at which a search for a line ended, if it led to one on the line
+-- the target at which a search for a line ended, if it led to a state on the line
 abbrev pub target_met : Input → ℕ → ℕ → ℕ → ℕ → List ℕ
 target_met input from line q n =
     if not (nat_eq q from) && is_on_line input line q then state_target input q n else []

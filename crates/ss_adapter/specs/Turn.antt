@@ -1,4 +1,4 @@
--- One turn of the adapter: what a request is answered with, and where it leads.
+-- One turn of the adapter: the answer to a request, and the state after it.
 use Rattle.std.specs.Prelude.{ℕ, ◌+◌, max, Bool, true, List, [], ◌∷◌, ◌++◌, codes, drop, length, take, nat_lt, nat_eq}
 use Rattle.std.specs.Prelude.{false, Option, Some, None, Result, Ok, Err, slice_get, if◌then◌else◌}
 use Rattle.ss_program.specs.Program.{ProgramTable}
@@ -59,16 +59,16 @@ use Rattle.ss_adapter.specs.Desk.{DeskView}
 pub record AdapterState : Type 0 where
   -- the program and its data
   pub input : Input
-  -- where the debugger stands, what it keeps, and its break lines
+  -- the debugger's position, the states that it keeps, and its break lines
   pub debugger : DebuggerState
-  -- what lies on the desk
+  -- the desk
   pub desk : DeskView
 
--- the report of the state where the debugger stands
+-- the report of the state at the debugger's position
 abbrev pub report_at : Input → DebuggerState → List ℕ
 report_at input debugger = (run input debugger.position).report
 
--- how much of a report is told once it was reached: it is told once
+-- the desk after a report was reached, with the part of it that is sent: each part is sent once
 abbrev pub told_with : DeskView → List ℕ → DeskView
 told_with desk report = record {
   path = desk.path;
@@ -82,25 +82,25 @@ told_with desk report = record {
   stops = desk.stops;
 }
 
--- where a movement leads
+-- the state to which a movement leads
 abbrev pub adapter_state_at : AdapterState → DebuggerState → AdapterState
 adapter_state_at state debugger =
     record { input = state.input; debugger = debugger; desk = told_with state.desk (report_at state.input debugger) }
 
--- ---- what is sent
+-- ---- the messages that are sent
 
--- the part of a report that is not told yet
+-- the part of a report that is not sent yet
 abbrev pub untold_output : ℕ → List ℕ → List Sent
 untold_output told report =
     if nat_lt told (length report)
     then event (codes "output") (output_body (codes "stdout") (drop told report)) ∷ []
     else []
 
--- the run stands where the debugger is, for this reason, and at the break point of this number, if at one
+-- the run stops at the debugger's position, for this reason, and at this break point, if at one
 abbrev pub stopped_event : List ℕ → List ℕ → Option ℕ → Sent
 stopped_event reason text hit = event (codes "stopped") (stopped_body reason text hit)
 
--- what is said at the change of a question: the movement's answer, and the question
+-- the text at the change of a question: the movement's answer, and the question
 abbrev pub change_text : List ℕ → List ℕ → List ℕ
 change_text answer question = without_last answer ++ codes ": " ++ question
 
@@ -113,7 +113,7 @@ change_event answer place question =
 abbrev pub exit_events : List Sent
 exit_events = event (codes "terminated") (codes "{}") ∷ event (codes "exited") NO_EXIT.now ∷ []
 
--- it ended where the debugger is: the run stops there, or is over, where it doesn't stop at its end
+-- the movement ended here: the run stops, or is over, if it is at its end and doesn't stop there
 abbrev pub stop_events : Input → DebuggerState → Bool → List ℕ → List Sent
 stop_events input debugger at_end answer =
     if is_over at_end (run input debugger.position).status then exit_events
@@ -131,30 +131,30 @@ end_of input debugger at_end watched answer None = stop_events input debugger at
 end_of input debugger at_end watched answer (Some place) =
     end_by input debugger at_end answer place (slice_get watched place)
 
--- what follows a movement to debugger with this answer: first what was printed, then where it stopped
+-- the messages after a movement with this answer: first new output, then the stop
 abbrev pub behind_movement : Input → DeskView → DebuggerState → List ℕ → Option ℕ → List Sent
 behind_movement input desk debugger answer place =
     untold_output desk.told (report_at input debugger)
     ++ end_of input debugger desk.stops.at_end desk.watched answer place
 
--- what follows a movement by its answer
+-- the messages after a movement, by its answer
 abbrev pub behind_going : AdapterState → Going → List ℕ → List Sent
 behind_going state going answer =
     behind_movement state.input state.desk (state_behind state.input state.debugger going) answer
     (watched_by going answer)
 
--- a reply with a body, and a movement behind it
+-- a reply with a body, and the messages of a movement after it
 abbrev pub reply_with_going : AdapterState → List ℕ → Going → List Sent
 reply_with_going state body going =
     reply body ∷ behind_going state going (going_answer state.input state.debugger going)
 
--- to where the run stops; where it is not debugged, to its end
+-- the movement to the stop of the run; if it is not debugged, to its end
 abbrev pub going_to_stop : AdapterState → Going
 going_to_stop state =
     if state.desk.stops.at_points then run_going state.input state.debugger state.desk.watched Forward
     else Traced GoEnd
 
--- a reply, and where the run stands
+-- a reply, and the position of the run
 abbrev pub reply_with_stop : Input → ℕ → List ℕ → List Sent
 reply_with_stop input p reason = reply (codes "{}") ∷ stopped_event reason (without_last (state_line input p)) None ∷ []
 
@@ -168,15 +168,15 @@ at_console state = record {
   displays = state.desk.displays;
 }
 
--- what the prompt answers to a command
+-- the answer of the prompt to a command
 abbrev pub console_answer : AdapterState → PromptCommand → List ℕ
 console_answer state command = prompt_answer (at_console state) command
 
--- where it leads the prompt
+-- the state of the prompt after a command
 abbrev pub console_after : AdapterState → PromptCommand → PromptState
 console_after state command = prompt_state_after (at_console state) command
 
--- whether line l of the model is a break line there
+-- whether line l of the model is a break line after a command
 abbrev pub is_break_behind : AdapterState → PromptCommand → ℕ → Bool
 is_break_behind state command l = is_break_line (console_after state command).debugger.breaks l
 
@@ -187,14 +187,14 @@ point_behind state command (Some l) =
     point_told state.input.program state.desk.path state.desk.counting l (is_break_behind state command l)
     (is_break_line state.debugger.breaks l)
 
--- what follows a command: behind a movement where it stopped, else whether a line has become a break line
+-- the messages after a command: after a movement its stop, else whether a line is a new break line
 abbrev pub behind_command : AdapterState → PromptCommand → Bool → List Sent
 behind_command state command true =
     behind_movement state.input state.desk (console_after state command).debugger
     (first_line (console_answer state command)) None
 behind_command state command false = point_behind state command (point_of state.input.program command)
 
--- a command of the console: what the prompt answers, and what follows it
+-- a command of the console: the answer of the prompt, and the messages after it
 abbrev pub answer_to_line : AdapterState → PromptCommand → List Sent
 answer_to_line state command =
     reply (result_body (console_answer state command)) ∷ behind_command state command (is_movement command)
@@ -205,7 +205,7 @@ answer_to_question input p None = failure (codes "no question") ∷ []
 answer_to_question input p (Some (Err m)) = failure (codes "nothing has this name") ∷ []
 answer_to_question input p (Some (Ok q)) = reply (result_body (value_at input q p)) ∷ []
 
--- what is told of a fault
+-- the answer about a fault
 abbrev pub answer_on_fault : Option (List ℕ) → List Sent
 answer_on_fault (Some body) = reply body ∷ []
 answer_on_fault None = failure (codes "no fault") ∷ []
@@ -214,17 +214,17 @@ answer_on_fault None = failure (codes "no fault") ∷ []
 unfoldable pub first_points : ℕ → List LinePoint → List LinePoint
 first_points n points = take n points
 
--- the break lines behind a request
+-- the break lines after a request
 abbrev pub setting_in : AdapterState → List LinePoint → Setting
 setting_in state points =
     setting_of state.input.program state.desk.counting state.debugger.breaks state.desk.set state.desk.sections
     (first_points MOST_POINTS points)
 
--- so many break points of a request that are not set, for this reason
+-- n break points of a request that are not set, for this reason
 abbrev pub answer_unset : List ℕ → ℕ → List Sent
 answer_unset reason n = reply (list_body (codes "breakpoints") (unset_items reason n)) ∷ []
 
--- what a request is answered with that speaks of another file than the model: of its break points none is set
+-- the answer to a request about a file other than the model: none of its break points is set
 abbrev pub answers_elsewhere : Command → List Sent
 answers_elsewhere (SetBreakpoints path points) = answer_unset ELSEWHERE.now (length points)
 answers_elsewhere other = failure ELSEWHERE.now ∷ []
@@ -240,7 +240,7 @@ point_count other = None
 abbrev pub undebugged_count : AdapterState → Command → Option ℕ
 undebugged_count state command = if state.desk.stops.at_points then None else point_count command
 
--- the break lines behind a request that names sections
+-- the break lines after a request that names sections
 abbrev pub sections_in : AdapterState → List (Option (List ℕ)) → Setting
 sections_in state names =
     section_setting_of state.input.program state.desk.counting state.debugger.breaks state.desk.sections state.desk.set
@@ -266,16 +266,16 @@ abbrev pub answer_with_frames : Input → State → List ℕ → Counting → �
 answer_with_frames input state path counting start levels =
     reply (frames_body (frames_page input.program state path counting start levels) (frame_count state)) ∷ []
 
--- the words that may stand where a word is typed, by the section that runs
+-- the words that may be typed at a place, by the section that runs
 abbrev pub answer_with_completions : ProgramTable → State → Counting → List ℕ → ℕ → List Sent
 answer_with_completions program state counting text column =
     reply (list_body (codes "targets") (targets_before program state.frame.section counting text column)) ∷ []
 
--- goto: to the state of a number, or to the end of the run, where that is before
+-- goto: to the state of a number, or to the end of the run, if that is before
 abbrev pub going_to_state : ℕ → Going
 going_to_state target = Traced (Go target)
 
--- it stands there then
+-- the answer to goto: the run is there then
 abbrev pub answer_to_goto : AdapterState → ℕ → List Sent
 answer_to_goto state target =
     reply (codes "{}")
@@ -284,7 +284,7 @@ answer_to_goto state target =
     ++ stopped_event (codes "goto")
     (without_last (going_answer state.input state.debugger (going_to_state target))) None ∷ []
 
--- what a request is answered with that asks about the run
+-- the answer to a request that asks about the run
 unfoldable pub answer_about_run : AdapterState → Command → List Sent
 answer_about_run state (Initialize counting) = reply CAPABILITIES.now ∷ []
 answer_about_run state (Launch model input stops) = failure (codes "a run is launched already") ∷ []
@@ -310,7 +310,7 @@ answer_about_run state (Missing argument) = failure (wanted_text argument) ∷ [
 answer_about_run state Unknown = failure (codes "unknown request") ∷ []
 answer_about_run state other = reply (codes "{}") ∷ []
 
--- what a request is answered with that asks for no movement, where all its break points may be set
+-- the answer to a request for no movement, if all its break points may be set
 unfoldable pub told_debugged : AdapterState → Command → List Sent
 told_debugged state (SetBreakpoints path points) =
     reply (list_body (codes "breakpoints") (setting_in state points).text) ∷ []
@@ -325,47 +325,47 @@ told_debugged state (Goto target) = answer_to_goto state target
 told_debugged state (Obey text) = answer_to_line state (prompt_command_of state.input.program text)
 told_debugged state other = answer_about_run state other
 
--- the same, where so many of them are not set, since the run is not debugged
+-- that answer; or that n of its break points are not set, since the run is not debugged
 abbrev pub told_by : AdapterState → Command → Option ℕ → List Sent
 told_by state command None = told_debugged state command
 told_by state command (Some n) = answer_unset (codes "the run is not debugged") n
 
--- what a request is answered with that asks for no movement
+-- the answer to a request for no movement
 abbrev pub told_of : AdapterState → Command → List Sent
 told_of state command = told_by state command (undebugged_count state command)
 
--- what a request is answered with: where it asks for a movement, what follows that
+-- the answer to a request; if it asks for a movement, the messages after that
 abbrev pub answers_by : AdapterState → Command → Option Going → List Sent
 answers_by state command (Some g) = reply_with_going state (codes "{}") g
 answers_by state command None = told_of state command
 
--- what a request is answered with
+-- the answer to a request
 abbrev pub answers : AdapterState → Command → List Sent
 answers state command = answers_by state command (going_of state.input state.debugger state.desk.watched command)
 
--- ---- where a request leads
+-- ---- the state after a request
 
--- where the prompt is behind a command, with this desk but for the questions that are answered at each stop
+-- the prompt's state after a command, with this desk, but its questions are the prompt's
 abbrev pub left_at : AdapterState → PromptState → DeskView → AdapterState
 left_at state after desk =
     record { input = state.input; debugger = after.debugger; desk = desk_showing desk after.displays }
 
--- the desk behind a command that is no movement
+-- the desk after a command that is no movement
 abbrev pub desk_behind : AdapterState → PromptCommand → Option ℕ → DeskView
 desk_behind state command None = state.desk
 desk_behind state command (Some l) =
     desk_with state.desk l (is_break_behind state command l) (is_break_line state.debugger.breaks l)
 
--- the desk behind a command
+-- the desk after a command
 abbrev pub desk_after : AdapterState → PromptCommand → Bool → DeskView
 desk_after state command true = told_with state.desk (report_at state.input (console_after state command).debugger)
 desk_after state command false = desk_behind state command (point_of state.input.program command)
 
--- behind a command of the console
+-- the state after a command of the console
 abbrev pub behind_line : AdapterState → PromptCommand → AdapterState
 behind_line state command = left_at state (console_after state command) (desk_after state command (is_movement command))
 
--- behind break lines
+-- the state after break lines
 abbrev pub behind_setting : AdapterState → Setting → AdapterState
 behind_setting state setting = record {
   input = state.input;
@@ -383,7 +383,7 @@ behind_setting state setting = record {
   };
 }
 
--- behind break lines of sections
+-- the state after break lines of sections
 abbrev pub behind_sections : AdapterState → Setting → AdapterState
 behind_sections state setting = record {
   input = state.input;
@@ -401,7 +401,7 @@ behind_sections state setting = record {
   };
 }
 
--- behind data break points
+-- the state after data break points
 abbrev pub behind_watching : AdapterState → List (List ℕ) → AdapterState
 behind_watching state watched = record {
   input = state.input;
@@ -419,7 +419,7 @@ behind_watching state watched = record {
   };
 }
 
--- once configured, the run stops where it stands when it is configured again
+-- the state once configured: if it is configured again, the run stops at its position
 abbrev pub once_configured : AdapterState → AdapterState
 once_configured state = record {
   input = state.input;
@@ -441,19 +441,19 @@ once_configured state = record {
   };
 }
 
--- behind configurationDone
+-- the state after configurationDone
 abbrev pub behind_configuring : AdapterState → AdapterState
 behind_configuring state =
     once_configured
     (if state.desk.stops.at_start then state
     else adapter_state_at state (state_behind state.input state.debugger (going_to_stop state)))
 
--- after goto
+-- the state after goto
 abbrev pub behind_goto : AdapterState → ℕ → AdapterState
 behind_goto state target =
     adapter_state_at state (state_behind state.input state.debugger (going_to_state target))
 
--- behind a request that asks for no movement, where all its break points may be set
+-- the state after a request for no movement, if all its break points may be set
 unfoldable pub left_debugged : AdapterState → Command → AdapterState
 left_debugged state (SetBreakpoints path points) = behind_setting state (setting_in state points)
 left_debugged state (SetFunctionBreakpoints names) = behind_sections state (sections_in state names)
@@ -463,21 +463,21 @@ left_debugged state (Goto target) = behind_goto state target
 left_debugged state (Obey text) = behind_line state (prompt_command_of state.input.program text)
 left_debugged state other = state
 
--- the same, where so many of them are not set: nothing changes
+-- that state; nothing changes if n of its break points are not set
 abbrev pub left_with : AdapterState → Command → Option ℕ → AdapterState
 left_with state command None = left_debugged state command
 left_with state command (Some n) = state
 
--- behind a request that asks for no movement
+-- the state after a request for no movement
 abbrev pub left_by : AdapterState → Command → AdapterState
 left_by state command = left_with state command (undebugged_count state command)
 
--- behind a request that asks for a movement, or none
+-- the state after a request for a movement, or for none
 abbrev pub state_by : AdapterState → Command → Option Going → AdapterState
 state_by state command (Some g) = adapter_state_at state (state_behind state.input state.debugger g)
 state_by state command None = left_by state command
 
--- behind a request
+-- the state after a request
 abbrev pub state_after : AdapterState → Command → AdapterState
 state_after state command = state_by state command (going_of state.input state.debugger state.desk.watched command)
 

@@ -23,7 +23,7 @@ use Rattle.ss_adapter.specs.Words.{last_word}
 pub record Watching : Type 0 where
   -- the questions that are some
   pub watched : List (List ℕ)
-  -- what the reply says of each
+  -- the item of the reply for each
   pub text : List ℕ
 
 -- one that is not set, for this reason
@@ -51,11 +51,11 @@ with_watched program watching (Some id) = with_question watching id (question_fa
 abbrev pub watching_of : ProgramTable → List (Option (List ℕ)) → Watching
 watching_of program ids = fold (with_watched program) (record { watched = []; text = [] }) ids
 
--- what was set, and what is said of it
+-- the data break points that were set, and their items
 abbrev pub IsWatching : List (List ℕ) → List ℕ → Watching → Type 0
 IsWatching watched text watching = (watched ≡ watching.watched) × (text ≡ watching.text)
 
--- ---- what is shown
+-- ---- the parts that are shown
 
 -- the question on a set of this name for owner number k
 abbrev pub list_asked : List ℕ → ℕ → List ℕ
@@ -65,32 +65,32 @@ list_asked name k = codes "SET " ++ name ++ codes " " ++ decimal k
 abbrev pub attribute_asked : List ℕ → ℕ → List ℕ → List ℕ
 attribute_asked class k name = class ++ codes " " ++ decimal k ++ codes " " ++ name
 
--- the question on what entity number k of class c has under a name: a list, or an attribute
+-- the question on the list or attribute that entity number k of class c has under a name
 abbrev pub entity_asked_by : ProgramTable → ℕ → ℕ → List ℕ → Option ℕ → List ℕ
 entity_asked_by program c k name None = attribute_asked (class_of program c).name k name
 entity_asked_by program c k name (Some set) = list_asked name k
 
--- the same, if there is such a class
+-- that question, if there is such a class; else an empty text
 abbrev pub entity_asked : ProgramTable → ℕ → ℕ → List ℕ → List ℕ
 entity_asked program c k name =
     if nat_lt c (length program.classes) then entity_asked_by program c k name (set_named program name) else []
 
--- the question on a set of this name, where the system owns it
+-- the question on a set of this name, if the system owns it
 abbrev pub set_asked_by : List ℕ → Owner → List ℕ
 set_asked_by name System = codes "SET " ++ name
 set_asked_by name (OwnedBy c) = []
 
--- the same, if there is such a set
+-- that question, if there is such a set; else an empty text
 abbrev pub set_asked : ProgramTable → List ℕ → Option ℕ → List ℕ
 set_asked program name None = []
 set_asked program name (Some s) = set_asked_by name (set_of program s).owner
 
--- the question on the list of a set of this name for the owner whose number stands last in a name, if a class owns it
+-- the question on the list of a set for the owner whose number ends a name, if a class owns the set
 abbrev pub owned_asked_by : List ℕ → List ℕ → Owner → List ℕ
 owned_asked_by set name System = []
 owned_asked_by set name (OwnedBy c) = codes "SET " ++ set ++ codes " " ++ last_word name
 
--- the same of set number s, if there is one
+-- the question on the list of set number s, if there is such a set
 abbrev pub owned_asked : ProgramTable → ℕ → List ℕ → List ℕ
 owned_asked program s name =
     if nat_lt s (length program.sets) then owned_asked_by (set_of program s).name name (set_of program s).owner else []
@@ -99,15 +99,15 @@ owned_asked program s name =
 abbrev pub variable_asked : List ℕ → List ℕ
 variable_asked name = codes "VAR " ++ name
 
--- the same of a local of the frame on which so many others stand: of the last one
+-- the question on a local of the frame with `depth` frames above it, if that is the last frame
 abbrev pub local_asked : List ℕ → ℕ → List ℕ
 local_asked name depth = if nat_eq depth 0 then variable_asked name else []
 
--- the name of what the run shows, as a question
+-- the name of an item of the run, as a question
 abbrev pub run_asked : List ℕ → List ℕ
 run_asked name = if bytes_eq name (codes "STATE") then codes "WHERE" else name
 
--- the question on what a group shows under a name, as it is asked; empty where the debugger has none
+-- the question on the item of a group with a name, as it is asked; empty if the debugger has none
 abbrev pub asked_text : ProgramTable → List ℕ → Group → List ℕ
 asked_text program name Globals = variable_asked name
 asked_text program name (Locals depth) = local_asked name depth
@@ -124,7 +124,7 @@ abbrev pub info_with : List ℕ → Option (List ℕ) → List ℕ
 info_with text None = info_body text
 info_with text (Some reason) = no_info_body reason
 
--- whether a text may be a data break point: where it is a question on the program
+-- whether a text may be a data break point: if it is a question on the program
 abbrev pub info_by : ProgramTable → List ℕ → List ℕ
 info_by program text = info_with text (question_fault (asked_of program text))
 

@@ -70,7 +70,7 @@ fn ask<S: SetBoard>(
     answer_question(debugger, request, post, question)
 }
 
-/// Tells of the fault where the run stands.
+/// Answers with the fault at the position of the run.
 #[tactic(auto, unfolding(ss_messages::specs::Messages::posted_all))]
 fn tell_exception<S: SetBoard>(
     debugger: &Debugger<S>,
@@ -87,7 +87,7 @@ fn tell_exception<S: SetBoard>(
     }
 }
 
-/// Tells the content of a source, of which the report is number 1.
+/// Answers with the content of a source; the report is number 1.
 #[tactic(auto, unfolding(ss_messages::specs::Messages::posted_all))]
 fn tell_source<S: SetBoard>(
     debugger: &Debugger<S>,
@@ -107,7 +107,7 @@ fn tell_source<S: SetBoard>(
     post.reply(request, &body)
 }
 
-/// Tells a page of the frames.
+/// Answers with a page of the frames.
 #[tactic(auto, unfolding(ss_messages::specs::Messages::posted_all))]
 fn tell_frames<S: SetBoard>(
     debugger: &Debugger<S>,
@@ -137,7 +137,7 @@ fn tell_frames<S: SetBoard>(
     post.reply(request, &body)
 }
 
-/// Tells the scopes of a frame.
+/// Answers with the scopes of a frame.
 #[tactic(auto, unfolding(ss_messages::specs::Messages::posted_all))]
 fn tell_scopes<S: SetBoard>(
     debugger: &Debugger<S>,
@@ -156,7 +156,7 @@ fn tell_scopes<S: SetBoard>(
     post.reply(request, &body)
 }
 
-/// Tells the variables that are wanted.
+/// Answers with the variables that are wanted.
 #[tactic(auto, unfolding(ss_messages::specs::Messages::posted_all))]
 fn tell_variables<S: SetBoard>(
     debugger: &Debugger<S>,
@@ -175,7 +175,7 @@ fn tell_variables<S: SetBoard>(
     post.reply(request, &body)
 }
 
-/// Tells whether a name in a reference may be a data break point.
+/// Answers whether a name in a reference may be a data break point.
 #[tactic(auto, unfolding(ss_messages::specs::Messages::posted_all))]
 fn tell_info(
     program: &Program,
@@ -192,7 +192,7 @@ fn tell_info(
     post.reply(request, &body)
 }
 
-/// The items of the words that may stand where a word is typed in a text, before a column.
+/// The items of the words that may be typed in a text, before a column.
 fn targets(
     pen: Pen,
     program: &Program,
@@ -209,7 +209,7 @@ fn targets(
     completions(pen.alloc, program, section, &before, end)
 }
 
-/// Tells the words that may stand where a word is typed.
+/// Answers with the words that may be typed.
 #[tactic(auto, unfolding(ss_messages::specs::Messages::posted_all))]
 fn tell_completions<S: SetBoard>(
     debugger: &Debugger<S>,

@@ -1,4 +1,4 @@
-//! What is answered before a run is launched.
+//! The answers before a run is launched.
 ghost use Rattle.std.specs.Prelude.{◌≡◌, ◌+◌, ◌-◌, ◌^◌, ◌<◌, IfOk, OnOk};
 ghost use Rattle.ss_messages.specs.Messages.{posted_all};
 ghost use Rattle.ss_adapter.specs.Before.{answers_before};
@@ -10,7 +10,7 @@ use crate::turns::{Further, further_behind};
 use ss_messages::{Command, NOTHING, Post, Request};
 use std::alloc::AllocError;
 
-/// What a request is answered with before a run is launched, but for launch.
+/// Answers a request other than launch, before a run is launched.
 #[tactic(auto, unfolding(ss_messages::specs::Messages::posted_all, crate::specs::Before::answers_before))]
 fn answer_before(request: &Request, post: &mut Post) -> Result<(), AllocError>
     requires { post.old.sent + 2 < 2 ^ 64 - 1 }

@@ -6,7 +6,8 @@ ghost use Rattle.ss_debug.specs.Turn.{debugger_state_with};
 ghost use Rattle.ss_messages.specs.Bodies.{unset_item};
 ghost use Rattle.ss_adapter.specs.Places.{nearer_line, next_line, first_place_line, named_line};
 ghost use Rattle.ss_adapter.specs.Places.{without_lines, breaks_left};
-ghost use Rattle.ss_adapter.specs.Places.{with_next, with_asked, with_point, with_named, unset_items, setting_of, section_setting_of};
+ghost use Rattle.ss_adapter.specs.Places.{with_next, with_asked, with_point, with_named};
+ghost use Rattle.ss_adapter.specs.Places.{unset_items, setting_of, section_setting_of};
 ghost use Rattle.ss_adapter.specs.Places.{IsSetting};
 
 use crate::desk::MOST_WATCHED;
@@ -18,7 +19,7 @@ use ss_program::{Program, Section, Spot};
 use std::alloc::{AllocError, Global};
 
 /// Why a break point is not set that would not stop each time.
-pub const UNHEEDED: &[u8] = b"conditions, counts of hits and messages are not heeded";
+pub const UNHEEDED: &[u8] = b"conditions, hit counts and messages are not supported";
 
 /// The nearer of two lines, the first of which may be none, that are not before a line.
 fn nearer_line(from: u64, nearest: Option<u32>, line: usize) -> Option<u32>
@@ -153,7 +154,7 @@ pub fn push_unset(
     text.extend_from_slice(&item)
 }
 
-/// Appends so many break points that are not set, for one reason.
+/// Appends `count` break points that are not set, for one reason.
 pub fn push_all_unset(
     alloc: Global,
     text: &mut Vec<u8>,
@@ -168,7 +169,7 @@ pub fn push_all_unset(
     Ok(())
 }
 
-/// Sets a break line, if there is one, and tells where, or why not.
+/// Sets a break line, if there is one, and appends its line, or why there is none.
 #[tactic(auto, unfolding(ss_debug::proofs::Unfoldings::turns))]
 fn set_next<S: SetBoard>(
     pen: Pen,
@@ -216,7 +217,7 @@ fn set_line<S: SetBoard>(
 {
     let line = pen.counting.meant_line(asked);
     let next = next_line(debugger.machine().program(), line);
-    set_next(pen, debugger, set, text, b"no statement stands here", next)
+    set_next(pen, debugger, set, text, b"no statement is here", next)
 }
 
 /// Sets the break line for a break point of a request, if it stops each time.
@@ -263,7 +264,7 @@ fn set_section<S: SetBoard>(
 }
 
 /// Sets the break lines of a request in place of those of an earlier one, keeps those that requests
-/// for sections set, and appends what the reply says of each.
+/// for sections set, and appends the item of the reply for each.
 pub fn set_lines<S: SetBoard>(
     pen: Pen,
     debugger: &mut Debugger<S>,
@@ -288,7 +289,7 @@ pub fn set_lines<S: SetBoard>(
 }
 
 /// Sets the break lines of the sections of a request in place of those of an earlier one, keeps
-/// those that requests for lines set, and appends what the reply says of each.
+/// those that requests for lines set, and appends the item of the reply for each.
 pub fn set_sections<S: SetBoard>(
     pen: Pen,
     debugger: &mut Debugger<S>,

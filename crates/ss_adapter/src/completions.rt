@@ -1,4 +1,4 @@
-//! The words that may stand where a word is typed in a line of the debugger.
+//! The words that may be typed at a place in a line of the debugger.
 ghost use Rattle.std.specs.Prelude.{◌≡◌, ◌++◌, OnOk, IfOk, map};
 ghost use Rattle.ss_adapter.specs.Completions.{target, targets, attribute_targets, set_targets, name_targets};
 ghost use Rattle.ss_adapter.specs.Completions.{targets_by, is_first, completions};
@@ -13,13 +13,13 @@ pub const FIRST_WORDS: [&[u8]; 9] = [
     b"STEP", b"RUN", b"NEXT", b"BACK", b"BREAK", b"CLEAR", b"FORGET", b"SHOW", b"QUIT",
 ];
 
-/// The words that may stand behind another.
+/// The words that may be after another.
 pub const FURTHER_WORDS: [&[u8]; 11] = [
     b"CLOCK", b"WHERE", b"VAR", b"SET", b"EVENTS", b"TAKEN", b"ENTRY", b"REPORT", b"TO", b"EVENT",
     b"BREAK",
 ];
 
-/// Appends a word as an item, where it begins with what is typed before a column.
+/// Appends a word as an item, if it begins with the text that is typed before a column.
 fn push_target(
     alloc: Global,
     out: &mut Vec<u8>,
@@ -127,14 +127,15 @@ fn push_program(
     push_names(alloc, out, typed, column, program.locals(section))
 }
 
-/// Whether no word stands before the last one of a text.
+/// Whether no word is before the last one of a text.
 fn is_first(text: &[u8]) -> bool
     ensures { result ≡ is_first text.now }
 {
     before_word(text).iter().all(|byte| *byte == b' ')
 }
 
-/// Appends the items of the words that may stand first in a line, or behind another word.
+/// Appends the items of the words that may be first in a line, or of those that may be after
+/// another word.
 fn push_targets(
     alloc: Global,
     out: &mut Vec<u8>,
@@ -155,8 +156,10 @@ fn push_targets(
 }
 
 /// The items of the words that begin with the last word of a text, in either case, which ends
-/// before a column: words of docs/DEBUGGER.md, then names of the program in the order of its
-/// tables, with the locals of a section. Each stands behind a comma.
+/// before a column.
+///
+/// They are words of docs/DEBUGGER.md, then names of the program in the order of its tables, with
+/// the locals of a section. Each is after a comma.
 pub fn completions(
     alloc: Global,
     program: &Program,

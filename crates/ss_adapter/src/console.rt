@@ -32,7 +32,7 @@ fn is_break<S: SetBoard>(
     Ok(lines.iter().any(|other| *other == line as usize))
 }
 
-/// Whether a place stands on a line.
+/// Whether a place is on a line.
 fn has_place(program: &Program, line: u32) -> bool
     ensures { result ≡ has_place program.now line }
 {
@@ -64,8 +64,8 @@ fn note_break(desk: &mut Desk, line: u32, is_set: bool, was_set: bool) -> Result
     Ok(())
 }
 
-/// Tells of a line, which is a break line now or not, and was one or not: that its break point is
-/// new, or is removed.
+/// Sends the event for a line, which is a break line now or not, and was one or not: that its break
+/// point is new, or is removed.
 #[tactic(auto, unfolding(ss_messages::specs::Messages::posted_all))]
 fn tell_point(
     program: &Program,
@@ -102,7 +102,7 @@ fn first_line(alloc: Global, answer: &[u8]) -> Result<Vec<u8>, AllocError>
     Ok(line)
 }
 
-/// Obeys a command as the prompt does, and answers with what that says.
+/// Obeys a command as the prompt does, and replies with the prompt's answer.
 #[tactic(auto, using(crate::proofs::Consoles::left_behind), unfolding(ss_messages::specs::Messages::posted_all))]
 fn say<S: SetBoard>(
     debugger: &mut Debugger<S>,
@@ -138,7 +138,7 @@ fn say<S: SetBoard>(
     post.reply(request, &body)
 }
 
-/// Obeys a command that is a movement, and tells where it stopped.
+/// Obeys a command that is a movement, and sends its stop.
 #[tactic(auto, unfolding(ss_messages::specs::Messages::posted_all))]
 fn obey_movement<S: SetBoard>(
     debugger: &mut Debugger<S>,
@@ -163,8 +163,8 @@ fn obey_movement<S: SetBoard>(
     tell_movement(debugger, desk, request, post, &line, None)
 }
 
-/// Obeys a command that is no movement, and tells of the line that it makes a break line, or no
-/// break line any more, if it does.
+/// Obeys a command that is no movement, and sends the event for the line that becomes a break line,
+/// or is none any more, if there is one.
 #[tactic(auto, unfolding(ss_messages::specs::Messages::posted_all))]
 fn obey_standing<S: SetBoard>(
     debugger: &mut Debugger<S>,

@@ -1,4 +1,4 @@
-//! What the adapter keeps beside the debugger.
+//! The data that the adapter keeps in addition to the debugger.
 ghost use Rattle.std.specs.Prelude.{◌≡◌, []};
 
 use crate::pen::Pen;
@@ -7,10 +7,10 @@ use ss_trace::Question;
 use std::alloc::Global;
 use std::marker::Model;
 
-/// The most data break points. Their numbers are 1 to this one; those of break lines come behind.
+/// The most data break points. Their numbers are 1 to this one; those of break lines come after.
 pub const MOST_WATCHED: usize = 8;
 
-/// What the adapter keeps beside the debugger.
+/// The data that the adapter keeps in addition to the debugger.
 #[derive(Drop)]
 pub struct Desk {
     /// The path of the model.
@@ -25,11 +25,11 @@ pub struct Desk {
     pub(crate) sections: Vec<u32>,
     /// The questions that are data break points, as they were asked.
     pub(crate) watched: Vec<Text>,
-    /// How much of the report is told.
+    /// How much of the report is sent.
     pub(crate) told: usize,
     /// From which numbers the editor counts lines and columns.
     pub(crate) counting: Counting,
-    /// Whether configurationDone stops where the run stands, and whether the run stops at its end.
+    /// Whether configurationDone stops at the run's position, and whether the run stops at its end.
     pub(crate) stops: Stops,
 }
 
@@ -70,7 +70,7 @@ impl Desk {
         }
     }
 
-    /// What a reply of these messages is written with.
+    /// The pen with which a reply of these messages is written.
     pub(crate) fn pen(&self, post: &Post) -> Pen
         ensures { result.counting ≡ self.now.counting }
     {
@@ -80,7 +80,7 @@ impl Desk {
         }
     }
 
-    /// Nothing is set or told yet.
+    /// A desk on which nothing is set yet, and no part of the report is sent.
     pub fn new(
         alloc: Global,
         path: Vec<u8>,

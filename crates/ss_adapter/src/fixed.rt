@@ -1,6 +1,6 @@
 //! Bodies that are always the same.
 
-/// What the adapter can do.
+/// The capabilities of the adapter.
 pub const CAPABILITIES: &[u8] = b"{\"supportsConfigurationDoneRequest\":true,\
     \"supportsFunctionBreakpoints\":true,\"supportsDataBreakpoints\":true,\
     \"supportsStepBack\":true,\"supportsGotoTargetsRequest\":true,\"supportsSteppingGranularity\":true,\

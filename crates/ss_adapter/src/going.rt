@@ -19,7 +19,7 @@ use std::alloc::{AllocError, Global};
 pub enum Going {
     /// One that its commands make.
     Standing(ss_debug::Movement),
-    /// One beside them.
+    /// One that they do not make.
     Traced(ss_trace::Movement),
     /// One to the change of the data break point in this place.
     Watched(usize, ss_trace::Movement),
@@ -37,7 +37,7 @@ impl Going {
     }
 }
 
-/// The movement to where the run stops, or back to there.
+/// The movement on to the stop of the run, or back to a stop.
 fn plain_going(way: Way) -> Going
     ensures { result ≡ plain_going way }
 {
@@ -47,7 +47,7 @@ fn plain_going(way: Way) -> Going
     }
 }
 
-/// The movement to where a question changes that is the data break point in this place.
+/// The movement to a change of the question that is the data break point in this place.
 fn change_going(way: Way, place: usize, question: Option<Question>) -> Going
     ensures { result ≡ change_going way place question }
 {
@@ -77,10 +77,10 @@ fn watched_going(
     Ok(change_going(way, place, question(alloc, program, text)?))
 }
 
-/// The movement to where the run stops, or back to there: at a break line, or where the nearest of
-/// the data break points changes.
+/// The movement on to the stop of the run, or back to a stop: at a break line, or at the nearest
+/// change of the data break points.
 ///
-/// `AllocError` where memory was refused; then the debugger may stand elsewhere in the same run.
+/// `AllocError` if memory was refused; then the debugger may be elsewhere in the same run.
 pub fn run_going<S: SetBoard>(
     alloc: Global,
     debugger: &mut Debugger<S>,
@@ -100,7 +100,7 @@ pub fn run_going<S: SetBoard>(
 /// A movement that a data break point may end.
 #[derive(Clone, Copy)]
 pub enum Stride {
-    /// Over what is called.
+    /// Over a called section.
     Over,
     /// Out of the section.
     Out,
@@ -116,9 +116,9 @@ fn stride_movement(stride: Stride) -> ss_trace::Movement
     }
 }
 
-/// OVER or OUT, or to the change of the data break point that is nearest, where that is no further.
+/// OVER or OUT, or the movement to the nearest change of a data break point, if that is no further.
 ///
-/// `AllocError` where memory was refused; then the debugger may stand elsewhere in the same run.
+/// `AllocError` if memory was refused; then the debugger may be elsewhere in the same run.
 fn step_going<S: SetBoard>(
     alloc: Global,
     debugger: &mut Debugger<S>,
@@ -191,7 +191,7 @@ pub fn make<S: SetBoard>(
     }
 }
 
-/// The place of a data break point, where a movement ended at a change, by its answer.
+/// The place of a data break point, if a movement ended at a change, by its answer.
 fn place_met(place: Option<usize>, answer: &[u8]) -> Option<usize>
     ensures { result ≡ place_met place answer.now }
 {
@@ -207,7 +207,7 @@ fn place_met(place: Option<usize>, answer: &[u8]) -> Option<usize>
     }
 }
 
-/// Makes a movement, and appends its answer; tells the place of the data break point at whose
+/// Makes a movement, and appends its answer. Gives the place of the data break point at whose
 /// change it ended, if it did at one.
 pub fn make_watched<S: SetBoard>(
     debugger: &mut Debugger<S>,

@@ -12,7 +12,7 @@ pub fn nearest_change_is_one_of_them()
     ensures { NearestIsOne }
 {}
 
-/// Each request has one reply, or one failure, which is sent first; events alone follow it.
+/// Each request has one reply, or one failure, which is sent first; only events follow it.
 #[tactic(auto, using(crate::proofs::OneAnswer::one_answer))]
 pub fn each_request_has_one_answer()
     ensures { HaveOneAnswer }

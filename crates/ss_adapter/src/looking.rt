@@ -1,4 +1,4 @@
-//! What a state shows.
+//! The parts of a state that replies show.
 ghost use Rattle.std.specs.Prelude.{◌≡◌, ◌++◌, ◌+◌, ◌<◌, codes, decimal, IfOk, option_map};
 ghost use Rattle.ss_debug.specs.Move.{line_at};
 ghost use Rattle.ss_machine.specs.Moment.{position};
@@ -20,7 +20,7 @@ use ss_state::Status;
 use ss_trace::Question;
 use std::alloc::{AllocError, Global};
 
-/// Why the run stops where it stands.
+/// Why the run stops at its position.
 pub fn reason<S: SetBoard>(debugger: &Debugger<S>) -> &'static [u8]
     ensures { result.now ≡ reason_at debugger.now.machine.input debugger.now.breaks
         (position debugger.now.machine) }
@@ -42,7 +42,7 @@ pub fn reason<S: SetBoard>(debugger: &Debugger<S>) -> &'static [u8]
     }
 }
 
-/// The line of the place where the run stands.
+/// The line of the place at which the run is.
 fn present_line<S: SetBoard>(machine: &Machine<S>) -> usize
     ensures { result ≡ line_at machine.now.input (position machine.now) }
 {
@@ -61,7 +61,7 @@ fn line_id(line: usize) -> Option<u64>
     }
 }
 
-/// The break line at which the run stops, where that is why.
+/// The break line at which the run stops, if it stops because of that.
 pub fn hit<S: SetBoard>(debugger: &Debugger<S>) -> Option<u64>
     ensures { result ≡ hit_at debugger.now.machine.input debugger.now.breaks
         (position debugger.now.machine) }
@@ -82,7 +82,7 @@ fn is_end(status: Status) -> bool
     }
 }
 
-/// Whether the run is over for the editor where it stands: at its end, where it doesn't stop there.
+/// Whether the run is over for the editor: it is at its end, and doesn't stop there.
 pub fn is_over<S: SetBoard>(machine: &Machine<S>, at_end: bool) -> bool
     ensures { result ≡ is_over at_end (run machine.now.input (position machine.now)).status }
 {
@@ -100,7 +100,7 @@ fn fault_word(alloc: Global, number: u8) -> Result<Vec<u8>, AllocError>
     Ok(text)
 }
 
-/// What is told of a fault, if the run stands at one.
+/// The body about a fault, if the run is at one.
 pub fn exception<S: SetBoard>(
     alloc: Global,
     machine: &Machine<S>,
@@ -129,7 +129,8 @@ fn named_in(program: &Program, command: Command) -> Option<Result<Question, Miss
     }
 }
 
-/// The same of what a line of the prompt asks, or has answered at each stop.
+/// The question that a line of the prompt asks, or has answered at each stop; or the name in it
+/// that the program hasn't.
 fn named_by(program: &Program, command: PromptCommand) -> Option<Result<Question, Missing>>
     ensures { result ≡ named_by program.now command }
 {
@@ -141,7 +142,7 @@ fn named_by(program: &Program, command: PromptCommand) -> Option<Result<Question
     }
 }
 
-/// A text behind the beginning of a line.
+/// A text after the beginning of a line.
 fn line_behind(alloc: Global, head: &'static [u8], text: &[u8]) -> Result<Vec<u8>, AllocError>
     ensures { IfOk result (λ line. line.items ≡ head.now ++ text.now) }
 {
@@ -150,8 +151,8 @@ fn line_behind(alloc: Global, head: &'static [u8], text: &[u8]) -> Result<Vec<u8
     Ok(line)
 }
 
-/// The question that an expression is, as a program has its names, or which of them it hasn't: what
-/// may follow DISPLAY, or a line of the prompt.
+/// The question that an expression is, as a program has its names, or the name in it that the
+/// program hasn't. The expression is a text that may follow DISPLAY, or a line of the prompt.
 pub fn asked(
     alloc: Global,
     program: &Program,

@@ -39,9 +39,9 @@ pub fn go<S: SetBoard>(
     tell_movement(debugger, desk, request, post, &answer, changed)
 }
 
-/// The movement to where the run stops; where it is not debugged, to its end.
+/// The movement to the stop of the run; if the run is not debugged, to its end.
 ///
-/// `AllocError` where memory was refused; then the debugger may stand elsewhere in the same run.
+/// `AllocError` if memory was refused; then the debugger may be elsewhere in the same run.
 fn going_to_stop<S: SetBoard>(
     alloc: Global,
     debugger: &mut Debugger<S>,
@@ -59,7 +59,7 @@ fn going_to_stop<S: SetBoard>(
     Ok(Going::Traced(Movement::GoEnd))
 }
 
-/// configurationDone: the run stops where it stands, or runs.
+/// configurationDone: the run stops at its position, or runs.
 #[tactic(auto, unfolding(ss_messages::specs::Messages::posted_all))]
 pub fn configure<S: SetBoard>(
     debugger: &mut Debugger<S>,

@@ -18,7 +18,7 @@ use ss_program::Program;
 use ss_session::{LoadFault, open_debugger, refusal_text};
 use std::alloc::{AllocError, Global};
 
-/// What is said of a refused model.
+/// The line of a refused model.
 fn fault_line(alloc: Global, fault: &LoadFault) -> Result<Vec<u8>, AllocError>
     ensures { IfOk result (λ text. text.items ≡ fault_line fault.now) }
 {
@@ -29,7 +29,7 @@ fn fault_line(alloc: Global, fault: &LoadFault) -> Result<Vec<u8>, AllocError>
     }
 }
 
-/// Answers launch with the line of a refused model, and what explains it.
+/// Answers launch with the line of a refused model, and its explanation.
 #[tactic(auto, unfolding(ss_messages::specs::Messages::posted_all))]
 fn refuse(
     request: &Request,
@@ -48,7 +48,7 @@ fn refuse(
     post.event(request, b"output", &body)
 }
 
-/// Sends what a model is warned of, if it is of something.
+/// Sends the warnings of a model, if there are some.
 #[tactic(auto, unfolding(ss_messages::specs::Messages::posted_all))]
 fn tell_warnings(request: &Request, post: &mut Post, warnings: &[u8]) -> Result<(), AllocError>
     requires { post.old.sent < 2 ^ 64 - 1 }
@@ -74,7 +74,7 @@ fn accept(request: &Request, post: &mut Post, warnings: &[u8]) -> Result<(), All
     post.event(request, b"initialized", NOTHING)
 }
 
-/// What a model is warned of.
+/// The warnings of a model.
 #[tactic(auto, unfolding(ss_prompt::specs::Names::warnings_told))]
 fn warnings(alloc: Global, program: &Program, model: &[u8]) -> Result<Vec<u8>, AllocError>
     ensures { IfOk result (λ text. text.items ≡ warnings_told program.now model.now) }
@@ -85,7 +85,7 @@ fn warnings(alloc: Global, program: &Program, model: &[u8]) -> Result<Vec<u8>, A
     Ok(text)
 }
 
-/// Answers launch with the run of a program, which a model is, and what that is warned of.
+/// Answers launch with the run of a model's program, and the warnings of the model.
 fn tell_opened(
     request: &Request,
     post: &mut Post,
@@ -100,8 +100,9 @@ fn tell_opened(
     accept(request, post, &text)
 }
 
-/// Launches the run of a model, as the editor knows it, over its data, and answers the request. `None`
-/// where the model is refused; the answer says why, and on which line. `AllocError` where memory
+/// Launches the run of a model, as the editor knows it, over its data, and answers the request.
+///
+/// `None` if the model is refused; the answer says why, and on which line. `AllocError` if memory
 /// was refused.
 pub fn launch(
     request: &Request,

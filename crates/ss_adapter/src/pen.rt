@@ -1,8 +1,8 @@
-//! What a reply is written with.
+//! The pen with which a reply is written.
 use ss_messages::Counting;
 use std::alloc::Global;
 
-/// What a reply is written with: where its memory is from, and how the editor counts.
+/// The pen with which a reply is written: the source of its memory, and how the editor counts.
 #[derive(Clone, Copy)]
 pub struct Pen {
     pub alloc: Global,

@@ -34,7 +34,7 @@ pub struct Found {
     pub reach: Reach,
 }
 
-/// The movement to where a question changes.
+/// The movement to a change of a question.
 pub fn change_movement(way: Way, question: Question) -> Movement
     ensures { result ≡ change_movement way question }
 {
@@ -58,8 +58,8 @@ fn steps_between(from: u64, to: u64) -> u64
     if to < from { from - to } else { to - from }
 }
 
-/// Goes to a position where the run has been. The states before it were ready, so the way forward
-/// leads there as the way back does.
+/// Goes to a position at which the run has been. The states before it were ready, so the way
+/// forward leads there as the way back does.
 #[tactic(auto, using(crate::proofs::Returns::stands_at))]
 pub fn return_to<S: SetBoard>(
     alloc: Global,
@@ -78,7 +78,7 @@ pub fn return_to<S: SetBoard>(
     Ok(())
 }
 
-/// Makes a movement and goes back: tells how far it leads, and whether it ends at a change.
+/// Makes a movement and goes back. Gives how far it leads, and whether it ends at a change.
 pub fn movement_reach<S: SetBoard>(
     alloc: Global,
     debugger: &mut Debugger<S>,
@@ -101,7 +101,7 @@ pub fn movement_reach<S: SetBoard>(
     })
 }
 
-/// The reach of the movement to where the question of a text changes.
+/// The reach of the movement to a change of the question of a text.
 fn text_reach<S: SetBoard>(
     alloc: Global,
     debugger: &mut Debugger<S>,
@@ -134,7 +134,7 @@ fn is_nearer(one: Reach, other: Reach) -> bool
     one.steps < other.steps
 }
 
-/// The nearest so far, where one more is in this place.
+/// The nearest so far, if one more is in this place.
 fn nearer(found: Option<Found>, place: usize, reach: Reach) -> Found
     ensures { result ≡ nearer found place reach }
 {
@@ -172,10 +172,11 @@ pub fn nearest<S: SetBoard>(
     Ok(found)
 }
 
-/// The place of the text whose question changes nearest; where there is one alone, it is not looked
-/// for. Each is looked for from where the debugger stands, and there it stands behind.
+/// The place of the text whose question changes nearest; if there is only one text, its change is
+/// not looked for. Each change is looked for from the debugger's position, and the debugger is at
+/// that position afterwards.
 ///
-/// `AllocError` where memory was refused; then the debugger may stand elsewhere in the same run.
+/// `AllocError` if memory was refused; then the debugger may be elsewhere in the same run.
 #[tactic(auto, unfolding(crate::specs::Reach::nearest_place), using(crate::proofs::Returns::alone))]
 pub fn nearest_place<S: SetBoard>(
     alloc: Global,

@@ -1,4 +1,4 @@
-//! What explains the refusal of a model.
+//! The explanation of the refusal of a model.
 ghost use Rattle.std.specs.Prelude.{◌≡◌, IfOk};
 ghost use Rattle.ss_prompt.specs.Explained.{check_explanation};
 ghost use Rattle.ss_adapter.specs.Refused.{IsExplained};
@@ -8,7 +8,7 @@ use ss_sentences::text_refusal;
 use ss_session::LoadFault;
 use std::alloc::{AllocError, Global};
 
-/// What explains that a rule of the checker refuses a model.
+/// The explanation of a rule of the checker that refuses a model.
 fn check_explanation(
     alloc: Global,
     model: &[u8],
@@ -22,8 +22,8 @@ fn check_explanation(
     Ok(text)
 }
 
-/// What explains the refusal of a model: its rule, the line, the word and its place, and what could
-/// be there.
+/// The explanation of the refusal of a model: its rule, the line, the word and its place, and the
+/// words that could be there.
 pub fn explanation(alloc: Global, model: &[u8], fault: &LoadFault) -> Result<Vec<u8>, AllocError>
     ensures { IfOk result (λ text. IsExplained fault.now model.now text.items) }
 {

@@ -17,7 +17,7 @@ use std::alloc::AllocError;
 /// The most break points of a request for lines that are answered.
 const MOST_POINTS: usize = 1_000;
 
-/// The first of some break points, so many at most.
+/// The first of some break points, `limit` at most.
 #[tactic(auto, unfolding(crate::specs::Turn::first_points), using(std::proofs::lemmas::List::take_all))]
 fn first_points(points: &[LinePoint], limit: usize) -> &[LinePoint]
     ensures { result.now ≡ first_points limit points.now }
@@ -60,7 +60,7 @@ pub fn set_breaks<S: SetBoard>(
     post.reply(request, &body)
 }
 
-/// Answers a request for so many break points, of which none is set, for this reason.
+/// Answers a request for `count` break points; none of them is set, for this reason.
 #[tactic(auto, unfolding(ss_messages::specs::Messages::posted_all))]
 pub fn refuse_points(
     request: &Request,

@@ -1,4 +1,4 @@
-//! The questions on what an editor shows.
+//! The questions on the variables that an editor shows.
 ghost use Rattle.std.specs.Prelude.{◌≡◌, ◌++◌, ◌<◌, IfOk};
 ghost use Rattle.ss_debug.specs.Entities.{set_named};
 ghost use Rattle.ss_adapter.specs.Watch.{list_asked, attribute_asked, entity_asked_by, entity_asked};
@@ -11,7 +11,7 @@ use ss_program::{Owner, Program};
 use ss_scopes::Group;
 use std::alloc::{AllocError, Global};
 
-/// A text behind another.
+/// A text after another.
 fn joined(alloc: Global, head: &'static [u8], text: &[u8]) -> Result<Vec<u8>, AllocError>
     ensures { IfOk result (λ line. line.items ≡ head.now ++ text.now) }
 {
@@ -47,7 +47,7 @@ fn attribute_asked(
     Ok(line)
 }
 
-/// The question on what an entity has under a name: a list, or an attribute.
+/// The question on the list or attribute that an entity has under a name.
 fn entity_asked_by(
     alloc: Global,
     program: &Program,
@@ -65,7 +65,7 @@ fn entity_asked_by(
     }
 }
 
-/// The same, if there is such a class.
+/// That question, if there is such a class; else an empty text.
 fn entity_asked(
     alloc: Global,
     program: &Program,
@@ -83,7 +83,7 @@ fn entity_asked(
     entity_asked_by(alloc, program, class, number, name, set)
 }
 
-/// The question on a set of this name, where the system owns it.
+/// The question on a set of this name, if the system owns it.
 fn set_asked_by(alloc: Global, name: &[u8], owner: Owner) -> Result<Vec<u8>, AllocError>
     ensures { IfOk result (λ line. line.items ≡ set_asked_by name.now owner) }
 {
@@ -93,7 +93,7 @@ fn set_asked_by(alloc: Global, name: &[u8], owner: Owner) -> Result<Vec<u8>, All
     }
 }
 
-/// The same, if there is such a set.
+/// That question, if there is such a set; else an empty text.
 fn set_asked(alloc: Global, program: &Program, name: &[u8]) -> Result<Vec<u8>, AllocError>
     ensures { IfOk result (λ line. line.items
         ≡ set_asked program.now name.now (set_named program.now name.now)) }
@@ -104,8 +104,8 @@ fn set_asked(alloc: Global, program: &Program, name: &[u8]) -> Result<Vec<u8>, A
     }
 }
 
-/// The question on the list of a set for the owner whose number stands last in a name, where a
-/// class owns it.
+/// The question on the list of a set for the owner whose number is last in a name, if a class owns
+/// the set.
 fn owned_asked_by(
     alloc: Global,
     set: &[u8],
@@ -125,7 +125,7 @@ fn owned_asked_by(
     }
 }
 
-/// The same of the set with this number, if there is one.
+/// The question on the list of the set with this number, if there is such a set.
 fn owned_asked(
     alloc: Global,
     program: &Program,
@@ -147,7 +147,7 @@ fn variable_asked(alloc: Global, name: &[u8]) -> Result<Vec<u8>, AllocError>
     joined(alloc, b"VAR ", name)
 }
 
-/// The question on the local of this name of the frame on which so many others stand.
+/// The question on the local of this name of the frame with `depth` frames above it.
 fn local_asked(alloc: Global, name: &[u8], depth: u32) -> Result<Vec<u8>, AllocError>
     ensures { IfOk result (λ line. line.items ≡ local_asked name.now depth) }
 {
@@ -157,7 +157,7 @@ fn local_asked(alloc: Global, name: &[u8], depth: u32) -> Result<Vec<u8>, AllocE
     Ok(Vec::new(alloc))
 }
 
-/// The name of what the run shows, as a question.
+/// The name of an item of the run, as a question.
 fn run_asked(name: &[u8]) -> &[u8]
     ensures { result.now ≡ run_asked name.now }
 {
@@ -167,8 +167,7 @@ fn run_asked(name: &[u8]) -> &[u8]
     name
 }
 
-/// The question on what a group shows under a name, as it is asked; empty where the debugger has
-/// none.
+/// The question on the item of a group with a name, as it is asked; empty if the debugger has none.
 pub fn asked_text(
     alloc: Global,
     program: &Program,

@@ -25,7 +25,7 @@ use ss_state::{LAST_POSITION, Status};
 use ss_trace::Movement;
 use std::alloc::{AllocError, Global};
 
-/// Whether the machine stands on a line of the model.
+/// Whether the machine is on a line of the model.
 fn is_on_line<S: SetBoard>(debugger: &Debugger<S>, line: u64) -> bool
     ensures { result
         ≡ is_on_line debugger.now.machine.input line (position debugger.now.machine) }
@@ -36,7 +36,7 @@ fn is_on_line<S: SetBoard>(debugger: &Debugger<S>, line: u64) -> bool
     place_line(machine.program(), section, place) as u64 == line
 }
 
-/// Whether a search back for a line stops where the machine stands, after k steps.
+/// Whether a search back for a line stops at the machine's position, after k steps.
 fn is_at_back_stop<S: SetBoard>(debugger: &Debugger<S>, line: u64, k: u64) -> bool
     ensures { result ≡ (nat_lt 0 k
         && is_on_line debugger.now.machine.input line (position debugger.now.machine)) }
@@ -70,7 +70,7 @@ fn is_ready_now<S: SetBoard>(debugger: &Debugger<S>) -> bool
     matches!(debugger.machine().status(), Status::Ready)
 }
 
-/// Whether a search forward for a line, from position `from`, stops where the machine stands.
+/// Whether a search forward for a line, from position `from`, stops at the machine's position.
 fn is_at_stop<S: SetBoard>(debugger: &Debugger<S>, line: u64, from: u64) -> bool
     ensures { result ≡ is_stop debugger.now.machine.input
         (line_condition debugger.now.machine.input line) from
@@ -117,7 +117,7 @@ fn ahead_to_line<S: SetBoard>(
     Ok(())
 }
 
-/// Goes to where a search for a line ends.
+/// Goes to the state at which a search for a line ends.
 fn seek_line<S: SetBoard>(debugger: &mut Debugger<S>, way: Way, line: u64) -> Result<(), AllocError>
     ensures input { debugger.new.machine.input ≡ debugger.old.machine.input }
     ensures place { OnOk result (debugger_state_of debugger.new
@@ -133,7 +133,7 @@ fn seek_line<S: SetBoard>(debugger: &mut Debugger<S>, way: Way, line: u64) -> Re
     }
 }
 
-/// The state where the machine stands as a target of goto, with its line, as the editor counts.
+/// The state at the machine's position as a target of goto, with its line, as the editor counts.
 fn state_here<S: SetBoard>(
     alloc: Global,
     debugger: &Debugger<S>,
@@ -147,7 +147,8 @@ fn state_here<S: SetBoard>(
     state_item(alloc, position, without_last(&label), number)
 }
 
-/// The same, where a search for a line from position `from` ended, if it led to a state on the line.
+/// That target, if a search for a line from position `from` ended here and led to a state on the
+/// line.
 fn item_met<S: SetBoard>(
     alloc: Global,
     debugger: &Debugger<S>,
@@ -165,9 +166,9 @@ fn item_met<S: SetBoard>(
 }
 
 /// The nearest state on the line that the editor means by a number, forward or back, as a target of
-/// goto, if there is one within `GREATEST_BOUND` steps. The debugger stands where it stood.
+/// goto, if there is one within `GREATEST_BOUND` steps. The debugger is back at its old position.
 ///
-/// `AllocError` where memory was refused; then the debugger may stand elsewhere in the same run.
+/// `AllocError` if memory was refused; then the debugger may be elsewhere in the same run.
 fn near_item<S: SetBoard>(
     pen: Pen,
     debugger: &mut Debugger<S>,
@@ -188,7 +189,7 @@ fn near_item<S: SetBoard>(
     Ok(item)
 }
 
-/// Tells the nearest states on a line, the earlier one first.
+/// Answers with the nearest states on a line, the earlier one first.
 #[tactic(auto, unfolding(ss_messages::specs::Messages::posted_all))]
 pub fn tell_targets<S: SetBoard>(
     debugger: &mut Debugger<S>,
@@ -213,8 +214,8 @@ pub fn tell_targets<S: SetBoard>(
     post.reply(request, &body)
 }
 
-/// Goes to the state of this number, and tells that it stands there; further than the run leads, at
-/// its end.
+/// Goes to the state of this number, and answers that the run is there; further than the run leads,
+/// it is at its end.
 #[tactic(auto, unfolding(ss_messages::specs::Messages::posted_all), using(ss_messages::proofs::Posts::posted_both))]
 pub fn go_to<S: SetBoard>(
     debugger: &mut Debugger<S>,

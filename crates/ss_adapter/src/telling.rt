@@ -1,4 +1,4 @@
-//! What follows a movement: what was printed, and where the run stands.
+//! The messages after a movement: new output, and the position of the run.
 ghost use Rattle.std.specs.Prelude.{◌≡◌, ◌+◌, ◌-◌, ◌^◌, ◌<◌, ◌≤◌, slice_get, IfOk, OnOk, None};
 ghost use Rattle.ss_machine.specs.Moment.{position};
 ghost use Rattle.ss_debug.specs.View.{debugger_state_of};
@@ -15,7 +15,7 @@ use ss_links::SetBoard;
 use ss_messages::{NOTHING, Post, Request, output_body, stopped_body, without_last};
 use std::alloc::{AllocError, Global};
 
-/// Sends the part of the report that is not told yet, and notes how much is.
+/// Sends the part of the report that is not sent yet, and notes how much is.
 #[tactic(auto, unfolding(ss_messages::specs::Messages::posted_all))]
 pub fn tell_report<S: SetBoard>(
     debugger: &Debugger<S>,
@@ -41,7 +41,7 @@ pub fn tell_report<S: SetBoard>(
     Ok(())
 }
 
-/// Sends that the run stands where it is, for this reason, and at which break point, if it does at
+/// Sends that the run is at its position, for this reason, and at which break point, if it is at
 /// one.
 pub fn tell_stop(
     request: &Request,
@@ -58,7 +58,7 @@ pub fn tell_stop(
     post.event(request, b"stopped", &body)
 }
 
-/// What is said at the change of a question: the answer, and the question.
+/// The text at the change of a question: the answer, and the question.
 fn change_text(alloc: Global, answer: &[u8], question: &[u8]) -> Result<Vec<u8>, AllocError>
     ensures { IfOk result (λ text. text.items ≡ change_text answer.now question.now) }
 {
@@ -102,8 +102,8 @@ pub fn tell_over(request: &Request, post: &mut Post) -> Result<(), AllocError>
     post.event(request, b"exited", NO_EXIT)
 }
 
-/// Sends that a movement, of which this is the answer, ended where the run stands: that it stops
-/// there, or is over, where it doesn't stop at its end.
+/// Sends that a movement with this answer ended at the run's position. The run stops there, or is
+/// over, if it is at its end and doesn't stop there.
 #[tactic(auto, unfolding(ss_messages::specs::Messages::posted_all))]
 fn tell_ended<S: SetBoard>(
     debugger: &Debugger<S>,
@@ -145,7 +145,7 @@ fn tell_end_at<S: SetBoard>(
     }
 }
 
-/// Sends where a movement ended: perhaps at the change of the data break point in this place.
+/// Sends the end of a movement: perhaps at the change of the data break point in this place.
 fn tell_end<S: SetBoard>(
     debugger: &Debugger<S>,
     desk: &Desk,
@@ -165,8 +165,8 @@ fn tell_end<S: SetBoard>(
     }
 }
 
-/// Sends what follows a movement, of which this is the answer, and which perhaps ended at the
-/// change of the data break point in a place.
+/// Sends the messages after a movement with this answer. The movement perhaps ended at the change
+/// of the data break point in a place.
 #[tactic(auto, using(ss_messages::proofs::Posts::posted_both))]
 pub fn tell_movement<S: SetBoard>(
     debugger: &Debugger<S>,
@@ -187,7 +187,7 @@ pub fn tell_movement<S: SetBoard>(
     tell_end(debugger, desk, request, post, answer, changed)
 }
 
-/// Tells where the run stands.
+/// Sends the position of the run.
 #[tactic(auto, unfolding(ss_messages::specs::Messages::posted_all))]
 pub fn tell_here<S: SetBoard>(
     debugger: &Debugger<S>,

@@ -16,7 +16,7 @@ use ss_links::SetBoard;
 use ss_messages::{Command, Post, Request};
 use std::alloc::AllocError;
 
-/// Whether a session goes on behind a request.
+/// Whether a session goes on after a request.
 #[derive(Clone, Copy)]
 pub enum Further {
     /// The next request is read.
@@ -25,7 +25,7 @@ pub enum Further {
     Ended,
 }
 
-/// Answers a request that asks for no movement, where all its break points may be set.
+/// Answers a request that asks for no movement, if all its break points may be set.
 #[tactic(auto, unfolding(crate::specs::Turn::told_debugged, crate::specs::Turn::left_debugged))]
 fn answer_debugged<S: SetBoard>(
     debugger: &mut Debugger<S>,
@@ -111,10 +111,10 @@ pub(crate) fn further_behind(command: &Command) -> Further
     }
 }
 
-/// Why a request is not heeded that speaks of another file than the model.
-const ELSEWHERE: &[u8] = b"another file than the model";
+/// Why a request is not heeded that speaks of a file other than the model.
+const ELSEWHERE: &[u8] = b"a file other than the model";
 
-/// Answers a request that speaks of another file than the model: of its break points none is set.
+/// Answers a request that speaks of a file other than the model: of its break points none is set.
 #[tactic(auto, unfolding(ss_messages::specs::Messages::posted_all))]
 fn refuse_elsewhere(request: &Request, post: &mut Post) -> Result<(), AllocError>
     requires { post.old.sent < 2 ^ 64 - 1 }
@@ -129,7 +129,7 @@ fn refuse_elsewhere(request: &Request, post: &mut Post) -> Result<(), AllocError
     }
 }
 
-/// One turn of a request that speaks of another file than the model: it is not heeded, and the run is
+/// One turn of a request that speaks of a file other than the model: it is not heeded, and the run is
 /// not asked.
 pub fn turn_elsewhere(request: &Request, post: &mut Post) -> Result<Further, AllocError>
     requires { post.old.sent < 2 ^ 64 - 1 }
@@ -141,10 +141,10 @@ pub fn turn_elsewhere(request: &Request, post: &mut Post) -> Result<Further, All
     Ok(further_behind(&request.command))
 }
 
-/// One turn: does what a request asks, and posts its reply and the events that follow it.
+/// One turn: obeys a request, and posts its reply and the events that follow it.
 ///
-/// `AllocError` where memory was refused: the run is the same one, and nothing is said of what is
-/// posted.
+/// `AllocError` if memory was refused: the run is the same one, and the posted messages are not
+/// known.
 pub fn turn<S: SetBoard>(
     debugger: &mut Debugger<S>,
     desk: &mut Desk,

@@ -25,7 +25,7 @@ fn text_fault(
     Ok(question_fault(&asked))
 }
 
-/// Sets a data break point that a request names, if it is to stop each time, or tells why not.
+/// Sets a data break point that a request names, if it is to stop each time, or appends why not.
 #[tactic(auto, unfolding(crate::specs::Watch::with_watched))]
 fn watch_one(
     alloc: Global,
@@ -51,8 +51,8 @@ fn watch_one(
     text.extend_from_slice(&item)
 }
 
-/// Sets the data break points of a request in place of those of an earlier one, and appends what
-/// the reply says of each that the request names.
+/// Sets the data break points of a request in place of those of an earlier one, and appends the
+/// item of the reply for each that the request names.
 pub fn watch(
     alloc: Global,
     program: &Program,

@@ -2,7 +2,7 @@
 ghost use Rattle.std.specs.Prelude.{◌≡◌, ◌≤◌, length};
 ghost use Rattle.ss_adapter.specs.Words.{word_at, before_word, last_word};
 
-/// Where the last word of a text begins: behind its last blank.
+/// The place at which the last word of a text begins: after its last blank.
 #[tactic(auto, unfolding(crate::specs::Words::word_at))]
 pub fn word_at(text: &[u8]) -> usize
     ensures place { result ≡ word_at text.now }
@@ -19,14 +19,14 @@ pub fn word_at(text: &[u8]) -> usize
     begin
 }
 
-/// What stands before the last word of a text.
+/// The text before the last word of a text.
 pub fn before_word(text: &[u8]) -> &[u8]
     ensures { result.now ≡ before_word text.now }
 {
     &text[..word_at(text)]
 }
 
-/// The last word of a text, an empty one behind a blank.
+/// The last word of a text, an empty one after a blank.
 pub fn last_word(text: &[u8]) -> &[u8]
     ensures { result.now ≡ last_word text.now }
 {

@@ -8,7 +8,7 @@ use Rattle.std.proofs.lemmas.List.Elements.{All-head, All-tail, All-nil, All-con
 use Rattle.ss_byte_journal.specs.declared.sparse_journal.Numbered.{Numbered}
 use Rattle.ss_byte_journal.specs.Numbered.{changes_of_step, changes_before, steps_from, AreOrdered}
 
--- ---- a step behind all changes has none
+-- ---- a step after all changes has none
 
 pub none_later : {C : Type 0} (k latest : ℕ) (cs : List (Numbered C)) → AreOrdered latest cs → latest < k →
     changes_of_step k cs ≡ []
@@ -96,7 +96,7 @@ newest_steps (suc k) d oldest cs =
     (newest_steps k d oldest (changes_before (oldest + (k + d)) cs))
     ∙ ap (λ i. changes_of_step i cs ∷ steps_from k (oldest + d) (changes_before i cs)) same
 
--- the newest n, or all where there are fewer, from the step on that is then the oldest
+-- the newest n, or all if there are fewer; the list begins at the step that is then the oldest
 pub kept_steps : {C : Type 0} (n open_step oldest first : ℕ) (cs : List (Numbered C)) → oldest ≤ open_step →
     first ≡ max (open_step - n) oldest →
     steps_from (open_step - first) first cs ≡ take n (steps_from (open_step - oldest) oldest cs)
@@ -119,7 +119,7 @@ kept_steps n open_step oldest first cs within is = by (nat_le n (open_step - old
         ∙ sym (take_all n (steps_from (open_step - oldest) oldest cs)
         (omega (arith, many, steps_length (open_step - oldest) oldest cs)))
 
--- ---- changes of earlier steps behind all others
+-- ---- changes of earlier steps after all others
 
 of_step_by : {C : Type 0} (b : Bool) (x : C) (xs ys : List C) → xs ≡ ys →
     (if b then x ∷ xs else []) ≡ (if b then x ∷ ys else [])

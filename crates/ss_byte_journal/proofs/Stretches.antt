@@ -9,7 +9,7 @@ use Rattle.ss_journal.specs.Pieces.{cut_by_lengths, long_count, long_by}
 use Rattle.ss_journal.proofs.Bytes.{is_long}
 use Rattle.ss_journal.proofs.Cuts.{pieces_newest, kept_of}
 
--- what is behind the forgotten is the closed, and then the open
+-- the bytes after the forgotten ones are the closed ones, and then the open ones
 parts : (bytes : List ℕ) (forgotten closed : ℕ) → forgotten ≤ closed → closed ≤ length bytes
     → reverse (drop forgotten bytes) ≡ reverse (drop closed bytes) ++ reverse (drop forgotten (take closed bytes))
 parts bytes forgotten closed within fits =
@@ -56,7 +56,7 @@ kept_cut n m forgotten closed sizes kept bytes counted fits are is =
     ap (λ (l : List ℕ). cut_by_lengths kept (reverse l)) (sym more)
     ∙ pieces_newest n 0 m (sum sizes) sizes kept (drop forgotten (take closed bytes)) (omega arith) many refl are is
 
--- where nothing is behind the closed, they are all
+-- if no byte is after the closed ones, the closed ones are all
 pub none_open : (bytes : List ℕ) (closed : ℕ) → closed ≤ length bytes → reverse (drop closed bytes) ≡ []
     → closed ≡ length bytes
 none_open bytes closed fits none =
@@ -67,7 +67,7 @@ pub live_off : (all bytes : List ℕ) (forgotten byte : ℕ) → all ≡ bytes +
     → drop forgotten all ≡ drop forgotten bytes ++ byte ∷ []
 live_off all bytes forgotten byte is within = ap (drop forgotten) is ∙ drop-append-le forgotten bytes (byte ∷ []) within
 
--- the long sizes that are left where the newest byte stands for one
+-- the long sizes that are left if the newest byte means one of them
 pub newest_count : (all bytes longs rest : List ℕ) (byte more : ℕ) → all ≡ bytes ++ byte ∷ [] →
     longs ≡ rest ++ more ∷ [] → 255 ≤ byte → long_count (reverse all) ≡ length longs →
     long_count (reverse bytes) ≡ length rest

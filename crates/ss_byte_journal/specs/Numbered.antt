@@ -2,12 +2,12 @@
 use Rattle.std.specs.Prelude.{ℕ, zero, suc, ◌+◌, ◌≤◌, nat_le, List, [], ◌∷◌, if◌then◌else◌}
 use Rattle.ss_byte_journal.specs.declared.sparse_journal.Numbered.{Numbered}
 
--- the changes of the step with this number, where none is of a later one
+-- the changes of the step with this number, if none is of a later one
 abbrev pub changes_of_step : {C : Type 0} → ℕ → List (Numbered C) → List C
 changes_of_step k [] = []
 changes_of_step k (c ∷ cs) = if nat_le k c.step then c.change ∷ changes_of_step k cs else []
 
--- those of the steps before it
+-- the changes of the steps before this one
 abbrev pub changes_before : {C : Type 0} → ℕ → List (Numbered C) → List (Numbered C)
 changes_before k [] = []
 changes_before k (c ∷ cs) = if nat_le k c.step then changes_before k cs else c ∷ cs

@@ -1,3 +1,4 @@
+//! The journal of bytes: to note a byte or to take one back is a fixed number of moves.
 ghost use Rattle.std.specs.Prelude.{◌≡◌, ◌+◌, ◌<◌, ◌≤◌, ◌∷◌, [], length, IsOk, OnOk, MatchOption, MatchBool};
 
 use crate::step_sizes::StepSizes;
@@ -6,13 +7,13 @@ use std::marker::Model;
 
 /// A list of closed steps, each a list of bytes, and one open step.
 ///
-/// Beside these it has two numbers of room, one for notes and one for closes. Only
-/// [`ByteJournal::reserve`] takes memory. Every other call but [`ByteJournal::keep_last`] is made of
-/// a fixed number of moves, whatever the journal holds.
+/// It also has two numbers of room, one for notes and one for closes. Only
+/// [`ByteJournal::reserve`] takes memory. Every other call except [`ByteJournal::keep_last`] is a
+/// fixed number of moves, however much the journal holds.
 #[derive(Drop)]
 pub struct ByteJournal {
     // The bytes of all steps, the oldest first: those forgotten, those of the closed steps from
-    // `forgotten` to `closed`, and behind them those of the open step.
+    // `forgotten` to `closed`, and after them those of the open step.
     bytes: Vec<u8>,
     forgotten: usize,
     closed: usize,
@@ -69,7 +70,7 @@ impl ByteJournal {
     /// Makes room for at least `n` notes and one close.
     ///
     /// Room grows by doubling, so that over many steps a step takes constant time for each of its
-    /// bytes. `AllocError` comes only where room was missing and a growth was refused; the room of
+    /// bytes. `AllocError` comes only if room was missing and a growth was refused; the room of
     /// the other kind may then have grown.
     #[inline(always)]
     pub fn reserve(&mut self, n: usize) -> Result<(), AllocError>
@@ -79,7 +80,7 @@ impl ByteJournal {
         ensures notes_stay { self.old.notes ≤ self.new.notes }
         ensures closes_stay { self.old.closes ≤ self.new.closes }
 
-        // Where it succeeds there is room, and where there was room it succeeds.
+        // If it succeeds, there is room. If there was room, it succeeds.
         ensures notes { OnOk result (n ≤ self.new.notes) }
         ensures closes { OnOk result (0 < self.new.closes) }
         ensures had_room { n ≤ self.old.notes → 0 < self.old.closes → IsOk result }
@@ -92,8 +93,8 @@ impl ByteJournal {
 
     /// The part of `reserve` that takes memory.
     ///
-    /// A byte is moved to the front only where another one was forgotten, whose place is then free:
-    /// so the moves are no more than what was forgotten.
+    /// A byte is moved to the front only if another one was forgotten, whose place is then free.
+    /// So there are no more moves than forgotten bytes.
     #[cold]
     #[inline(never)]
     fn grow(&mut self, n: usize) -> Result<(), AllocError>
@@ -112,7 +113,7 @@ impl ByteJournal {
         Ok(())
     }
 
-    /// Moves what is left to the front, where more bytes are forgotten than are left.
+    /// Moves the bytes that are left to the front, if more bytes are forgotten than are left.
     fn move_down(&mut self)
         ensures steps { self.new.steps ≡ self.old.steps }
         ensures current { self.new.current ≡ self.old.current }
@@ -153,7 +154,7 @@ impl ByteJournal {
         self.closed = self.bytes.len();
     }
 
-    /// Takes the newest byte off the open step; `None` where that step is empty. The room of its
+    /// Takes the newest byte off the open step; `None` if that step is empty. The room of its
     /// note is free again.
     #[inline(always)]
     pub fn pop_open(&mut self) -> Option<u8>
@@ -184,7 +185,7 @@ impl ByteJournal {
         self.bytes.take_last()
     }
 
-    /// Makes the newest closed step the open one again; false where no step is closed, and then
+    /// Makes the newest closed step the open one again; false if no step is closed, and then
     /// nothing changes. The room of its close is free again.
     #[inline(always)]
     pub fn reopen_last(&mut self) -> bool
@@ -213,8 +214,8 @@ impl ByteJournal {
         self.sizes.len()
     }
 
-    /// Forgets the oldest closed steps, so that the newest `n` are left, or all where there are
-    /// fewer. Their room is free again once `reserve` has moved what is left.
+    /// Forgets the oldest closed steps, so that the newest `n` are left, or all if there are
+    /// fewer. Their room is free again when `reserve` has moved the bytes that are left.
     ///
     /// It takes no memory, and its time is in proportion to the steps forgotten: no byte is moved.
     pub fn keep_last(&mut self, n: usize)

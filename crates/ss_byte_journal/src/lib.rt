@@ -1,10 +1,10 @@
 //! Journals that are kept step by step in one stretch of memory: one of bytes, and one for changes
 //! that few steps have.
 //!
-//! To contracts they are what `Journal` of ss_journal is: a list of closed steps, an open step and
-//! two numbers of room. [`ByteJournal`] notes and takes back a byte in a few instructions, since
-//! what is forgotten is passed over and stays where it lies until room is made. In
-//! [`SparseJournal`] a step without changes is one count.
+//! Contracts see them as they see `Journal` of ss_journal: a list of closed steps, an open step and
+//! two numbers of room. [`ByteJournal`] notes or takes back a byte in a few instructions. Forgotten
+//! bytes are passed over, and stay in place until room is made. In [`SparseJournal`] a step
+//! without changes is one count.
 #![tactic(auto)]
 
 mod byte_journal;

@@ -1,3 +1,4 @@
+//! The journal for changes that few steps have: a step without changes takes no memory.
 ghost use Rattle.std.specs.Prelude.{◌≡◌, ◌+◌, ◌<◌, ◌≤◌, ◌∷◌, [], length, take, All, IsOk, OnOk, MatchOption, MatchBool};
 ghost use Rattle.std.specs.VecDeque.{deque_len};
 
@@ -5,10 +6,10 @@ use std::alloc::{AllocError, Global};
 use std::collections::VecDeque;
 use std::marker::Model;
 
-/// A list of closed steps, each a list of changes, and one open step, where most steps have no
-/// change: such a step takes no memory, and to close it or to open it again is one count.
+/// A list of closed steps, each a list of changes, and one open step. Most steps have no change:
+/// such a step takes no memory, and to close it or to open it again is one count.
 ///
-/// Beside these it has two numbers of room, one for notes and one for closes. Only
+/// It also has two numbers of room, one for notes and one for closes. Only
 /// [`SparseJournal::reserve`] takes memory.
 #[derive(Drop)]
 pub struct SparseJournal<C> {
@@ -63,7 +64,7 @@ impl<C> SparseJournal<C> {
 
     /// Makes room for at least `n` notes and one close.
     ///
-    /// Room grows by doubling. `AllocError` comes only where room was missing and a growth was
+    /// Room grows by doubling. `AllocError` comes only if room was missing and a growth was
     /// refused, or all numbers of steps are used up; then nothing has changed.
     #[inline(always)]
     pub fn reserve(&mut self, n: usize) -> Result<(), AllocError>
@@ -73,7 +74,7 @@ impl<C> SparseJournal<C> {
         ensures notes_stay { self.old.notes ≤ self.new.notes }
         ensures closes_stay { self.new.closes ≡ self.old.closes }
 
-        // Where it succeeds there is room, and where there was room it succeeds.
+        // If it succeeds, there is room. If there was room, it succeeds.
         ensures notes { OnOk result (n ≤ self.new.notes) }
         ensures closes { OnOk result (0 < self.new.closes) }
         ensures had_room { n ≤ self.old.notes → 0 < self.old.closes → IsOk result }
@@ -127,7 +128,7 @@ impl<C> SparseJournal<C> {
         self.open_step += 1;
     }
 
-    /// Takes the newest change off the open step; `None` where that step is empty. The room of its
+    /// Takes the newest change off the open step; `None` if that step is empty. The room of its
     /// note is free again.
     #[inline(always)]
     pub fn pop_open(&mut self) -> Option<C>
@@ -147,7 +148,7 @@ impl<C> SparseJournal<C> {
         Some(newest.change)
     }
 
-    /// Makes the newest closed step the open one again; false where no step is closed, and then
+    /// Makes the newest closed step the open one again; false if no step is closed, and then
     /// nothing changes. The room of its close is free again.
     #[inline(always)]
     pub fn reopen_last(&mut self) -> bool
@@ -178,11 +179,11 @@ impl<C> SparseJournal<C> {
 impl<C: Drop> SparseJournal<C> {
     ghost use Rattle.ss_journal.specs.Log.{newest};
 
-    /// Forgets the oldest closed steps, so that the newest `n` are left, or all where there are
-    /// fewer. The room of what is forgotten is free again.
+    /// Forgets the oldest closed steps, so that the newest `n` are left, or all if there are
+    /// fewer. The room of the forgotten changes is free again.
     ///
-    /// It takes no memory, and its time is in proportion to the changes forgotten: those kept stay
-    /// where they are.
+    /// It takes no memory, and its time is in proportion to the changes forgotten: those kept are
+    /// not moved.
     pub fn keep_last(&mut self, n: usize)
         ensures steps { self.new.steps ≡ newest n self.old.steps }
         ensures current { self.new.current ≡ self.old.current }

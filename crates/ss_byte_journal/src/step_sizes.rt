@@ -1,3 +1,4 @@
+//! The sizes of a byte journal's closed steps, one byte for each step that is short.
 ghost use Rattle.std.specs.Prelude.{◌≡◌, ◌+◌, ◌-◌, ◌^◌, ◌<◌, ◌≤◌, ◌∷◌, ◌++◌, ◌↔◌, [], length, sum, take};
 ghost use Rattle.std.specs.Prelude.{IsOk, IsTrue, OnOk, MatchOption};
 
@@ -5,11 +6,11 @@ use std::alloc::{AllocError, Global};
 use std::collections::VecDeque;
 use std::marker::Model;
 
-/// The least size that is not told by a byte.
+/// The least size that one byte cannot hold.
 const LONG: usize = 255;
 
-/// How many bytes each closed step has: in a byte, or, where it is 255 or more, in a number of its
-/// own that the byte 255 stands for.
+/// How many bytes each closed step has. A size below 255 is one byte. For a size of 255 or more the
+/// byte is 255, and the size has a number of its own.
 #[derive(Drop)]
 pub struct StepSizes {
     // A byte for each step, the oldest first; the first `forgotten` are of steps forgotten.
@@ -59,8 +60,8 @@ impl StepSizes {
         self.bytes.len() < self.bytes.capacity()
     }
 
-    /// Makes room for one size more, of steps that have at most so many bytes together. Where more
-    /// steps are forgotten than are left, the bytes of these are moved to the front first.
+    /// Makes room for one size more, of steps that have at most `bytes` bytes together. If more
+    /// steps are forgotten than are left, the sizes of those left are moved to the front first.
     pub fn reserve(&mut self, bytes: usize) -> Result<(), AllocError>
         ensures sizes { self.new.sizes ≡ self.old.sizes }
         ensures closes_stay { self.old.closes ≤ self.new.closes }
@@ -95,7 +96,7 @@ impl StepSizes {
         }
     }
 
-    /// Puts the size of the newest step in where no byte tells it.
+    /// Puts the size of the newest step in, if one byte cannot hold it.
     #[cold]
     #[inline(never)]
     fn push_long(&mut self, size: usize)
@@ -154,7 +155,7 @@ impl StepSizes {
         Some(LONG + more)
     }
 
-    /// Takes the sizes of the oldest steps out, and answers how many bytes these have together.
+    /// Takes the sizes of the oldest steps out, and gives the number of bytes of all these steps.
     pub fn forget(&mut self, steps: usize) -> usize
         requires steps { steps ≤ length self.old.sizes }
         requires small { sum self.old.sizes < 2 ^ 64 }

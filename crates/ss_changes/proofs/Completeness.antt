@@ -1,4 +1,4 @@
--- What a step changed is all told.
+-- All changes of a step are shown.
 use Rattle.std.proofs.Common.{◌≡◌, ◌≢◌, ℕ, zero, suc, ◌<◌, ◌≤◌, ◌==◌, ◌&&◌, ◌||◌, ◌⊎◌, inl, inr, Bool, true, false, cond, not, nat_lt}
 use Rattle.std.proofs.Common.{List, [], ◌∷◌, ◌++◌, length, map, refl, sym, ap, ◌∙◌, arith, slice_index_or, Option, Some, None}
 use Rattle.std.specs.Prelude.{is_some, option_map}
@@ -97,7 +97,7 @@ place_of x d [] h = absurd h
 place_of x d (y ∷ ys) (inl e) = (0, omega arith, e)
 place_of x d (y ∷ ys) (inr h) = let f = place_of x d ys h in (suc f.0, omega (arith, f.1), f.2)
 
--- what is told of it
+-- the change of that part is among those that are shown
 told_among : (p : ProgramTable) (s u : State) (x : Part) (xs : List Part) → IsAmong x xs → is_changed p s u x ≡ true →
     Any (λ c. c ≡ told_of p s u x) (map (told_of p s u) (filter (is_changed p s u) xs))
 told_among p s u x xs h e =
@@ -108,7 +108,7 @@ told_among p s u x xs h e =
     let n = length-map ys (told_of p s u) in
     (f.0, c, omega (arith, f.1, n), get_or-map (told_of p s u) ys f.0 x c f.1 ∙ ap (told_of p s u) (f.2 ∙ k.2), refl)
 
--- ---- what is told is there
+-- ---- a part that is shown is there
 
 need_by : (w needs before after : Bool) → (w && (not needs || (before && after))) ≡ true → needs ≡ true → after ≡ true
 need_by w needs before true e n = refl

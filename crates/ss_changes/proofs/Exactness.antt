@@ -1,4 +1,4 @@
--- What a step changed is exact.
+-- The changes of a step are shown exactly.
 use Rattle.std.proofs.Common.{◌≡◌, ◌≢◌, ℕ, Bool, true, false, cond, refl, sym, ap, ◌∙◌, not, ◌&&◌, ◌||◌, List, []}
 use Rattle.std.proofs.Common.{◌∷◌, ◌⊎◌, inl, inr, map, arith, zero, suc, ◌<◌, length, slice_index_or}
 use Rattle.std.specs.List.{Any, filter}
@@ -42,7 +42,7 @@ entry_itself Absent = refl
 entry_itself (Waiting c k) = rw ((Decides-eqb c c).1 refl, (Decides-eqb k k).1 refl) refl
 entry_itself (Running c k) = rw ((Decides-eqb c c).1 refl, (Decides-eqb k k).1 refl) refl
 
--- what is the same is equal
+-- values that are the same are equal
 same_is_equal : (x y : PartValue) → is_same x y ≡ true → x ≡ y
 same_is_equal Missing Missing e = refl
 same_is_equal (Number x) (Number y) e = ap Number ((Decides-int_eq x y).0 e)
@@ -53,7 +53,7 @@ same_is_equal (Entered x) (Entered y) e = ap Entered (entry_same x y e)
 same_is_equal (Bytes n) (Bytes m) e = ap Bytes ((Decides-eqb n m).0 e)
 same_is_equal _ _ e = absurd (cc)
 
--- and what is equal is the same
+-- and equal values are the same
 itself : (x : PartValue) → is_same x x ≡ true
 itself Missing = refl
 itself (Number x) = (Decides-int_eq x x).1 refl
@@ -63,7 +63,7 @@ itself (Listed ks) = (bytes_eq-Decides ks ks).1 refl
 itself (Entered x) = entry_itself x
 itself (Bytes n) = (Decides-eqb n n).1 refl
 
--- what is not there
+-- a part that is not there
 absent_is : (x : PartValue) → is_there x ≡ false → x ≡ Missing
 absent_is Missing e = refl
 absent_is (Number x) e = absurd (cc)
@@ -73,7 +73,7 @@ absent_is (Listed ks) e = absurd (cc)
 absent_is (Entered x) e = absurd (cc)
 absent_is (Bytes n) e = absurd (cc)
 
--- what passes stands among what a filter keeps
+-- an element that passes a filter is among those that it keeps
 kept_at : {A : Type 0} (test : A → Bool) (y : A) (ys : List A) (d v : A) (b : Bool) →
     (j : ℕ) × (j < length (filter test ys)) × (slice_index_or (filter test ys) j d ≡ v) →
     (j : ℕ) × (j < length (cond b (y ∷ filter test ys) (filter test ys)))
@@ -98,7 +98,7 @@ pub not_true : (b : Bool) → not b ≡ true → b ≡ false
 not_true false e = refl
 not_true true e = absurd (cc)
 
--- what is told differs
+-- a part that is shown differs
 told_differs : (p : ProgramTable) (s u : State) (x : Part) → is_changed p s u x ≡ true →
     value_in p s x ≢ value_in p u x
 told_differs p s u x e f =
@@ -109,7 +109,7 @@ told_differs p s u x e f =
     let i = itself (value_in p s x) in
     absurd (cc)
 
--- what is not told is the same, or one of the states lacks it
+-- a part that is not shown is the same, or one of the states lacks it
 pub not_told : (same needs before after : Bool) → (not same && (not needs || (before && after))) ≡ false →
     (same ≡ true) ⊎ ((needs ≡ true) × ((before ≡ false) ⊎ (after ≡ false)))
 not_told true needs before after e = inl refl
@@ -142,7 +142,7 @@ told_or_not true p s u xs k d h e =
     inl (f.0, c, omega (arith, f.1, n), get_or-map (told_of p s u) ys f.0 d c f.1 ∙ ap (told_of p s u) f.2, refl)
 told_or_not false p s u xs k d h e = inr (equal_or_lacking p s u (slice_index_or xs k d) (not_told _ _ _ _ e))
 
--- each change that is told is one, and each part that is not told is equal or belongs to what was made or ended
+-- each change that is shown is one; each other part is equal or belongs to a part made or ended
 pub changes_are_exact : (p : ProgramTable) (s u : State) → AreExact p s u
 changes_are_exact p s u = record {
   told =

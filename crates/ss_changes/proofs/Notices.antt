@@ -18,7 +18,7 @@ notice_more es i j e parts new all h n k l =
     rw (l, next)
     (append_assoc parts _ _ ∙ ap (λ (l : List Pending). parts ++ notices_of l) (sym (dropped es i e h)) ∙ k)
 
--- all notices, where the listing has ended
+-- all notices, if the listing has ended
 pub all_notices : (es : List Pending) (i : ℕ) (parts all : List Part) →
     None ≡ option_map (λ (e : Pending). e.notice) (slice_get es i) →
     parts ++ notices_of (drop i es) ≡ all → parts ≡ all

@@ -10,13 +10,13 @@ use Rattle.ss_changes.specs.Parts.{below_of}
 use Rattle.ss_changes.specs.Changes.{changes_among, is_changed, told_of}
 use Rattle.ss_changes.specs.View.{told_if, told_against}
 
--- what belongs to one number more
+-- the elements of one number more
 pub below_more : {A : Type 0} (f : ℕ → List A) (n m : ℕ) (old so_far new : List A) → m ≡ n + 1 →
     so_far ≡ old ++ below_of f n → new ≡ so_far ++ f n → new ≡ old ++ below_of f m
 below_more f n m old so_far new e h k =
     let next : m ≡ suc n = omega (arith, e) in rw (next, k, h) (append_assoc old _ _)
 
--- the same behind what was there
+-- equal elements after those that were there
 pub behind : {A : Type 0} (old new one other : List A) → one ≡ other → new ≡ old ++ one → new ≡ old ++ other
 behind old new one other e h = rw (← e) h
 

@@ -1,4 +1,4 @@
--- A debugger that stands where it stood sees the same.
+-- A debugger that is back at its position sees the same states.
 use Rattle.std.proofs.Common.{◌≡◌, ℕ, suc, ◌+◌, ◌<◌, List, ◌++◌, refl, sym, ap, ◌∙◌, arith, append_assoc}
 use Rattle.ss_program.specs.Program.{ProgramTable}
 use Rattle.ss_state.specs.State.{State}
@@ -34,7 +34,7 @@ pub same_changed : (a b : DebuggerView) (f : ProgramTable → State → State �
     ≡ changed_among a (f (program_of a) (state_before a) (state_of a))
 same_changed a b f h = rw (h.input, h.position) refl
 
--- the changes among what belongs to one number more
+-- the changes among the parts of one number more
 pub changes_more : (a b : DebuggerView) (f : ProgramTable → State → State → ℕ → List Part) (n m : ℕ)
     (was so_far new : List Change) → m ≡ n + 1 → HasReturned a b →
     so_far ≡ was ++ changed_among a (below_of (f (program_of a) (state_before a) (state_of a)) n) →

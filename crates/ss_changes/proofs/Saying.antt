@@ -1,4 +1,4 @@
--- What is said of the changes of a step.
+-- The texts about the changes of a step.
 use Rattle.std.proofs.Common.{◌≡◌, ◌≢◌, ℕ, ◌+◌, ◌-◌, ◌<◌, Bool, true, false, List, [], ◌∷◌, ◌++◌, map, refl, sym, ap}
 use Rattle.std.proofs.Common.{◌∙◌, ◌⊎◌, inl, inr, arith, rules, nat_lt, append_assoc}
 use Rattle.std.proofs.Common.{Result, Ok, Err, OnOk}
@@ -23,14 +23,14 @@ use Rattle.ss_changes.specs.View.{HasReturned, program_of, state_of, state_befor
 use Rattle.ss_changes.proofs.Orders.{changes_append, told_between}
 use Rattle.ss_changes.proofs.Returns.{same_changed}
 
--- what follows from what holds where a call succeeded
+-- a consequence of a result that holds if a call succeeded
 pub on_ok : {A B P Q : Type 0} (r : Result A B) → OnOk r P → (P → Q) → OnOk r Q
 on_ok (Ok x) h f = f h
 on_ok (Err e) h f = tt
 
 -- ---- the changes
 
--- those among some parts, by the values before and where a debugger stands
+-- those among some parts, by the values before and in the state at a debugger's position
 pub told_here : (a b : DebuggerView) (m : Moment) (parts : List Part) (values : List PartValue) → HasReturned a b →
     m ≡ b.machine → b.machine.state ≡ state_of b → values ≡ map (value_in (program_of a) (state_before a)) parts →
     told_against m.input.program m.state parts values ≡ changed_among a parts
@@ -57,12 +57,12 @@ next_section a b done f so_far new h k w =
 not_below : (n : ℕ) → nat_lt n n ≡ false
 not_below n = search rules
 
--- where no step is kept
+-- if no step is kept
 pub said_earliest : (t : Input) (e p : ℕ) → p ≡ e → changed_text t e p ≡ earliest_word p ++ 10 ∷ []
 unfolding changed_text
 said_earliest t e p h = rw (h, not_below e) refl
 
--- the same behind what was said before
+-- that text after the text before it
 pub said_first : (t : Input) (e p q : ℕ) (old new : List ℕ) → q ≡ p → p ≡ e →
     new ≡ old ++ earliest_word q ++ 10 ∷ [] → new ≡ old ++ changed_text t e p
 said_first t e p q old new k h w =
@@ -76,7 +76,7 @@ stop_earliest t e p h = rw (h, not_below e) refl
 again : (p e : ℕ) → e < p → p - 1 + 1 ≡ p
 again p e h = omega (arith, h)
 
--- where one is kept
+-- if one is kept
 pub said_later : (t : Input) (e p : ℕ) → e < p →
     changed_text t e p ≡ all_changes t.program (run t p) (changes_between t.program (run t (p - 1)) (run t p))
 unfolding changed_text changed_at
@@ -88,7 +88,7 @@ pub stop_later : (t : Input) (e p : ℕ) → e < p →
 unfolding stop_changes changed_at
 stop_later t e p h = rw (lt-ltb e p h, again p e h) refl
 
--- what is said by a text where a debugger stands again
+-- the text about the changes if a debugger is back at its position
 pub said_there : (a b : DebuggerView) (m : Moment) (cs : List Change)
     (say : ProgramTable → State → List Change → List ℕ) → HasReturned a b → m ≡ b.machine →
     b.machine.state ≡ state_of b → cs ≡ changes_between (program_of a) (state_before a) (state_of a) →
@@ -110,7 +110,7 @@ not_ready Stopped h = refl
 not_ready Finished h = refl
 not_ready (Faulted f) h = refl
 
--- where there is one
+-- if there is one
 pub ahead_told : (t : Input) (p : ℕ) → (run t p).status ≡ Ready → p < LAST_POSITION →
     stop_changes_ahead t p
     ≡ first_changes (codes "WILL CHANGE") t.program (run t (p + 1))
@@ -122,7 +122,7 @@ neither : (b : Bool) → (b && false) ≡ false
 neither true = refl
 neither false = refl
 
--- where there is none
+-- if there is none
 pub ahead_nothing : (t : Input) (p : ℕ) → ((run t p).status ≢ Ready) ⊎ (p ≡ LAST_POSITION) → stop_changes_ahead t p ≡ []
 unfolding stop_changes_ahead
 ahead_nothing t p (inl h) = rw (not_ready (run t p).status h) refl
@@ -130,13 +130,13 @@ ahead_nothing t p (inr e) =
     let past : nat_lt p LAST_POSITION ≡ false = rw e (not_below LAST_POSITION) in
     rw (past, neither (is_ready (run t p).status)) refl
 
--- from where a machine stands that made no step
+-- from the position of a machine that made no step
 pub ahead_nothing_at : (m : Moment) → m.state ≡ run m.input (position m) →
     (m.state.status ≢ Ready) ⊎ (position m ≡ LAST_POSITION) → stop_changes_ahead m.input (position m) ≡ []
 ahead_nothing_at m k (inl h) = ahead_nothing m.input (position m) (inl (rw k at h))
 ahead_nothing_at m k (inr h) = ahead_nothing m.input (position m) (inr h)
 
--- and that made one
+-- and from that of one that made a step
 pub ahead_told_at : (m n : Moment) → m.state ≡ run m.input (position m) → HasMoved m n →
     stop_changes_ahead m.input (position m)
     ≡ first_changes (codes "WILL CHANGE") n.input.program (run n.input (position n))

@@ -1,4 +1,4 @@
--- What is read of a state.
+-- The values that are read of a state.
 use Rattle.std.proofs.Common.{◌≡◌, ℕ, zero, suc, ◌<◌, ◌≤◌, ◌==◌, false, List, [], ◌∷◌, length, refl, ap, arith, Some}
 use Rattle.std.proofs.Common.{None, slice_get, slice_index_or, ℤ, pos, take, drop}
 use Rattle.std.proofs.lemmas.Bool.Decides.{nat_tests}
@@ -17,7 +17,7 @@ past [] i h = refl
 past (x ∷ xs) zero h = absurd (omega (arith, h))
 past (x ∷ xs) (suc i) h = past xs i (omega (arith, h))
 
--- the whole list is its part of so many members from the first on
+-- the whole list is the part of it that has its length, from the first member on
 pub whole_page : (ks : List ℕ) (n : ℕ) → n ≡ length ks → take n (drop 0 ks) ≡ ks
 whole_page [] zero h = refl
 whole_page [] (suc n) h = absurd (omega (arith, h))

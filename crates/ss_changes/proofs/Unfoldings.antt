@@ -4,7 +4,7 @@ use Rattle.std.specs.Fmt.{digits}
 use Rattle.ss_changes.specs.Changes.{changed_at}
 use Rattle.ss_changes.specs.Texts.{changed_text, stop_changes, stop_changes_ahead}
 
--- what is told
+-- the texts that are shown
 unfoldable pub answers_together : ⊤
 unfolding digits changed_at changed_text stop_changes stop_changes_ahead
 answers_together = tt

@@ -1,4 +1,4 @@
--- What differs between two states, and what a step changed.
+-- The parts that differ between two states, and those that a step changed.
 use Rattle.std.specs.Prelude.{ℕ, ◌+◌, Bool, List, map}
 use Rattle.std.specs.List.{filter}
 use Rattle.ss_program.specs.Program.{ProgramTable}
@@ -9,7 +9,7 @@ use Rattle.ss_changes.specs.declared.change.Change.{Change}
 use Rattle.ss_changes.specs.Values.{value_in, is_told}
 use Rattle.ss_changes.specs.Parts.{parts_of}
 
--- whether a part is told between two states
+-- whether a part is shown as changed between two states
 abbrev pub is_changed : ProgramTable → State → State → Part → Bool
 is_changed program state u part = is_told part (value_in program state part) (value_in program u part)
 
@@ -18,14 +18,14 @@ abbrev pub told_of : ProgramTable → State → State → Part → Change
 told_of program state u part =
     record { part = part; before = value_in program state part; after = value_in program u part }
 
--- those of some parts that are told, with both values
+-- those of some parts that are shown, with both values
 abbrev pub changes_among : ProgramTable → State → State → List Part → List Change
 changes_among program state u xs = map (told_of program state u) (filter (is_changed program state u) xs)
 
--- what differs between two states, in order
+-- the changes between two states, in order
 abbrev pub changes_between : ProgramTable → State → State → List Change
 changes_between program state u = changes_among program state u (parts_of program state u)
 
--- what step p changed
+-- the changes of step p
 unfoldable pub changed_at : Input → ℕ → List Change
 changed_at input p = changes_between input.program (run input p) (run input (p + 1))

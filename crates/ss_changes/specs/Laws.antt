@@ -1,4 +1,4 @@
--- What holds of all that is told, as laws.
+-- The laws of the changes that are shown.
 use Rattle.std.specs.Prelude.{ℕ, ◌≡◌, ◌≢◌, ◌<◌, ◌⊎◌, true, List, [], ◌∷◌, length, All, Any}
 use Rattle.ss_program.specs.declared.kinds.Owner.{Owner}
 use Rattle.ss_program.specs.declared.kinds.Owner.TheVariants.{System, OwnedBy}
@@ -12,22 +12,22 @@ use Rattle.ss_changes.specs.Values.{value_in, needs_both}
 use Rattle.ss_changes.specs.Parts.{frames_below, local_names, parts_of}
 use Rattle.ss_changes.specs.Changes.{told_of, changes_between}
 
--- a part belongs to an entity that lives in one of two states alone
+-- a part belongs to an entity that lives in only one of two states
 abbrev pub BelongsToOne : ProgramTable → State → State → Part → Type 0
 BelongsToOne program state u part =
     (needs_both part ≡ true) × ((value_in program state part ≡ Absent) ⊎ (value_in program u part ≡ Absent))
 
--- what is told between two states is what differs
+-- the changes that are shown between two states are the differences
 pub record AreExact (program : ProgramTable) (state u : State) : Type 0 where
-  -- each part that is told has its values before and after, which differ
+  -- each part that is shown has its values before and after, which differ
   pub told : All (λ c. (c ≡ told_of program state u c.part)
       × (value_in program state c.part ≢ value_in program u c.part)) (changes_between program state u)
-  -- each part of the states is told, or its values are equal, or it belongs to what was made
+  -- each part is shown, or its values are equal, or it belongs to an entity of only one state
   pub untold :
       All (λ x. Any (λ c. c ≡ told_of program state u x) (changes_between program state u)
       ⊎ ((value_in program state x ≡ value_in program u x) ⊎ BelongsToOne program state u x)) (parts_of program state u)
 
--- so between any two states
+-- this holds between any two states
 abbrev pub ChangesAreExact : Type 0
 ChangesAreExact = (p : ProgramTable) (s u : State) → AreExact p s u
 
@@ -43,7 +43,7 @@ abbrev pub IsNumberOf : Owner → ℕ → Type 0
 IsNumberOf System k = k ≡ 0
 IsNumberOf (OwnedBy c) k = Unit {0}
 
--- a part that two states may have, by the tables of the program; of locals those of the last frame that both have
+-- a part that two states may have, by the program's tables; a local is of the last frame both have
 abbrev pub IsPartOf : ProgramTable → State → State → Part → Type 0
 IsPartOf program state u (parts.Global i) = i < length program.globals
 IsPartOf program state u (parts.Local n i) = (n ≡ frames_below state u) × (i < length (local_names program u n))
@@ -57,8 +57,8 @@ IsPartOf program state u parts.Entry = Unit {0}
 IsPartOf program state u parts.Clock = Unit {0}
 IsPartOf program state u parts.Report = Unit {0}
 
--- each part whose values differ between two states is told, with both, or it belongs to an entity that lives in one of
--- them alone
+-- each part whose values differ between two states is shown, with both, or it belongs to an entity
+-- that lives in only one of them
 abbrev pub ChangesAreAll : Type 0
 ChangesAreAll =
     (p : ProgramTable) (s u : State) (x : Part) → IsPartOf p s u x → value_in p s x ≢ value_in p u x →

@@ -1,3 +1,4 @@
+-- The definitions of a step's changes: parts of a state, their values, texts, laws and examples.
 pub mod Values
 pub mod Parts
 pub mod Changes

@@ -17,12 +17,12 @@ use Rattle.ss_changes.specs.Values.{value_in, is_there}
 
 -- ---- parts one after the other
 
--- what belongs to the numbers below n, in order
+-- the elements of the numbers below n, in order
 abbrev pub below_of : {A : Type 0} → (ℕ → List A) → ℕ → List A
 below_of f zero = []
 below_of f (suc n) = below_of f n ++ f n
 
--- what belongs to each of some numbers, in order
+-- the elements of each of some numbers, in order
 abbrev pub each_of : {A : Type 0} → (ℕ → List A) → List ℕ → List A
 each_of f [] = []
 each_of f (k ∷ ks) = f k ++ each_of f ks
@@ -33,7 +33,7 @@ each_of f (k ∷ ks) = f k ++ each_of f ks
 abbrev pub global_part : ℕ → List Part
 global_part i = Global i ∷ []
 
--- a local of the frame that stands on n others
+-- a local of the frame with n frames below it
 abbrev pub local_part : ℕ → ℕ → List Part
 local_part n i = Local n i ∷ []
 
@@ -42,7 +42,7 @@ abbrev pub names_in : ProgramTable → Option (ℕ × ℕ) → List (List ℕ)
 names_in program None = []
 names_in program (Some (section, place)) = (section_of program section).locals
 
--- the names of the locals of the frame that stands on n others
+-- the names of the locals of the frame with n frames below it
 abbrev pub local_names : ProgramTable → State → ℕ → List (List ℕ)
 local_names program state n = names_in program (frame_place state (length state.below - n))
 
@@ -117,8 +117,8 @@ notice_parts program state u = notices_in program state ++ absent_in program sta
 
 -- ---- all
 
--- the parts of two states: variables, locals of the last frame that both have, attributes, entities, lists, notices,
--- and what there is once
+-- the parts of two states: variables, locals of the last frame that both have, attributes,
+-- entities, lists, notices, and the four parts of which there is one
 abbrev pub parts_of : ProgramTable → State → State → List Part
 parts_of program state u =
     below_of global_part (length program.globals) ++ local_parts program state u

@@ -1,4 +1,4 @@
--- The texts that tell what a step changed.
+-- The texts that show the changes of a step.
 use Rattle.std.specs.Prelude.{ℕ, ◌+◌, ◌-◌, nat_lt, ◌&&◌, if◌then◌else◌, List, [], ◌∷◌, ◌++◌, length, take, codes}
 use Rattle.std.specs.Prelude.{decimal, slice_index_or}
 use Rattle.std.specs.Fmt.{signed_decimal}
@@ -65,7 +65,7 @@ value_text program (Listed ks) = members_text ks
 value_text program (Entered e) = entry_text program e
 value_text program (Bytes n) = decimal n ++ codes " BYTES"
 
--- members, or of a longer list how many they are
+-- members, or their number if the list is longer than MOST_LISTED
 abbrev pub brief_members : List ℕ → List ℕ
 brief_members ks = if nat_lt MOST_LISTED (length ks) then decimal (length ks) ++ codes " MEMBERS" else members_text ks
 
@@ -76,7 +76,7 @@ brief_text program other = value_text program other
 
 -- ---- lines
 
--- a name and its values before and after, behind a word
+-- a name and its values before and after, following a word
 abbrev pub change_text : List ℕ → List ℕ → List ℕ → List ℕ → List ℕ
 change_text word name before after =
     word ++ codes " " ++ name ++ codes ": " ++ before ++ codes " -> " ++ after
@@ -87,7 +87,7 @@ change_line word program state change =
     change_text word (part_name program state change.part) (value_text program change.before)
     (value_text program change.after) ++ 10 ∷ []
 
--- a text that is cut where it has too many columns
+-- a text that is cut if it has too many columns
 abbrev pub cut_text : List ℕ → List ℕ
 cut_text text = if nat_lt MOST_COLUMNS (length text) then take (MOST_COLUMNS - 3) text ++ codes " .." else text
 
@@ -102,16 +102,16 @@ abbrev pub change_lines : List ℕ → ProgramTable → State → List Change �
 change_lines word program state [] = []
 change_lines word program state (c ∷ cs) = change_line word program state c ++ change_lines word program state cs
 
--- the same in brief
+-- a line in brief for each change
 abbrev pub brief_lines : List ℕ → ProgramTable → State → List Change → List ℕ
 brief_lines word program state [] = []
 brief_lines word program state (c ∷ cs) = brief_line word program state c ++ brief_lines word program state cs
 
--- how many more changes than those that are told there are
+-- the number of further changes, past those that are shown
 abbrev pub more_text : ℕ → List ℕ
 more_text n = if nat_lt MOST_TOLD n then codes "AND " ++ decimal (n - MOST_TOLD) ++ codes " MORE\n" else []
 
--- the first changes in brief, and how many more
+-- the first changes in brief, and the number of further ones
 abbrev pub first_changes : List ℕ → ProgramTable → State → List Change → List ℕ
 first_changes word program state cs = brief_lines word program state (take MOST_TOLD cs) ++ more_text (length cs)
 
@@ -120,21 +120,21 @@ abbrev pub all_changes : ProgramTable → State → List Change → List ℕ
 all_changes program state [] = codes "NOTHING CHANGED\n"
 all_changes program state (c ∷ cs) = change_lines (codes "CHANGED") program state (c ∷ cs)
 
--- ---- answers; parts are named as in the state behind the step
+-- ---- answers; parts are named as in the state after the step
 
--- the answer to SHOW CHANGED in state p, before which nothing earlier than another state is kept
+-- the answer to SHOW CHANGED in state p, if the states from `earliest` on are kept
 unfoldable pub changed_text : Input → ℕ → ℕ → List ℕ
 changed_text input earliest p =
     if nat_lt earliest p then all_changes input.program (run input p) (changed_at input (p - 1))
     else earliest_word earliest ++ 10 ∷ []
 
--- what is told at a stop that was reached going forward: what the last step changed, if it is kept
+-- the text at a stop that was reached going forward: the changes of the last step, if it is kept
 unfoldable pub stop_changes : Input → ℕ → ℕ → List ℕ
 stop_changes input earliest p =
     if nat_lt earliest p then first_changes (codes "CHANGED") input.program (run input p) (changed_at input (p - 1))
     else []
 
--- what is told at a stop that was reached going back: what the next step changes, if there is one
+-- the text at a stop that was reached going back: the changes of the next step, if there is one
 unfoldable pub stop_changes_ahead : Input → ℕ → List ℕ
 stop_changes_ahead input p =
     if is_ready_at input p && nat_lt p LAST_POSITION

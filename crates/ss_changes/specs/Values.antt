@@ -40,12 +40,12 @@ is_same _ _ = false
 
 -- ---- the value of a part in a state
 
--- a number, where there is one
+-- a number, if there is one
 abbrev pub number_if : Option ℤ → PartValue
 number_if (Some x) = Number x
 number_if None = Absent
 
--- a number that is read, where there is one
+-- a number that is read, if there is one
 abbrev pub number_read : Result ℤ RunFault → PartValue
 number_read (Ok x) = Number x
 number_read (Err f) = Absent
@@ -69,7 +69,7 @@ members_if None = Absent
 abbrev pub listed_in : SetShape → Store → ℕ → PartValue
 listed_in shape store k = members_if (list_by shape.owner shape.list store k)
 
--- the value of a part in a state; the report only grows, so its length tells whether it changed
+-- the value of a part in a state; the report only grows, so its length shows whether it changed
 abbrev pub value_in : ProgramTable → State → Part → PartValue
 value_in program state (parts.Global i) = number_if (slice_get state.variables i)
 value_in program state (parts.Local n i) = number_if (frame_local state (length state.below - n) i)
@@ -83,20 +83,20 @@ value_in program state parts.Entry = Entered state.entry
 value_in program state parts.Clock = Number state.clock
 value_in program state parts.Report = Bytes (length state.report)
 
--- ---- what is told
+-- ---- the parts that are shown
 
 -- whether a part is there
 abbrev pub is_there : PartValue → Bool
 is_there Absent = false
 is_there _ = true
 
--- whether a part is told only where both states have it: what is made or ended is told, and not what belongs to it
+-- whether a part is shown only if both states have it: not so an entity or a notice, made or ended
 abbrev pub needs_both : Part → Bool
 needs_both (parts.Entity c k) = false
 needs_both (parts.Notice c k) = false
 needs_both _ = true
 
--- whether a part with these values before and after is told
+-- whether a part with these values before and after is shown
 abbrev pub is_told : Part → PartValue → PartValue → Bool
 is_told part before after =
     not (is_same before after) && (not (needs_both part) || (is_there before && is_there after))

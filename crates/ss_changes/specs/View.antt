@@ -1,4 +1,4 @@
--- Where a debugger stands that looks at the states beside its own.
+-- The positions of a debugger that looks at the states before and after its own.
 use Rattle.std.specs.Prelude.{ℕ, ◌≡◌, ◌+◌, ◌-◌, ◌≤◌, List, [], ◌∷◌, ◌++◌, if◌then◌else◌}
 use Rattle.ss_program.specs.Program.{ProgramTable}
 use Rattle.ss_state.specs.State.{State}
@@ -11,39 +11,39 @@ use Rattle.ss_changes.specs.declared.value.PartValue.{PartValue}
 use Rattle.ss_changes.specs.Values.{value_in, is_told}
 use Rattle.ss_changes.specs.Changes.{changes_among}
 
--- a debugger stands at position q of the run, and all else is as it was
+-- a debugger is at position q of the run, and all else is as it was
 pub record IsAt (old : DebuggerView) (q : ℕ) (new : DebuggerView) : Type 0 where
   -- its run is the same one
   pub input : new.machine.input ≡ old.machine.input
-  -- as many steps are forgotten
+  -- the number of forgotten steps is the same
   pub forgotten : new.machine.forgotten ≡ old.machine.forgotten
-  -- so are the break lines
+  -- its break lines are the same
   pub breaks : new.breaks ≡ old.breaks
   -- its position
   pub position : position new.machine ≡ q
 
--- it stands between two positions, and all else is as it was
+-- it is between two positions, and all else is as it was
 pub record IsBetween (old : DebuggerView) (p q : ℕ) (new : DebuggerView) : Type 0 where
   -- its run is the same one
   pub input : new.machine.input ≡ old.machine.input
-  -- as many steps are forgotten
+  -- the number of forgotten steps is the same
   pub forgotten : new.machine.forgotten ≡ old.machine.forgotten
-  -- so are the break lines
+  -- its break lines are the same
   pub breaks : new.breaks ≡ old.breaks
   -- not before the first
   pub no_earlier : p ≤ position new.machine
-  -- not behind the second
+  -- not after the second
   pub no_later : position new.machine ≤ q
 
--- it stands where it stood
+-- it is at its old position
 abbrev pub HasReturned : DebuggerView → DebuggerView → Type 0
 HasReturned old new = IsAt old (position old.machine) new
 
--- it stands where it stood, or one step before
+-- it is at its old position, or one step before
 abbrev pub IsBehind : DebuggerView → DebuggerView → Type 0
 IsBehind old new = IsBetween old (position old.machine - 1) (position old.machine) new
 
--- it stands where it stood, or one step further
+-- it is at its old position, or one step further
 abbrev pub IsAhead : DebuggerView → DebuggerView → Type 0
 IsAhead old new = IsBetween old (position old.machine) (position old.machine + 1) new
 
@@ -53,7 +53,7 @@ IsAhead old new = IsBetween old (position old.machine) (position old.machine + 1
 abbrev pub program_of : DebuggerView → ProgramTable
 program_of debugger = debugger.machine.input.program
 
--- the state where it stands
+-- the state at its position
 abbrev pub state_of : DebuggerView → State
 state_of debugger = run debugger.machine.input (position debugger.machine)
 
@@ -67,12 +67,12 @@ changed_among debugger xs = changes_among (program_of debugger) (state_before de
 
 -- ---- how the code comes to it
 
--- a part with its values before and after, where it is told
+-- a part with its values before and after, if it is shown
 abbrev pub told_if : Part → PartValue → PartValue → List Change
 told_if part before after =
     if is_told part before after then record { part = part; before = before; after = after } ∷ [] else []
 
--- those of some parts that are told, with these values before and their values in a state
+-- those of some parts that are shown, with these values before and their values in a state
 abbrev pub told_against : ProgramTable → State → List Part → List PartValue → List Change
 told_against program u [] values = []
 told_against program u (x ∷ xs) [] = []

@@ -1,4 +1,4 @@
-//! What is told of the last step, and of the next one.
+//! The answers about the changes of the last step, and of the next one.
 ghost use Rattle.std.specs.Prelude.{◌≡◌, ◌++◌, ◌∷◌, [], OnOk, OnErr};
 ghost use Rattle.ss_machine.specs.Moment.{position};
 ghost use Rattle.ss_debug.specs.Answer.{earliest_word};
@@ -14,7 +14,7 @@ use ss_links::SetBoard;
 use ss_state::Stepped;
 use std::alloc::{AllocError, Global};
 
-/// The word at an earliest kept position: `START` where that is 0, else `NOTHING KEPT`.
+/// The word at an earliest kept position: `START` if that is 0, else `NOTHING KEPT`.
 fn earliest_word(position: u64) -> &'static [u8]
     ensures { result.now ≡ earliest_word position }
 {
@@ -33,14 +33,15 @@ fn push_earliest(text: &mut Vec<u8>, position: u64) -> Result<(), AllocError>
     text.extend_from_slice(b"\n")
 }
 
-/// Appends the answer to SHOW CHANGED: a line `CHANGED part: before -> after` for each part that the
-/// last step changed, or `NOTHING CHANGED`; where no step is kept, `START` at position 0 and else
-/// `NOTHING KEPT`. The parts come in this order: global variables, locals, attributes, entities,
-/// lists, notices, the data taken, the entry, the clock, the report. Position, break lines and
-/// earliest kept position stay as they are: the debugger goes back one step and forward again.
+/// Appends the answer to SHOW CHANGED: a line `CHANGED part: before -> after` for each part that
+/// the last step changed, or `NOTHING CHANGED`. If no step is kept, the answer is `START` at
+/// position 0 and else `NOTHING KEPT`. The parts come in this order: global variables, locals,
+/// attributes, entities, lists, notices, the data taken, the entry, the clock, the report.
+/// Position, break lines and earliest kept position stay as they are: the debugger goes back one
+/// step and forward again.
 ///
-/// `AllocError` where memory was refused to a text, a list or the step: then the debugger stands
-/// where it stood or one step before, and what was appended does not count.
+/// `AllocError` if memory was refused to a text, a list or the step. Then the debugger is where it
+/// was or one step before, and the appended text does not count.
 pub fn push_changed<S: SetBoard>(
     alloc: Global,
     debugger: &mut Debugger<S>,
@@ -61,11 +62,11 @@ pub fn push_changed<S: SetBoard>(
     push_all_changes(bytes, debugger.machine(), &changes)
 }
 
-/// Appends what is told at a stop that was reached going forward, also where no step was made: of
-/// the parts that the last step changed the first five, a line `CHANGED part: before -> after` for
-/// each, and `AND n MORE`. Of a list of more than twenty members it tells how many they are, and a
-/// line of more than 120 columns is cut. Nothing where nothing changed, or no step is kept.
-/// Position, break lines and earliest kept position stay as they are.
+/// Appends the text at a stop that was reached going forward, also if no step was made: a line
+/// `CHANGED part: before -> after` for each of the first five parts that the last step changed, and
+/// `AND n MORE`. A list of more than twenty members is shown by their number, and a line of more
+/// than 120 columns is cut. Appends nothing if nothing changed, or no step is kept. Position, break
+/// lines and earliest kept position stay as they are.
 ///
 /// `AllocError` as for [`push_changed`].
 pub fn push_stop_changes<S: SetBoard>(
@@ -88,12 +89,13 @@ pub fn push_stop_changes<S: SetBoard>(
     push_first_changes(alloc, bytes, b"CHANGED", debugger.machine(), &changes)
 }
 
-/// Appends what is told at a stop that was reached going back: the same of the next step, as `WILL
-/// CHANGE part: before -> after`; nothing where the state is not ready. Position, break lines and
-/// earliest kept position stay as they are: the debugger makes the step and goes back again.
+/// Appends the text at a stop that was reached going back: the text of [`push_stop_changes`] for
+/// the next step, as `WILL CHANGE part: before -> after`; nothing if the state is not ready.
+/// Position, break lines and earliest kept position stay as they are: the debugger makes the step
+/// and goes back again.
 ///
-/// `AllocError` where memory was refused to a text, a list or the step: then the debugger stands
-/// where it stood or one step further, and what was appended does not count.
+/// `AllocError` if memory was refused to a text, a list or the step. Then the debugger is where it
+/// was or one step further, and the appended text does not count.
 pub fn push_stop_changes_ahead<S: SetBoard>(
     alloc: Global,
     debugger: &mut Debugger<S>,

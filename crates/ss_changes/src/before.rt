@@ -1,5 +1,5 @@
-//! What is read of the state before the one where a debugger stands. Each call steps back, reads,
-//! and steps forward again; after `AllocError` the debugger stands perhaps one step before.
+//! Readings of the state before the one at a debugger's position. Each call steps back, reads, and
+//! steps forward again. After `AllocError` the debugger may be one step before its old position.
 ghost use Rattle.std.specs.Prelude.{◌≡◌, ◌<◌, length, map, IfOk, OnOk, OnErr};
 ghost use Rattle.ss_machine.specs.Moment.{position};
 ghost use Rattle.ss_changes.specs.Values.{value_in};
@@ -72,7 +72,7 @@ pub fn entities_before<S: SetBoard>(
     Ok(parts)
 }
 
-/// How many frames stand below the last one.
+/// The number of frames below the last one.
 pub fn below_before<S: SetBoard>(debugger: &mut Debugger<S>) -> Result<usize, AllocError>
     requires { debugger.old.machine.forgotten < position debugger.old.machine }
     ensures stays { OnOk result (HasReturned debugger.old debugger.new) }

@@ -1,3 +1,4 @@
+//! A change: one part of a state, with its values before and after a step.
 use crate::part::Part;
 use crate::value::PartValue;
 
@@ -8,6 +9,6 @@ pub struct Change {
     pub part: Part,
     /// Its value in the state before the step.
     pub before: PartValue,
-    /// Its value in the state behind it.
+    /// Its value in the state after it.
     pub after: PartValue,
 }

@@ -1,4 +1,4 @@
-//! What the last step changed, kind by kind.
+//! The changes of the last step, kind by kind.
 ghost use Rattle.std.specs.Prelude.{◌≡◌, ◌++◌, ◌<◌, List, [], length, map, OnOk, OnErr, IfOk};
 ghost use Rattle.ss_machine.specs.Moment.{position};
 ghost use Rattle.ss_changes.specs.Values.{value_in};
@@ -23,7 +23,7 @@ use ss_links::SetBoard;
 use ss_machine::Machine;
 use std::alloc::{AllocError, Global};
 
-/// Appends a part with its values before and after, where it is told.
+/// Appends a part with its values before and after, if it is shown.
 fn push_if_told<S: SetBoard>(
     alloc: Global,
     machine: &Machine<S>,
@@ -47,7 +47,7 @@ fn push_if_told<S: SetBoard>(
     Ok(())
 }
 
-/// Appends those of some parts that are told, with these values before and their values now.
+/// Appends those of some parts that are shown, with these values before and their values now.
 fn push_told<S: SetBoard>(
     alloc: Global,
     machine: &Machine<S>,
@@ -331,7 +331,7 @@ fn push_notices<S: SetBoard>(
     push_new_notices(alloc, debugger, changes)
 }
 
-/// Appends what the last step changed.
+/// Appends the changes of the last step.
 fn push_last_changes<S: SetBoard>(
     alloc: Global,
     debugger: &mut Debugger<S>,
@@ -354,7 +354,7 @@ fn push_last_changes<S: SetBoard>(
     push_changed(alloc, debugger, &others, changes)
 }
 
-/// What the last step changed.
+/// The changes of the last step.
 pub fn last_changes<S: SetBoard>(
     alloc: Global,
     debugger: &mut Debugger<S>,

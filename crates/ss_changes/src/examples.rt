@@ -1,4 +1,4 @@
-//! What steps of small runs changed: each function is a law, proved by computing.
+//! The changes of steps of small runs: each function is a law, proved by computing.
 #![tactic(auto, unfolding(crate::proofs::Unfoldings::answers_together))]
 
 ghost use Rattle.std.specs.Prelude.{◌≡◌, ◌++◌, [], codes, replicate};
@@ -8,8 +8,8 @@ ghost use Rattle.ss_changes.specs.Texts.{changed_text, stop_changes, stop_change
 ghost use Rattle.ss_changes.specs.Texts.{brief_text, cut_text};
 ghost use Rattle.ss_changes.specs.Examples as e;
 
-/// Variables: READ of three targets; a variable that is given its own value; locals where a frame
-/// is entered and left.
+/// Variables: READ of three targets; a variable that is given its own value; locals when a frame is
+/// entered and left.
 fn variables_are_told_where_they_differ()
     ensures start { changed_text e.jobs_run 0 0 ≡ codes "START\n" }
     ensures kept { changed_text e.jobs_run 4 4 ≡ codes "NOTHING KEPT\n" }
@@ -22,8 +22,8 @@ fn variables_are_told_where_they_differ()
     ensures yielded { changed_text e.jobs_run 0 8 ≡ codes "CHANGED VAR X: 9 -> 5\n" }
 {}
 
-/// Entities and lists: one that ends and one that is made, what is filed and removed, an attribute;
-/// SKIP 0 and F14 change none of them.
+/// Entities and lists: one that ends and one that is made, an entity that is filed and removed, an
+/// attribute; SKIP 0 and F14 change none of them.
 fn entities_and_lists_are_told_where_they_differ()
     ensures skip { changed_text e.jobs_run 0 3 ≡ codes "NOTHING CHANGED\n" }
     ensures made { changed_text e.jobs_run 0 4
@@ -67,8 +67,8 @@ fn stops_tell_the_first_changes()
     ensures whole { cut_text (replicate 120 65) ≡ replicate 120 65 }
 {}
 
-/// One step behind the earliest kept position, after a FORGET, the step is told although those
-/// before it are forgotten; at the last step of a run, which ends MAIN, nothing is.
+/// One step after the earliest kept position, after a FORGET, the step is shown although those
+/// before it are forgotten. At the last step of a run, which ends MAIN, nothing is shown.
 fn edges_of_what_is_kept_are_told()
     ensures behind_kept { changed_text e.jobs_run 4 5 ≡ codes "CHANGED SET ROW: EMPTY -> 1\n" }
     ensures behind_kept_at_stop { stop_changes e.jobs_run 11 12

@@ -1,8 +1,8 @@
-//! What the step from one state to the next changed: the parts of the state whose values in the two
+//! The changes of a step from one state to the next: the parts of the state whose values in the two
 //! differ, other than frames and places, each with its value before and after. The definition
-//! speaks of the two states alone.
+//! speaks only of the two states.
 //!
-//! Each call appends an answer, and leaves the debugger where it stood: it goes one step back and
+//! Each call appends an answer, and leaves the debugger at its position: it goes one step back and
 //! forward again over the same step, and reads both states, kind by kind. A call takes as long as
 //! reading all parts of the two states.
 #![tactic(auto)]

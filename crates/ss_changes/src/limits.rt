@@ -1,4 +1,4 @@
-//! How much is told at a stop (docs/PROMPT.md). The definitions read these names too.
+//! The limits of the text at a stop (docs/PROMPT.md). The definitions read these names too.
 
 /// The most changes.
 pub const MOST_TOLD: usize = 5;

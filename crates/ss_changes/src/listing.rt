@@ -1,4 +1,4 @@
-//! The parts of the state where a machine stands, one after the other.
+//! The parts of the state at a machine's position, one after the other.
 ghost use Rattle.std.specs.Prelude.{◌≡◌, ◌++◌, IfOk, OnOk};
 ghost use Rattle.ss_changes.specs.Parts.{below_of, global_part, local_part};
 ghost use Rattle.ss_changes.specs.Parts.{attribute_part, attribute_parts};
@@ -14,7 +14,7 @@ use ss_machine::Machine;
 use ss_program::Owner;
 use std::alloc::{AllocError, Global};
 
-/// So many global variables.
+/// The first `count` global variables.
 pub fn globals(alloc: Global, count: usize) -> Result<Vec<Part>, AllocError>
     ensures { IfOk result (λ parts. parts.items ≡ below_of global_part count) }
 {
@@ -25,7 +25,7 @@ pub fn globals(alloc: Global, count: usize) -> Result<Vec<Part>, AllocError>
     Ok(parts)
 }
 
-/// So many locals of the frame that stands on so many others.
+/// The first `count` locals of the frame with `below` frames below it.
 pub fn locals(alloc: Global, below: usize, count: usize) -> Result<Vec<Part>, AllocError>
     ensures { IfOk result (λ parts. parts.items ≡ below_of (local_part below) count) }
 {
@@ -36,7 +36,7 @@ pub fn locals(alloc: Global, below: usize, count: usize) -> Result<Vec<Part>, Al
     Ok(parts)
 }
 
-/// Appends so many attributes of an entity.
+/// Appends the first `count` attributes of an entity.
 fn push_attributes(
     parts: &mut Vec<Part>,
     class: usize,

@@ -1,3 +1,5 @@
+//! The parts of a state that are compared from step to step.
+
 /// A part of a state that a step may change. Frames and places are none of them.
 #[derive(Clone, Copy)]
 pub enum Part {
@@ -5,7 +7,7 @@ pub enum Part {
     Global {
         number: usize,
     },
-    /// The local with this number of the frame that stands on so many others.
+    /// The local with this number of the frame with `below` frames below it.
     Local {
         below: usize,
         number: usize,

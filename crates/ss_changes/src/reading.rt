@@ -1,4 +1,4 @@
-//! The values of parts in the state where a machine stands.
+//! The values of parts in the state at a machine's position.
 ghost use Rattle.std.specs.Prelude.{◌≡◌, ◌<◌, ◌-◌, length, map, IfOk, slice_get};
 ghost use Rattle.ss_store.specs.Store.{members_of, attribute_of, exists};
 ghost use Rattle.ss_store.specs.Tables.{set_of};
@@ -18,7 +18,7 @@ use ss_program::Variable;
 use ss_store::Store;
 use std::alloc::{AllocError, Global};
 
-/// A number, where there is one.
+/// A number, if there is one.
 fn number_if(number: Option<i64>) -> PartValue
     ensures { result ≡ number_if number }
 {
@@ -28,7 +28,7 @@ fn number_if(number: Option<i64>) -> PartValue
     }
 }
 
-/// What the global variable with this number holds.
+/// The value of the global variable with this number.
 #[tactic(auto, using(crate::proofs::StateLaws::there, crate::proofs::StateLaws::past))]
 fn global_value<S: SetBoard>(machine: &Machine<S>, number: usize) -> PartValue
     ensures { result ≡ number_if (slice_get machine.now.state.variables number) }
@@ -40,7 +40,7 @@ fn global_value<S: SetBoard>(machine: &Machine<S>, number: usize) -> PartValue
     PartValue::Number(machine.variable(Variable::Global(number)))
 }
 
-/// What the local with this number holds, of the frame that stands on so many others.
+/// The value of the local with this number of the frame with `below` frames below it.
 fn local_value<S: SetBoard>(machine: &Machine<S>, below: usize, number: usize) -> PartValue
     ensures { result ≡ number_if
         (frame_local machine.now.state (length machine.now.state.below - below) number) }
@@ -49,7 +49,7 @@ fn local_value<S: SetBoard>(machine: &Machine<S>, below: usize, number: usize) -
     number_if(machine.frame_local(depth, number))
 }
 
-/// The members of the list of a set, of which there are so many.
+/// The members of the list of a set, which has `count` members.
 #[tactic(auto, using(crate::proofs::StateLaws::whole_page))]
 fn members<S: SetBoard>(
     alloc: Global,
@@ -68,7 +68,7 @@ fn members<S: SetBoard>(
     Ok(Members { numbers })
 }
 
-/// The members of the list of a set, where its owner is there.
+/// The members of the list of a set, if its owner is there.
 #[tactic(auto, using(ss_debug::proofs::Tables::sets_kept))]
 fn listed<S: SetBoard>(
     alloc: Global,
@@ -86,7 +86,7 @@ fn listed<S: SetBoard>(
     }
 }
 
-/// The same, where there is such a set.
+/// The members of the list of a set, if there is such a set and owner.
 fn list_value<S: SetBoard>(
     alloc: Global,
     machine: &Machine<S>,

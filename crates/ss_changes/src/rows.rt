@@ -16,7 +16,7 @@ pub fn names_in(program: &Program, place: Option<(usize, usize)>) -> &[Name]
     }
 }
 
-/// The names of the locals of the section of the frame that stands on so many others.
+/// The names of the locals of the section of the frame with `below` frames below it.
 pub fn local_names<S: SetBoard>(machine: &Machine<S>, below: usize) -> &[Name]
     ensures { result.now ≡ local_names machine.now.input.program machine.now.state below }
 {

@@ -8,7 +8,7 @@ use ss_links::SetBoard;
 use ss_state::Stepped;
 use std::alloc::AllocError;
 
-/// One step back, where a step is kept.
+/// One step back, if a step is kept.
 pub fn go_back<S: SetBoard>(debugger: &mut Debugger<S>)
     requires { debugger.old.machine.forgotten < position debugger.old.machine }
     ensures { IsAt debugger.old (position debugger.old.machine - 1) debugger.new }

@@ -1,4 +1,4 @@
-//! The lines that tell what a step changed.
+//! The lines that show the changes of a step.
 ghost use Rattle.std.specs.Prelude.{◌≡◌, ◌++◌, [], codes, slice_index_or, OnOk};
 ghost use Rattle.ss_program.specs.Program.{class_of, set_of};
 ghost use Rattle.ss_debug.specs.Entities.{members_text, further_members};
@@ -114,7 +114,7 @@ fn push_part<S: SetBoard>(
     }
 }
 
-/// Appends numbers, each behind a blank.
+/// Appends numbers, each after a blank.
 fn push_further(text: &mut Vec<u8>, numbers: &[u32]) -> Result<(), AllocError>
     ensures { OnOk result (text.new.items ≡ text.old.items ++ further_members numbers.now) }
 {
@@ -172,7 +172,7 @@ fn push_value(text: &mut Vec<u8>, program: &Program, value: &PartValue) -> Resul
     }
 }
 
-/// Appends members, or of a longer list how many they are.
+/// Appends members, or their number if the list is longer than `MOST_LISTED`.
 fn push_brief_members(text: &mut Vec<u8>, members: &Members) -> Result<(), AllocError>
     ensures { OnOk result (text.new.items ≡ text.old.items ++ brief_members members.now) }
 {
@@ -228,7 +228,7 @@ fn push_line<S: SetBoard>(
     text.extend_from_slice(b"\n")
 }
 
-/// Appends a text, cut where it has too many columns.
+/// Appends a text, cut if it has too many columns.
 fn push_cut(text: &mut Vec<u8>, line: &[u8]) -> Result<(), AllocError>
     ensures { OnOk result (text.new.items ≡ text.old.items ++ cut_text line.now) }
 {
@@ -293,7 +293,7 @@ fn push_brief_lines<S: SetBoard>(
     Ok(())
 }
 
-/// Appends how many more changes than those that are told there are.
+/// Appends the number of further changes, past those that are shown.
 fn push_more(text: &mut Vec<u8>, count: usize) -> Result<(), AllocError>
     ensures { OnOk result (text.new.items ≡ text.old.items ++ more_text count) }
 {
@@ -305,7 +305,7 @@ fn push_more(text: &mut Vec<u8>, count: usize) -> Result<(), AllocError>
     text.extend_from_slice(b" MORE\n")
 }
 
-/// Appends the first changes in brief, and how many more.
+/// Appends the first changes in brief, and the number of further ones.
 pub fn push_first_changes<S: SetBoard>(
     alloc: Global,
     text: &mut Vec<u8>,

@@ -27,7 +27,7 @@ impl Model for Members {
 pub enum PartValue {
     /// The part isn't there.
     Absent,
-    /// What a variable or an attribute holds, a time.
+    /// The value of a variable or an attribute, or a time.
     Number(i64),
     /// How many there are.
     Count(usize),
@@ -37,7 +37,7 @@ pub enum PartValue {
     Listed(Members),
     /// The entry of an external event.
     Entered(Entry),
-    /// So many bytes.
+    /// A number of bytes.
     Bytes(usize),
 }
 
@@ -90,14 +90,14 @@ pub fn is_there(value: &PartValue) -> bool
     !matches!(value, PartValue::Absent)
 }
 
-/// Whether a part is told only where both states have it.
+/// Whether a part is shown only if both states have it.
 fn needs_both(part: Part) -> bool
     ensures { result ≡ needs_both part }
 {
     !matches!(part, Part::Entity { .. } | Part::Notice { .. })
 }
 
-/// Whether a part with these values before and after is told.
+/// Whether a part with these values before and after is shown.
 pub fn is_told(part: Part, before: &PartValue, after: &PartValue) -> bool
     ensures { result ≡ is_told part before.now after.now }
 {

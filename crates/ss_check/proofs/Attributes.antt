@@ -1,4 +1,4 @@
--- A name among the attributes of a class, by what it is declared as.
+-- A name among the attributes of a class, by the kind as which it is declared.
 use Rattle.std.proofs.Common.{◌≡◌, ◌&&◌, true, false, List, refl, sym, ◌∙◌, Some, None}
 use Rattle.std.specs.Prelude.{Option, bytes_eq, option_map, unwrap_or}
 use Rattle.std.specs.List.{list_any, filter}
@@ -27,7 +27,7 @@ pub first_is_among : (table : List (Fact NameKind)) (c n : Name) →
     is_among n (names_where (is_attribute_of c) table) ≡ true
 first_is_among table c n t = first_by table c n (fact_of table n) refl t
 
--- a name is one of them where one of its declarations is as an attribute of the class
+-- a name is one of them if one of its declarations is as an attribute of the class
 pub attribute_among : (facts : List (Fact CodeKind)) (c n : Name) →
     list_any (λ f. is_attribute_of c (kind_view f.what) && bytes_eq n f.name) facts
     ≡ is_among n (names_where (is_attribute_of c) (facts_view kind_view facts))

@@ -16,7 +16,7 @@ push before (g ∷ gs) f =
     (or_assoc (conflicts (fact_of before g.name) g.what) (one_conflicts (before ++ g ∷ []) gs)
     (conflicts (fact_of (before ++ g ∷ gs) f.name) f.what))
 
--- one more declaration conflicts with what its name is, or those before it conflict already
+-- one more declaration conflicts with the kind of its name, or those before it conflict already
 pub conflicts_push : (fs : List (Fact NameKind)) (f : Fact NameKind) →
     one_conflicts [] (fs ++ f ∷ []) ≡ (one_conflicts [] fs || conflicts (fact_of fs f.name) f.what)
 conflicts_push fs f = push [] fs f

@@ -13,11 +13,11 @@ use Rattle.ss_check.specs.Declarations.{routine_counts, routine_facts, declared_
 use Rattle.ss_check.specs.NameKinds.{language_facts}
 use Rattle.ss_check.proofs.FactTables.{append_none, or_all, or_none}
 
--- what one element more brings
+-- the part that one element more brings
 more : {X A : Type 0} (f : X → List A) (xs : List X) (x : X) → flat_map f (xs ++ x ∷ []) ≡ flat_map f xs ++ f x
 more f xs x = flat_map-append f xs (x ∷ []) ∙ ap (λ ys. flat_map f xs ++ ys) (append_none (f x))
 
--- of the three parts of the declarations the middle one grows
+-- the middle one of the three parts of the declarations grows
 middle : {A : Type 0} (xs ys zs : List A) → xs ++ ((ys ++ zs) ++ []) ≡ (xs ++ (ys ++ [])) ++ zs
 middle xs ys zs = rw (append_none (ys ++ zs), append_none ys, append_assoc xs ys zs) refl
 
@@ -25,7 +25,7 @@ middle xs ys zs = rw (append_none (ys ++ zs), append_none ys, append_assoc xs ys
 last : {A : Type 0} (xs ys zs ws : List A) → xs ++ (ys ++ (zs ++ ws)) ≡ (xs ++ (ys ++ zs)) ++ ws
 last xs ys zs ws = rw (append_assoc xs (ys ++ zs) ws, append_assoc ys zs ws) refl
 
--- one item more, with no head behind the items
+-- one item more, with no head after the items
 pub entry_more : (xs : List HeadedItem) (x : HeadedItem) → declared_by (xs ++ x ∷ []) []
     ≡ with_item (declared_by xs []) x
 unfolding with_item
@@ -85,7 +85,7 @@ head_more xs hs (EventHead n given saving) =
     )
     refl
 
--- items behind others
+-- items after others
 pub entries_more : (before xs : List HeadedItem) → with_items (declared_by before []) xs ≡ declared_by (before ++ xs) []
 unfolding with_items
 entries_more before [] = ap (λ (ys : List HeadedItem). declared_by ys []) (sym (append_none before))
@@ -94,7 +94,7 @@ entries_more before (x ∷ xs) =
     ∙ entries_more (before ++ x ∷ []) xs
     ∙ ap (λ (ys : List HeadedItem). declared_by ys []) (append_assoc before (x ∷ []) xs)
 
--- sections behind others
+-- sections after others
 pub sections_more : (xs : List HeadedItem) (hs : List Head) (ss : List Section) →
     with_sections (declared_by xs hs) ss ≡ declared_by xs (hs ++ heads ss)
 unfolding with_sections

@@ -1,4 +1,4 @@
--- What a table of facts finds, and what it is after one more fact.
+-- The facts that a table of facts finds, and the table after one more fact.
 use Rattle.std.proofs.Common.{◌≡◌, ◌≤◌, ◌+◌, suc, ◌||◌, ℕ, Bool, true, false, not, cond, List, [], ◌∷◌, ◌++◌, length}
 use Rattle.std.proofs.Common.{Option, Some, None, refl, sym, ap, ◌∙◌, nat_lt, ◌==◌, arith, subst, append_assoc}
 use Rattle.std.specs.Prelude.{bytes_eq, option_map, position, is_some, slice_get}
@@ -22,7 +22,7 @@ use Rattle.ss_check.specs.Facts.{Fact, fact_of, is_among, names_of, repeats}
 
 -- ---- lists
 
--- nothing behind a list
+-- nothing after a list
 pub append_none : {A : Type 0} (xs : List A) → xs ++ [] ≡ xs
 append_none [] = refl
 append_none (x ∷ xs) = ap (λ ys. x ∷ ys) (append_none xs)
@@ -42,7 +42,7 @@ pub or_assoc : (a b c : Bool) → (a || (b || c)) ≡ ((a || b) || c)
 or_assoc true b c = refl
 or_assoc false b c = refl
 
--- the names of facts with one more behind them
+-- the names of facts with one more after them
 pub names_of_push : {A : Type 0} (fs : List (Fact A)) (f : Fact A) →
     names_of (fs ++ f ∷ []) ≡ names_of fs ++ f.name ∷ []
 names_of_push [] f = refl
@@ -60,7 +60,7 @@ get_behind x xs k =
     let z : 1 + k ≡ suc k = omega arith in
     ap (λ (i : ℕ). slice_get (x ∷ xs) i) z
 
--- what stands at the place of a name is its first fact
+-- the fact at the place of a name is its first fact
 pub fact_at : {A : Type 0} (n : Name) (fs : List (Fact A)) →
     option_map (λ f. f.what) (slice_get fs (position_or_len (bytes_eq n) (names_of fs))) ≡ fact_of fs n
 fact_at n [] = refl
@@ -95,17 +95,17 @@ any_place n [] = refl
 any_place n (m ∷ ms) = any_cons (bytes_eq n m) (is_among n ms) (position_or_len (bytes_eq n) ms) (length ms)
     (any_place n ms)
 
--- a name has a fact where its place is before the end
+-- a name has a fact if its place is before the end
 pub among_at : {A : Type 0} (n : Name) (fs : List (Fact A)) (i l : ℕ) →
     i ≡ position_or_len (bytes_eq n) (names_of fs) → l ≡ length fs → nat_lt i l ≡ is_among n (names_of fs)
 among_at n fs i l p e = rw (p, e, sym (names_length fs)) (sym (any_place n (names_of fs)))
 
--- the place of a name by a map that tells it
+-- the place of a name that a map has
 pub place_some : (ns : List Name) (m : BTreeMap (Vec ℕ) ℕ) (n : Name) (i : ℕ) → IsIndex ns m → Some i ≡ entry_of m n →
     i ≡ position_or_len (bytes_eq n) ns
 place_some ns m n i h e = found_first (bytes_eq n) ns i (e ∙ index_at ns m n h)
 
--- the place of a name of which it tells nothing
+-- the place of a name that the map has not
 pub place_none : (ns : List Name) (m : BTreeMap (Vec ℕ) ℕ) (n : Name) → IsIndex ns m → None ≡ entry_of m n →
     length ns ≡ position_or_len (bytes_eq n) ns
 place_none ns m n h e = found_none (bytes_eq n) ns (e ∙ index_at ns m n h)
@@ -152,7 +152,7 @@ kept_push : (ns : List Name) (m : BTreeMap (Vec ℕ) ℕ) (n : Name) → is_amon
 unfolding IsIndex
 kept_push ns m n t h b = h b ∙ sym (position_push (bytes_eq b) ns n ∙ kept ns n b t (bytes_eq b n) refl)
 
--- a map stays right behind a second fact of a name
+-- a map stays right after a second fact of a name
 pub index_again : {A : Type 0} (fs : List (Fact A)) (f : Fact A) (m : BTreeMap (Vec ℕ) ℕ) →
     is_among f.name (names_of fs) ≡ true → IsIndex (names_of fs) m → IsIndex (names_of (fs ++ f ∷ [])) m
 index_again fs f m t h = rw (names_of_push fs f) (kept_push (names_of fs) m f.name t h)
@@ -172,7 +172,7 @@ index_first fs f m n k l e s u t h =
     ≡ None = rw e (none_is (position (bytes_eq f.name) ns) (sym (any_is ns f.name) ∙ t)) in
     rw (names_of_push fs f, sym e) (index_more ns m n k v none h)
 
--- a name behind others repeats one where one of them is repeated or the name is among them
+-- a name after others repeats one if one of them is repeated or the name is among them
 repeats_push : (before ns : List Name) (n : Name) →
     repeats before (ns ++ n ∷ []) ≡ (repeats before ns || is_among n (before ++ ns))
 repeats_push before [] n = or_none (is_among n before)
@@ -182,13 +182,13 @@ repeats_push before (m ∷ ms) n =
     ∙ rw (append_assoc before (m ∷ []) ms) (or_assoc (is_among m before) (repeats (before ++ m ∷ []) ms)
     (is_among n (before ++ m ∷ ms)))
 
--- behind a second fact of a name there is a repeat
+-- after a second fact of a name there is a repeat
 pub repeats_again : {A : Type 0} (fs : List (Fact A)) (f : Fact A) → is_among f.name (names_of fs) ≡ true →
     true ≡ repeats [] (names_of (fs ++ f ∷ []))
 repeats_again fs f t = rw (names_of_push fs f, repeats_push [] (names_of fs) f.name, t)
     (sym (or_all (repeats [] (names_of fs))))
 
--- behind the first fact of a name there is one where there was one
+-- after the first fact of a name there is a repeat if there was one before
 pub repeats_first : {A : Type 0} (fs : List (Fact A)) (f : Fact A) (b : Bool) → is_among f.name (names_of fs) ≡ false →
     b ≡ repeats [] (names_of fs) → b ≡ repeats [] (names_of (fs ++ f ∷ []))
 repeats_first fs f b t h = rw (names_of_push fs f, repeats_push [] (names_of fs) f.name, t) (h

@@ -27,7 +27,7 @@ use Rattle.ss_check.proofs.Tests.{any_filter}
 
 -- ---- lists
 
--- names behind names
+-- names after names
 repeats_append : (before ns ms : List Name) →
     repeats before (ns ++ ms) ≡ (repeats before ns || repeats (before ++ ns) ms)
 repeats_append before [] ms = ap (λ (xs : List Name). repeats xs ms) (sym (append_none before))
@@ -45,16 +45,16 @@ conflicts_append before (f ∷ fs) gs =
     (or_assoc (conflicts (fact_of before f.name) f.what) (one_conflicts (before ++ f ∷ []) fs)
     (one_conflicts (before ++ f ∷ fs) gs))
 
--- behind names without a repeat
+-- after names without a repeat
 pub repeats_behind : (ns ms : List Name) → repeats [] ns ≡ false → repeats [] (ns ++ ms) ≡ repeats ns ms
 repeats_behind ns ms h = repeats_append [] ns ms ∙ ap (λ (b : Bool). b || repeats ns ms) h
 
--- behind declarations without a conflict
+-- after declarations without a conflict
 pub conflicts_behind : (fs gs : List (Fact NameKind)) → one_conflicts [] fs ≡ false →
     one_conflicts [] (fs ++ gs) ≡ one_conflicts fs gs
 conflicts_behind fs gs h = conflicts_append [] fs gs ∙ ap (λ (b : Bool). b || one_conflicts fs gs) h
 
--- behind facts without a repeat
+-- after facts without a repeat
 pub names_behind : {A : Type 0} (fs gs : List (Fact A)) → repeats [] (names_of fs) ≡ false →
     repeats [] (names_of (fs ++ gs)) ≡ repeats (names_of fs) (names_of gs)
 names_behind fs gs h =
@@ -134,14 +134,14 @@ rule_is d b t x declared class ownerless memberless keys section order o e e1 e2
     )
     refl
 
--- a rule behind C1 need not be asked where C1 is broken
+-- a rule after C1 need not be asked if C1 is broken
 unless_twice : (twice b : Bool) (f : Bool → Bool → List CheckRule) →
     ((c : Bool) → lowest (f true c) ≡ Some DeclaredTwice) →
     lowest (f twice (not twice && b)) ≡ lowest (f twice b)
 unless_twice true b f first = first false ∙ sym (first b)
 unless_twice false b f first = refl
 
--- the lowest rule, by tables with the item, where the keys are asked only if nothing is declared twice
+-- the lowest rule, by tables with the item; the keys are asked only if nothing is declared twice
 pub item_rule_is : (d b t : Declared) (x : HeadedItem) (declared class ownerless memberless keys section order : Bool) →
     IsOnce b → t ≡ with_item b x →
     declared ≡ (one_conflicts [] t.kinds || repeats [] t.disciplines || repeats [] t.ties || repeats [] t.external) →
@@ -171,7 +171,7 @@ item_rule_is d b t x declared class ownerless memberless keys section order o e 
     ∙ rule_is d b t x declared class ownerless memberless (has_wrong_keys d x.item) section order o e e1 e2 e3 e4 refl
     e6 e7
 
--- behind an item that breaks no rule nothing is said twice
+-- after an item that breaks no rule nothing is said twice
 pub once_behind_item : (d b : Declared) (x : HeadedItem) → IsOnce b → item_rule d b x ≡ None → IsOnce (with_item b x)
 unfolding item_rule with_item
 once_behind_item d b x o h =
@@ -280,7 +280,7 @@ once b (EventHead n given saving) o c e =
       events = repeats_behind b.events (n ∷ []) o.events ∙ e;
     }
 
--- behind a head that breaks no rule nothing is said twice
+-- after a head that breaks no rule nothing is said twice
 pub once_behind_head : (d b : Declared) (s : Section) → IsOnce b → head_rule d b s ≡ None → IsOnce (with_head b s.head)
 unfolding head_rule
 once_behind_head d b s o h =

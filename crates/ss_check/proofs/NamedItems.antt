@@ -1,4 +1,4 @@
--- The tables of a program without a breach, each number looked up, say what the items write.
+-- The tables of a program without a breach, each number looked up, give the contents of the items.
 use Rattle.std.proofs.Common.{◌≡◌, ◌⊎◌, ℕ, Bool, true, false, not, List, [], ◌∷◌, ◌++◌, refl, sym, ap, ◌∙◌, subst}
 use Rattle.std.proofs.Common.{arith, Option, Some, None}
 use Rattle.std.specs.Prelude.{map, codes, slice_get, option_map, unwrap_or}
@@ -72,7 +72,7 @@ keys_again ns qs h = same_again (resolved_key ns) (named_key ns) qs (λ q i. key
 abbrev event : NameKind
 event = k.Class (Some EventNotices)
 
--- what a class of no events has besides
+-- the parts of a class of no events apart from its name and attributes
 abbrev no_event : EventTable
 no_event = record { section = 0; ties = []; external = false }
 
@@ -112,7 +112,7 @@ class_item (OfSystem cs) n x = absurd x
 class_item (Defines z) n x = absurd x
 class_item (Orders r) n x = absurd x
 
--- what BREAK and EXTERNAL name is an event class
+-- the name in BREAK and in EXTERNAL is an event class
 tied_event : (d b : Declared) (h : Option Heading) (i : Item) (n : Name) (keys : List WrittenKey) →
     names_wrong_class d h i ≡ false → In (fact n keys) (ties_in i) → is_event_class d n ≡ true
 tied_event d b h Normally n keys e x = absurd x
@@ -156,7 +156,7 @@ module _ (xs : List HeadedItem) (qs : List Section) where
   abbrev V : Names
   V = names D hs
 
-  -- what the items write
+  -- the contents of the items
   abbrev W : Written
   W = items_written xs
 
@@ -166,7 +166,7 @@ module _ (xs : List HeadedItem) (qs : List Section) where
   abbrev p : ProgramTable
   p = resolved_with D V R qs
 
-  -- the kind of a class, what it has besides as an event class, and its attributes
+  -- the kind of a class, its further parts as an event class, and its attributes
   abbrev kind : Name → ClassKind
   kind n = class_kind D V R n (kind_of D n)
 
@@ -283,7 +283,7 @@ module _ (xs : List HeadedItem) (qs : List Section) where
         ∙ keys_again (attributes b) keys
         (λ q x. is_attribute xs hs h b q.name (none_in (is_wrong_key D b) q keys e x))
 
-    -- what the item keeps to that breaks ties
+    -- the rules kept by the item that breaks ties
     record IsBreak (n : Name) (keys : List WrittenKey) : Type 0 where
       before : Declared
       right : list_any (is_wrong_key D n) keys ≡ false
@@ -433,7 +433,7 @@ module _ (xs : List HeadedItem) (qs : List Section) where
               (λ n i. class_name n (prior_class n i));
         }
 
--- what items rank, with their headings or without
+-- the rankings of items, with their headings or without
 rankings_are : (is : List ItemAt) →
     rankings is ≡ record {
       disciplines = (items_written (headed_items is)).disciplines;

@@ -1,4 +1,5 @@
--- What items say once: each set's owner, members and discipline, and the keys of each event class's ties.
+-- The facts that items say once: each set's owner, members and discipline, and the keys of each
+-- event class's ties.
 use Rattle.std.proofs.Common.{◌≡◌, Bool, true, false, ◌||◌, cond, List, [], ◌∷◌, ◌++◌, refl, sym, ap, ◌∙◌, subst}
 use Rattle.std.proofs.Common.{Option, Some, None, append_assoc}
 use Rattle.std.specs.Prelude.{map, bytes_eq, option_map}
@@ -19,9 +20,9 @@ use Rattle.ss_check.proofs.SoundLists.{In, apart_from, AreApart}
 use Rattle.ss_check.proofs.SoundItems.{flat_more}
 use Rattle.ss_check.proofs.SoundStatements.{AreItemsKept}
 
--- ---- what is said once of a name
+-- ---- the facts that are said once of a name
 
--- what is said, as the list of it
+-- the fact that is said, as a list of it
 abbrev pub some_list : {A : Type 0} → Option A → List A
 some_list None = []
 some_list (Some a) = a ∷ []
@@ -59,7 +60,7 @@ said_once {A = A} (f ∷ fs) n a = by (bytes_eq n f.name) refl (said_once fs n a
         ap (λ (ws : List A). f.what ∷ ws) (said_none fs n (others ((bytes_eq-Decides n f.name).0 e)))
     by false e rest = rest
 
--- what is said of a name is one of the facts
+-- a fact that is said of a name is one of the facts
 pub said_in : {A : Type 0} (fs : List (Fact A)) (n : Name) (w : A) → In w (said_of fs n) → In (fact n w) fs
 said_in [] n w h = absurd h
 said_in {A = A} (f ∷ fs) n w h = by (bytes_eq n f.name) refl (λ g. said_in fs n w g) h
@@ -110,7 +111,7 @@ once_behind f before (x ∷ xs) h =
     repeats_both (flat_map f before) (f x) (flat_map f xs) h.0
     (subst (λ (ks : List Name). repeats ks (flat_map f xs) ≡ false) (flat_more f before x) rest)
 
--- what is said by items of which none repeats a name is said once
+-- if items repeat no name, each of their facts is said once
 facts_once : {A : Type 0} (g : HeadedItem → List (Fact A)) (f : HeadedItem → List Name) (xs : List HeadedItem) →
     ((x : HeadedItem) → names_of (g x) ≡ f x) → AreOnce f [] xs → (n : Name) →
     said_of (flat_map g xs) n ≡ some_list (fact_of (flat_map g xs) n)
@@ -126,7 +127,7 @@ owners x = owners_in x.item
 abbrev members : HeadedItem → List (Fact Name)
 members x = members_in x.item
 
--- what the items before write, as facts and as names
+-- the contents of the items before, as facts and as names
 before_again : {A : Type 0} (g : HeadedItem → List (Fact A)) (before : List HeadedItem) (ns : List Name) →
     repeats (names_of (flat_map g before)) ns ≡ false → repeats (flat_map (λ x. names_of (g x)) before) ns ≡ false
 before_again g before ns h =

@@ -1,4 +1,4 @@
--- A class stands under one kind of heading wherever items name it.
+-- A class is under one kind of heading, at each place at which items name it.
 use Rattle.std.proofs.Common.{◌≡◌, ◌⊎◌, Bool, true, false, not, cond, List, [], ◌∷◌, ◌++◌, refl, sym, ap, ◌∙◌, subst}
 use Rattle.std.proofs.Common.{Option, Some, None, append_assoc}
 use Rattle.std.specs.Prelude.{option_map}
@@ -30,7 +30,7 @@ use Rattle.ss_check.proofs.SoundStatements.{AreItemsKept}
 use Rattle.ss_check.proofs.NamedUses.{two}
 use Rattle.ss_check.proofs.NamedItemsFacts.{of_name}
 
--- ---- the first fact of a name, behind others
+-- ---- the first fact of a name, after others
 
 first_stays : (o q : Option (Fact NameKind)) (j : NameKind) → option_map (λ f. f.what) o ≡ Some j →
     option_map (λ f. f.what) (option_or o q) ≡ Some j
@@ -46,11 +46,11 @@ fact_both : (fs gs : Facts) (n : Name) →
     fact_of (fs ++ gs) n ≡ option_map (λ f. f.what) (option_or (find (of_name n) fs) (find (of_name n) gs))
 fact_both fs gs n = ap (option_map (λ (f : Fact NameKind). f.what)) (find-append (of_name n) fs gs)
 
--- what is found stays found with more facts behind
+-- a fact that is found is found with more facts after it too
 fact_stays : (fs gs : Facts) (n : Name) (j : NameKind) → fact_of fs n ≡ Some j → fact_of (fs ++ gs) n ≡ Some j
 fact_stays fs gs n j e = fact_both fs gs n ∙ first_stays (find (of_name n) fs) (find (of_name n) gs) j e
 
--- a new name is found where it is put
+-- a new name is found at the place at which it is put
 fact_new : (fs : Facts) (n : Name) (j : NameKind) → fact_of fs n ≡ None → fact_of (fs ++ fact n j ∷ []) n ≡ Some j
 fact_new fs n j e =
     fact_both fs (fact n j ∷ []) n
@@ -91,7 +91,7 @@ again k.Routine h e = cc
 abbrev AreSame : Facts → Type 0
 AreSame fs = (n : Name) (h : Option Heading) → In (fact n (k.Class h)) fs → fact_of fs n ≡ Some (k.Class h)
 
--- so it is behind others, if this does not conflict with what is before
+-- so it is after others, if this does not conflict with the facts before
 abbrev IsFoundBehind : Facts → Name → Option Heading → Fact NameKind → Type 0
 IsFoundBehind before n h f =
     conflicts (fact_of before f.name) f.what ≡ false → fact_of (before ++ f ∷ []) n ≡ Some (k.Class h)
@@ -118,7 +118,7 @@ same_kept (f ∷ fs) before h m =
     let p = or_parts (conflicts (fact_of before f.name) f.what) (one_conflicts (before ++ f ∷ []) fs) h in
     subst AreSame (append_assoc before (f ∷ []) fs) (same_kept fs (before ++ f ∷ []) p.1 (one_same before f p.0 m))
 
--- what the language and these items declare
+-- the declarations of the language and of these items
 abbrev kinds : List HeadedItem → Facts
 kinds xs = language_facts ++ declared xs
 

@@ -44,7 +44,7 @@ each ns = flat_each (all_of ns)
 none : (ns : Several Name) → flat_map {A = Name} (λ (n : Name). []) (all_of ns) ≡ []
 none ns = flat_none (λ n. []) (all_of ns) (λ n. refl)
 
--- a list where a test is passed
+-- a list if a test is passed, else none
 abbrev where_true : {X : Type 0} → Bool → List X → List X
 where_true q xs = cond q xs []
 
@@ -61,13 +61,13 @@ where_flat : {X Y : Type 0} (q : Bool) (f : X → List Y) (zs : List X) →
 where_flat true f zs = refl
 where_flat false f zs = flat_none (λ z. []) zs (λ z. refl)
 
--- what items say, with their headings or without
+-- the facts of items, with their headings or without
 pub entries_say : {A : Type 0} (f : Item → List A) (h : Option Heading) (is : List ItemAt) →
     flat_map (λ (x : HeadedItem). f x.item) (headed_items_under h is) ≡ flat_map (λ (i : ItemAt). f i.item) is
 entries_say f h [] = refl
 entries_say {A = A} f h (i ∷ is) = ap (λ (ys : List A). f i.item ++ ys) (entries_say f (heading_at h i.item) is)
 
--- ---- what facts say of a name
+-- ---- the facts of a name
 
 said_both : {A : Type 0} (n : Name) (xs ys : List (Fact A)) → said_of (xs ++ ys) n ≡ said_of xs n ++ said_of ys n
 said_both {A = A} n xs ys =
@@ -98,7 +98,8 @@ said_map {A = A} n m (w ∷ ws) =
 
 -- ---- the names that pass a test
 
--- what a test takes: of a class under a heading, a set, an attribute of a class and a variable
+-- the names that a test takes: of a class under a heading, a set, an attribute of a class and a
+-- variable
 record IsTaken (test : NameKind → Bool) : Type 0 where
   class : Option Heading → Name → List Name
   set : Name → List Name
@@ -187,7 +188,7 @@ module _ (test : NameKind → Bool) (T : IsTaken test) where
   head_is (EventHead n given saving) = refl
   head_is (RoutineHead n given yielded) = T.routines n
 
-  -- what is taken of all that a program declares, where g is what is taken of an item
+  -- the names taken of all that a program declares; g gives the names taken of an item
   kinds_are : (g : Option Heading → Item → List Name) → ((h : Option Heading) (i : Item) → item_taken h i ≡ g h i) →
       (xs : List HeadedItem) (hs : List Head) → taken (all_kinds xs hs)
       ≡ flat_map (λ (x : HeadedItem). g x.heading x.item) xs

@@ -1,4 +1,4 @@
--- What a name is called by what it is declared as, and names found by their numbers.
+-- The words for a name by the kind as which it is declared, and names found by their numbers.
 use Rattle.std.proofs.Common.{◌≡◌, ◌⊎◌, ◌<◌, ℕ, suc, ◌+◌, Bool, true, false, not, cond, List, [], ◌∷◌, ◌++◌, length}
 use Rattle.std.proofs.Common.{refl, sym, ap, ◌∙◌, subst, arith, Option, Some, None}
 use Rattle.std.specs.Prelude.{map, codes, bytes_eq, slice_get}
@@ -35,7 +35,7 @@ function_name Least = codes "MIN.F"
 function_name Quotient = codes "DIV.F"
 function_name Remainder = codes "MOD.F"
 
--- the name of what is of this kind, where the language gives it
+-- the name that the language gives to this kind, if it gives one
 abbrev pub IsCalled : Name → NameKind → Type 0
 IsCalled n (k.Function f) = n ≡ function_name f
 IsCalled n k.Clock = n ≡ codes "TIME.V"

@@ -60,7 +60,7 @@ use Rattle.ss_check.proofs.SoundUses.{IsGood, AreGood, good_parts}
 use Rattle.ss_check.proofs.NamedUses.{two, three, IsListed, variable_is, owner_is, value_is, applied_is, target_is}
 use Rattle.ss_check.proofs.NamedUses.{target_at_is}
 
--- ---- words that stay what they are
+-- ---- words that do not change
 
 -- ---- kinds that serve
 

@@ -52,7 +52,7 @@ append_none : (xs : List Name) → xs ++ [] ≡ xs
 append_none [] = refl
 append_none (x ∷ xs) = ap (λ (ys : List Name). x ∷ ys) (append_none xs)
 
--- names of which none is repeated stand behind the table
+-- names without a repeat come after the table
 onto_apart : (xs table ys : List Name) → repeats table xs ≡ false → onto table (xs ++ ys) ≡ onto (table ++ xs) ys
 onto_apart [] table ys h = ap (λ (t : List Name). onto t ys) (sym (append_none table))
 onto_apart (x ∷ xs) table ys h =

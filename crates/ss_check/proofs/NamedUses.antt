@@ -49,7 +49,7 @@ second_of : (a b : Bool) → a ≡ true → (a && b) ≡ false → b ≡ false
 second_of true b g h = h
 second_of false b g h = absurd (false≢true g)
 
--- ---- what the tables have, as the places of a section name it
+-- ---- the contents of the tables, as the places of a section name it
 
 pub record IsListed (d : Declared) (v : Names) (locals : List Name) (p : ProgramTable) : Type 0 where
   pub global : (n : Name) (j : NameKind) → kind_of d n ≡ Some j → is_global j ≡ true →
@@ -123,7 +123,7 @@ module _ (d : Declared) (v : Names) (locals : List Name) (p : ProgramTable) (S :
   value_is n (Some k.Set) e a b h = absurd (true≢false a)
   value_is n (Some k.Routine) e a b h = absurd (true≢false a)
 
-  -- an expression and the expressions behind it are what they are named
+  -- an expression and the expressions after it are those of the text
   abbrev pub IsTold : Expr → Type 0
   IsTold a = named_expr p locals (resolved_expr d v locals a) ≡ a
 

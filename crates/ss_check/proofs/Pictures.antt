@@ -120,7 +120,7 @@ second_false : (a b : Bool) → (a || b) ≡ false → b ≡ false
 second_false false b h = h
 second_false true b h = cc
 
--- what holds of none that is left holds not of the next, nor of one behind it
+-- if no element that is left passes a test, neither does the next, nor one after it
 pub none_here : {X A : Type 0} (t : A → Bool) (f : X → A) (xs : List X) (x : X) (ys : List X) → xs ≡ x ∷ ys →
     list_any t (map f xs) ≡ false → t (f x) ≡ false
 none_here t f xs x ys e h =

@@ -38,7 +38,7 @@ by_picture d m f p ps us e h w =
     (ap (λ (vs : List Use). lowest (use_breaks d vs)) (sym e) ∙ h)
     ∙ ap (λ (b : Bool). lowest (rule_where WrongPicture b)) w)
 
--- else what stands around it
+-- else the rule on the place itself
 pub by_standing : (d : Declared) (m f : Bool) (p : Spot) (ps : List Spot) (us : List Use) → us ≡ uses_from p.place ps →
     lowest (use_breaks d us) ≡ None → has_wrong_picture p.place ≡ false →
     place_rule d m f p ps ≡ lowest (standing_breaks m f p.place)

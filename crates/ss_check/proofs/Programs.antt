@@ -10,7 +10,7 @@ use Rattle.ss_check.specs.Declarations.{heads, declared_by_program}
 use Rattle.ss_check.specs.Resolved.{Rankings, class_table, rankings, program_resolved, resolved_section, set_table}
 use Rattle.ss_check.specs.ResolvedNames.{Names, names, number}
 
--- d: what the tree says; v: its tables; r: its rankings
+-- d: the declarations of the tree; v: its tables; r: its rankings
 pub program_is : (p : Decls) (qs : List Section) (d : Declared) (v : Names) (r : Rankings) (globals : List Name)
     (classes : List ClassTable) (sets : List SetTable) (priority : List ℕ) (sections : List SectionTable) →
     d ≡ declared_by_program p.items qs → v ≡ names d (heads qs) → r ≡ rankings p.items → globals ≡ v.globals →

@@ -16,12 +16,12 @@ fields ps = count_by is_field ps
 fields-cons : (p : Part) (ps : List Part) → fields (p ∷ ps) ≡ cond (is_field p) 1 0 + fields ps
 fields-cons p ps = sum_by-cons (λ (q : Part). cond (is_field q) 1 0) p ps
 
--- 1 where the first part is a field
+-- 1 if the first part is a field
 starts : List Part → ℕ
 starts [] = 0
 starts (p ∷ ps) = cond (is_field p) 1 0
 
--- an asterisk in front is a field more, unless a field stands behind it
+-- an asterisk in front is one field more, unless a field is after it
 fields_with : (ps : List Part) → fields (with_asterisk ps) + starts ps ≡ fields ps + 1
 unfolding starts
 fields_with [] = refl
@@ -37,7 +37,7 @@ starts_with (field n ∷ ps) = refl
 starts_with (byte b ∷ ps) = refl
 starts_with (line_end ∷ ps) = refl
 
--- how many fields begin in bytes, behind an asterisk or not
+-- how many fields begin in bytes, after an asterisk or not
 pub runs : Bool → List ℕ → ℕ
 runs f [] = 0
 runs f (b ∷ bs) = cond ((b == 42) && not f) 1 0 + runs (b == 42) bs

@@ -1,5 +1,5 @@
--- What a declaration brings with it: an attribute its class, a kept attribute its set, N.c its class, a permanent class
--- its N.c.
+-- The companions that a declaration brings: an attribute its class, a kept attribute its set, N.c
+-- its class, a permanent class its N.c.
 use Rattle.std.proofs.Common.{◌≡◌, ◌⊎◌, List, [], ◌∷◌, ◌++◌, refl, sym, ap, subst, Option, Some, None}
 use Rattle.std.specs.Prelude.{map, codes}
 use Rattle.std.specs.List.{flat_map}
@@ -23,7 +23,7 @@ use Rattle.ss_check.proofs.SoundLists.{In, in_left, in_right, in_split, map_in, 
 abbrev pub Facts : Type 0
 Facts = List (Fact NameKind)
 
--- the names that stand as sets, as classes, as variables and as routines
+-- the names that are sets, classes, variables and routines
 pub record Names : Type 0 where
   pub sets : List Name
   pub classes : List Name
@@ -40,7 +40,7 @@ pub record IsCount (L : Facts) (n : Name) : Type 0 where
   pub named : n ≡ codes "N." ++ class
   pub there : HasClass L class
 
--- what a name of this kind brings with it
+-- the companions that a name of this kind brings
 abbrev pub IsClosed : Facts → Names → Name → NameKind → Type 0
 IsClosed L N n (k.Attribute c) = HasClass L c
 IsClosed L N n (k.OwnerKept a s) = In (fact s k.Set) L

@@ -19,7 +19,7 @@ use Rattle.ss_check.proofs.SoundShapes.{branch, Otherwise, no_else, else_with, C
 use Rattle.ss_check.proofs.SoundShapes.{find, compute, flat_block, flat_statement, flat_one, flat_otherwise, flat_loop}
 use Rattle.ss_check.proofs.SoundZipper.{unwind, unwind_both}
 
--- ---- what is said of lists of places, from which depth up
+-- ---- laws of lists of places, from a depth up
 
 module _ (P : ℕ → List Spot → Type 0) where
   pub record Joins : Type 0 where
@@ -27,7 +27,7 @@ module _ (P : ℕ → List Spot → Type 0) where
     pub both : (k : ℕ) (xs ys : List Spot) → P k xs → P k ys → P k (xs ++ ys)
     pub deeper : (k : ℕ) (xs : List Spot) → P 0 xs → P k xs
 
-  -- what is said of single places; statements inside an IF are passed over from depth `inside` up
+  -- laws of single places; statements inside an IF are passed over from depth `inside` up
   pub record Counts : Type 0 where
     pub inside : ℕ
     pub plain : (s : Spot) → is_simple s.place ≡ true → P 0 (s ∷ [])
@@ -120,7 +120,7 @@ module _ (w u n : Place → Bool) where
       never true = refl
       never false = refl
 
-  -- what opens, what passes above it, and what closes
+  -- an opening place, the places that pass above it, and a closing place
   pub closed : (x y : Spot) (xs : List Spot) → w x.place ≡ false → u x.place ≡ true → n x.place ≡ false →
       u y.place ≡ false → n y.place ≡ true → Passes 1 xs → Passes 0 (x ∷ (xs ++ y ∷ []))
   closed x y xs e h i j k m d r b =

@@ -1,4 +1,4 @@
--- What the items of a program without a breach keep to, taken together.
+-- The rules that the items of a program without a breach keep, taken together.
 use Rattle.std.proofs.Common.{◌≡◌, ◌⊎◌, Bool, true, false, not, ◌&&◌, cond, List, [], ◌∷◌, ◌++◌, refl, sym, ap, ◌∙◌}
 use Rattle.std.proofs.Common.{subst, Option, Some, None, append_assoc}
 use Rattle.std.specs.Prelude.{map}
@@ -31,7 +31,7 @@ pub nothing_more : {X : Type 0} (xs : List X) → xs ++ [] ≡ xs
 nothing_more [] = refl
 nothing_more (x ∷ xs) = ap (λ ys. x ∷ ys) (nothing_more xs)
 
--- pieces with one more piece behind
+-- pieces with one more piece after them
 pub flat_more : {X Y : Type 0} (f : X → List Y) (xs : List X) (x : X) → flat_map f (xs ++ x ∷ []) ≡ flat_map f xs ++ f x
 flat_more {Y = Y} f xs x =
     flat_map-append f xs (x ∷ []) ∙ ap (λ (ys : List Y). flat_map f xs ++ ys) (nothing_more (f x))
@@ -89,7 +89,7 @@ set_of_items xs s h = last (in_split (fact s k.Set) (language_facts ++ declared 
 abbrev AreSetsAmong : List Name → List HeadedItem → Type 0
 AreSetsAmong ns xs = (s : Name) → In (fact s k.Set) (declared xs) → is_among s ns ≡ true
 
--- and so is each set where an item first names it
+-- and so is each set at the item that first names it
 abbrev AreNewAmong : Declared → List Name → List HeadedItem → List HeadedItem → Type 0
 AreNewAmong d ns before [] = Unit {0}
 AreNewAmong d ns before (x ∷ xs) =
@@ -250,7 +250,7 @@ module _ (c : Name) where
       by true e = ap (λ (ns : List Name). f.name ∷ ns) e
       by false e = e
 
-  -- what is declared before conflicts with an attribute
+  -- a declaration before that conflicts with an attribute
   attribute_conflicts : (o : Option NameKind) (j : NameKind) → is_attribute_of c j ≡ true → conflicts o j ≡ false →
       o ≡ None
   attribute_conflicts None j a h = refl

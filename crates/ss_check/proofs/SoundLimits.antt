@@ -246,7 +246,7 @@ flat_entries : {X : Type 0} (f : Item → List X) (g : Option Heading) (is : Lis
 flat_entries f g [] = refl
 flat_entries f g (i ∷ is) = ap (λ zs. f i.item ++ zs) (flat_entries f (heading_at g i.item) is)
 
--- each item of a preamble stands in an entry
+-- each item of a preamble is in an entry
 pub entry_of : (g : Option Heading) (is : List ItemAt) (i : ItemAt) → In i is →
     (x : HeadedItem) × In x (headed_items_under g is) × (x.item ≡ i.item)
 entry_of g [] i h = absurd h
@@ -307,7 +307,7 @@ module _ (is : List ItemAt) (hs : List Head) (h : AreItemsKept (declared_by (hea
   abbrev items : List Item
   items = map (λ i. i.item) is
 
-  -- what a class's declaration names
+  -- the names in a class's declaration
   pub class_named : (c : Name) (g : Option Heading) → In (fact c (k.Class g)) (all_kinds (headed_items is) hs) →
       In c (flat_map class_names items)
   class_named c g i =

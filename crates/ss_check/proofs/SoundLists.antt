@@ -128,12 +128,12 @@ filter_in {X = X} test x (y ∷ ys) h = by (test y) refl (λ k. filter_in test x
     by true e rec (inr k) = let p = rec k in (inr p.0, p.1)
     by false e rec k = let p = rec k in (inr p.0, p.1)
 
--- what holds of each member
+-- a law that holds of each member
 pub all_from : {X : Type 0} (P : X → Type 0) (xs : List X) → ((x : X) → In x xs → P x) → All P xs
 all_from P [] h = All-nil P
 all_from P (x ∷ xs) h = All-cons P x xs (h x (inl refl)) (all_from P xs (λ y i. h y (inr i)))
 
--- a list again, where g takes back what f does to each member
+-- a list again, if g takes back the change of f to each member
 pub same_again : {X Y : Type 0} (f : X → Y) (g : Y → X) (xs : List X) → ((x : X) → In x xs → g (f x) ≡ x) →
     map g (map f xs) ≡ xs
 same_again f g [] e = refl
@@ -166,7 +166,7 @@ any_position p (x ∷ xs) h = at_place (p x) (list_any p xs) (position_or_len p 
 pub number_there : (n : Name) (ns : List Name) → In n ns → number n ns < length ns
 number_there n ns h = any_position (bytes_eq n) ns (in_among n ns h)
 
--- what a table of the names' images has there
+-- the entry of a table of the names' images at the number of a name
 pub image_at : {X : Type 0} (f : Name → X) (n : Name) (ns : List Name) → In n ns →
     slice_get (map f ns) (number n ns) ≡ Some (f n)
 image_at f n [] h = absurd h
@@ -258,7 +258,7 @@ apart_none = tt
 pub once_apart : (ns : List Name) → AreApart (each_once ns)
 once_apart ns = onto_apart ns [] apart_none
 
--- names of which none is repeated, behind others
+-- names without a repeat, after others
 repeats_apart : (ns before : List Name) → AreApart before → repeats before ns ≡ false → AreApart (before ++ ns)
 repeats_apart [] before a h = rw (append_none before) a
   where

@@ -1,4 +1,4 @@
--- Where counting finds the places that belong together.
+-- Counting finds the places that belong together.
 use Rattle.std.proofs.Common.{◌≡◌, ℕ, ◌+◌, ◌-◌, Bool, true, false, List, [], ◌∷◌, ◌++◌, length, refl, ap, ◌∙◌, arith}
 use Rattle.std.proofs.Common.{append_assoc, length-append}
 use Rattle.std.specs.Prelude.{if◌then◌else◌}
@@ -15,14 +15,14 @@ use Rattle.ss_check.proofs.SoundZipper.{unwind, At, dropped, taken, onward, past
 use Rattle.ss_check.proofs.SoundCounting.{Passes, PassesBack, stops, joins, joins_back, block_passes, otherwise_passes}
 use Rattle.ss_check.proofs.SoundCounting.{to_end, to_always, to_loop, to_if, to_do, quiet_if, quiet_do, quiet_bare}
 
--- the wanted place behind what is passed over
+-- the wanted place after those that are passed over
 found : (w u n : Place → Bool) (xs : List Spot) (ps : List Spot) (i : ℕ) (b : List Spot) (x y : Spot) (r : List Spot) →
     At ps i b (x ∷ (xs ++ y ∷ r)) → Passes w u n 0 xs → w y.place ≡ true → later ps w u n i ≡ i + 1 + length xs
 found w u n xs ps i b x y r h m e =
     ap (λ (zs : List Spot). i + 1 + distance w u n 0 zs) (dropped ps (i + 1) (x ∷ b) (xs ++ y ∷ r) (onward h))
     ∙ (let a = m 0 (y ∷ r) (omega arith) in let c = stops w u n y r e in omega (arith, a, c))
 
--- the wanted place before what is passed over
+-- the wanted place before those that are passed over
 found_back : (w u n : Place → Bool) (xs : List Spot) (ps : List Spot) (i : ℕ) (b : List Spot) (x y : Spot)
     (r : List Spot) →
     At ps i b (x ∷ (xs ++ y ∷ r)) → PassesBack w u n 0 xs → w x.place ≡ true → earlier ps w u n (i + 1 + length xs) ≡ i
@@ -31,7 +31,7 @@ found_back w u n xs ps i b x y r h m e =
     (taken ps (i + 1 + length xs) (unwind xs (x ∷ b)) (y ∷ r) (past ps (i + 1) (x ∷ b) xs (y ∷ r) (onward h)))
     ∙ (let a = m 0 (x ∷ b) (omega arith) in let c = stops w u n x b e in omega (arith, a, c))
 
--- the ELSE or ALWAYS behind the statements of an IF or ELSE
+-- the ELSE or ALWAYS after the statements of an IF or ELSE
 end_of_branch : (B : Block) (ps : List Spot) (i : ℕ) (b : List Spot) (x y : Spot) (r : List Spot) →
     At ps i b (x ∷ (flat_block B ++ y ∷ r)) → is_branch_end y.place ≡ true →
     branch_end ps i ≡ i + 1 + length (flat_block B)
@@ -39,7 +39,7 @@ end_of_branch B ps i b x y r h e =
     found is_branch_end is_if is_always (flat_block B) ps i b x y r h
     (block_passes (Passes is_branch_end is_if is_always) (joins is_branch_end is_if is_always) to_end B) e
 
--- the same where an ELSE may stand, up to the ALWAYS
+-- the end of a branch if an ELSE may be there, up to the ALWAYS
 pub branch_end_is : (B : Block) (o : Otherwise) (ps : List Spot) (i : ℕ) (b : List Spot) (x : Spot) (m : ℕ)
     (r : List Spot) →
     At ps i b (x ∷ (flat_block B ++ (flat_otherwise o ++ always_at m ∷ r))) →
@@ -87,7 +87,7 @@ start_of_do B ps i b x m r e h =
 
 -- ---- how far the body of a phrase reaches
 
--- the places of a body behind its phrase; what COMPUTE tells is none of it
+-- the places of a body after its phrase; the contents of COMPUTE are none of it
 abbrev pub body : Controlled → ℕ
 body (further g c) = 1 + body c
 body (repeated b l) = length (flat_block b) + 1
@@ -110,7 +110,7 @@ chosen_third false true k l n e f = cc
 chosen_third false false k l n e f = refl
 
 module _ (ps : List Spot) where
-  -- where a phrase ends that controls what begins at i
+  -- the end of a phrase that controls the statement that begins at i
   last_if : (i : ℕ) (b : List Spot) (x : Spot) (a : List Spot) → At ps i b (x ∷ a) → is_if x.place ≡ true →
       last_place ps i ≡ later ps is_always is_if is_always i
   last_if i b x a h e = chosen (is_at ps is_if i) (is_at ps is_do i) _ _ i (is_here is_if ps i b x a h ∙ e)
@@ -129,7 +129,8 @@ module _ (ps : List Spot) where
       chosen_third (is_at ps is_if i) (is_at ps is_do i) _ _ i (is_here is_if ps i b x a h ∙ e)
       (is_here is_do ps i b x a h ∙ f)
 
-  -- what the phrase at i controls is controlled by the phrase behind it, or stands directly there
+  -- the place that the phrase at i controls is controlled by the phrase after it, or is directly
+  -- there
   bare_on : (x : Spot) (a : List Spot) → controls_next_place x.place ≡ false → bare_phrases (x ∷ a) ≡ 0
   bare_on x a e = rw e refl
 

@@ -1,4 +1,4 @@
--- The tables of a program without a breach have what its names stand for.
+-- The tables of a program without a breach have the things that its names denote.
 use Rattle.std.proofs.Common.{◌≡◌, ◌⊎◌, ◌<◌, Bool, true, false, not, List, [], ◌∷◌, ◌++◌, length, refl, sym, ap, ◌∙◌}
 use Rattle.std.proofs.Common.{subst, Option, Some, None}
 use Rattle.std.specs.Prelude.{map, codes, slice_get, unwrap_or}
@@ -59,7 +59,7 @@ no_sets (MainHead ∷ hs) = no_sets hs
 no_sets (EventHead n given saving ∷ hs) = no_sets hs
 no_sets (RoutineHead n given yielded ∷ hs) = no_sets hs
 
--- what places may name, with these locals
+-- the names that places may use, with these locals
 abbrev pub program_scope : Declared → Names → Rankings → List Name → Scope
 program_scope d v r locals = record {
   globals = length v.globals;
@@ -79,7 +79,7 @@ module _ (xs : List HeadedItem) (hs : List Head) (h : AreItemsKept (declared_by 
   abbrev pub L : Facts
   L = all_kinds xs hs
 
-  -- ---- names that stand for something
+  -- ---- names that denote something
 
   pub kind_in : (n : Name) (j : NameKind) → kind_of d n ≡ Some j → In (fact n j) L
   kind_in n j e = fact_in d.kinds n j e

@@ -1,4 +1,4 @@
--- Which phrases stand around the places of a tree.
+-- The phrases around the places of a tree.
 use Rattle.std.proofs.Common.{◌≡◌, ◌≤◌, ◌<◌, ℕ, suc, ◌+◌, ◌&&◌, ◌||◌, Bool, true, false, nat_lt, List, [], ◌∷◌, ◌++◌}
 use Rattle.std.proofs.Common.{length, refl, sym, ap, ◌∙◌, arith, append_assoc, length-append}
 use Rattle.std.specs.Prelude.{if◌then◌else◌, bytes_eq}
@@ -23,7 +23,7 @@ Shut ps i j = (n : ℕ) → j ≤ n → phrases_before ps n j ≡ phrases_before
 abbrev pub Open : List Spot → ℕ → ℕ → List ℕ → Type 0
 Open ps i m js = (n : ℕ) → i ≤ n → n < m → phrases_before ps n i ≡ js
 
--- a body is behind its phrase
+-- a body is after its phrase
 pub body_fits : (c : Controlled) (f : Head) → 1 + body c ≤ length (flat_loop f c)
 body_fits (further g c) f = let h = body_fits c g in omega (arith, h)
 body_fits (repeated B l) f = let w = length-append (flat_block B) (loop_at l ∷ []) in omega (arith, w)
@@ -63,7 +63,7 @@ module _ (ps : List Spot) where
       before_next n i
       ∙ without_second (is_at ps is_phrase i) (nat_lt n (behind_body ps i)) i _ (le-ltb n (behind_body ps i) l)
 
-  -- a phrase whose body ends behind n
+  -- a phrase whose body ends after n
   pub open_phrase : (i n : ℕ) (b : List Spot) (x : Spot) (a : List Spot) → At ps i b (x ∷ a) →
       is_phrase x.place ≡ true →
       n < behind_body ps i → phrases_before ps n (i + 1) ≡ i ∷ phrases_before ps n i
@@ -134,7 +134,7 @@ module _ (ps : List Spot) where
         (shut_one i b (else_at l) (flat_block B ++ r) h refl)
         (block_shut B (i + 1) (else_at l ∷ b) r (onward h)))
 
-    -- what stands behind the phrase, and the phrase
+    -- the place after the phrase, and the phrase
     pub loop_shut : (c : Controlled) (f : Head) (i : ℕ) (b r : List Spot) → At ps i b (flat_loop f c ++ r) →
         Shut ps i (i + length (flat_loop f c))
     loop_shut (further g c) f i b r h n l =
@@ -177,7 +177,7 @@ module _ (ps : List Spot) where
         (omega (arith, l))
         ∙ shut_phrase i n (omega (arith, e, l))
 
-  -- ---- what is open
+  -- ---- the open phrases
 
   pub open_past : (i j m : ℕ) (js : List ℕ) → i ≤ j → Open ps i m js → Shut ps i j → Open ps j m js
   open_past i j m js l f g n a b = g n a ∙ f n (omega (arith, l, a)) b
@@ -185,7 +185,7 @@ module _ (ps : List Spot) where
   pub open_below : (i m k : ℕ) (js : List ℕ) → k ≤ m → Open ps i m js → Open ps i k js
   open_below i m k js l f n a b = f n a (omega (arith, l, b))
 
-  -- behind a phrase, up to the end of its body
+  -- after a phrase, up to the end of its body
   pub open_into : (i m k : ℕ) (b : List Spot) (x : Spot) (a : List Spot) (js : List ℕ) → At ps i b (x ∷ a) →
       is_phrase x.place ≡ true →
       behind_body ps i ≡ k → k ≤ m → Open ps i m js → Open ps (i + 1) k (i ∷ js)
@@ -196,7 +196,7 @@ module _ (ps : List Spot) where
   pub around_is : (i m : ℕ) (js : List ℕ) → Open ps i m js → i < m → phrases_around ps i ≡ js
   around_is i m js f l = f i (omega arith) l
 
-  -- ---- where these loops may be open
+  -- ---- the places at which these loops may be open
 
   pub record Goes (js : List ℕ) (n : ℕ) : Type 0 where
     pub place : n < length ps

@@ -35,7 +35,7 @@ get_behind q qs k = let z : k + 1 ≡ suc k = omega arith in ap (slice_get (q �
 some_same : (i j : ℕ) → i ≡ j → Some i ≡ Some j
 some_same i j e = ap (λ (k : ℕ). Some k) e
 
--- found behind one more section, of which the table says nothing of the name
+-- found after one more section; the table says nothing of the name for that one
 one_on : (table : List (Fact ℕ)) (i : ℕ) (n : Name) (q : Section) (qs : List Section) (P : Head → Type 0) →
     IsFound table (i + 1) n qs P →
     IsFound table i n (q ∷ qs) P

@@ -1,4 +1,5 @@
--- The uses of a place without a breach are good: what it takes for a variable is declared, or one of its section's.
+-- The uses of a place without a breach are good: each name that it takes for a variable is
+-- declared, or is one of its section's.
 use Rattle.std.proofs.Common.{◌≡◌, Bool, true, false, List, [], ◌∷◌, ◌++◌, refl, sym, ◌∙◌, Some, None}
 use Rattle.std.specs.Prelude.{if◌then◌else◌}
 use Rattle.std.specs.List.{flat_map}

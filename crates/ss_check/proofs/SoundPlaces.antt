@@ -1,4 +1,4 @@
--- The places of a section without a breach name what is in its tables.
+-- The places of a section without a breach name only entries of its tables.
 use Rattle.std.proofs.Common.{◌≡◌, ℕ, true, false, not, ◌||◌, ◌==◌, List, [], ◌∷◌, ◌++◌, length, refl, ◌∙◌, Option}
 use Rattle.std.proofs.Common.{Some, None}
 use Rattle.std.specs.Prelude.{map}
@@ -110,7 +110,7 @@ module _ (d : Declared) (v : Names) (locals : List Name) (sc : Scope) (S : Scope
 
   -- ---- references
 
-  -- a factor alone
+  -- a factor by itself
   alone : (f : Rattle.ss_program.specs.ProgramExpr.Factor) → IsSoundFactor sc f →
       IsSoundExpr sc (Rattle.ss_check.specs.Resolved.alone f)
   alone f h = ((h, tt), tt)

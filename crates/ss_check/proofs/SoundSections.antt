@@ -1,4 +1,5 @@
--- The sections of a program without a breach are sound, and their places go on where the program has a place.
+-- The sections of a program without a breach are sound, and their places go on at a place of the
+-- program.
 use Rattle.std.proofs.Common.{◌≡◌, ◌≤◌, ◌<◌, ℕ, ◌+◌, ◌^◌, ◌==◌, Bool, true, false, not, ◌||◌, ◌&&◌, cond, List, [], ◌∷◌}
 use Rattle.std.proofs.Common.{◌++◌, length, refl, sym, ap, ◌∙◌, subst, arith, Option, Some, length-append}
 use Rattle.std.specs.Prelude.{map, count_by, unwrap_or, option_map, slice_get, nat_lt}
@@ -60,7 +61,7 @@ use Rattle.ss_check.proofs.SoundTables.{class_is, class_place}
 use Rattle.ss_check.proofs.SoundSteps.{AreSteps, Exits}
 use Rattle.ss_check.proofs.SoundTrees.{IsOfTree, tree_steps, tree_ended}
 
--- ---- where places go on
+-- ---- the next places of places
 
 -- a CALL is one of a routine
 abbrev IsCalled : List SectionTable → Place → Type 0
@@ -183,7 +184,7 @@ module _ (is : List ItemAt) (qs : List Section) (h : AreItemsKept (declared_by_p
 
   -- ---- places
 
-  -- what is said of each place of a section
+  -- a law of each place of a section
   module _ (q : Section) where
     abbrev T : SectionTable
     T = resolved_section D V q

@@ -1,4 +1,4 @@
--- Places of a section as a tree: what stands inside what, whatever the places name.
+-- Places of a section as a tree: which is inside which, regardless of the names at the places.
 use Rattle.std.specs.Prelude.{◌≡◌, ℕ, Bool, true, false, List, [], ◌∷◌, ◌++◌}
 use Rattle.ss_program.specs.declared.branch.Question.{Question}
 use Rattle.ss_program.specs.declared.branch.Branch.TheVariants.{If, Else, Always}
@@ -30,7 +30,7 @@ else_at l = record { line = l; place = Branch Else }
 abbrev pub always_at : ℕ → Spot
 always_at l = record { line = l; place = Branch Always }
 
--- a phrase, and what it goes through
+-- a phrase, and its range
 pub record Head : Type 0 where
   pub line : ℕ
   pub phrase : Phrase

@@ -1,4 +1,4 @@
--- What each statement of a program without a breach keeps to.
+-- The rules that each statement of a program without a breach keeps.
 use Rattle.std.proofs.Common.{◌≡◌, ℕ, Bool, true, false, not, ◌||◌, ◌&&◌, List, [], ◌∷◌, ◌++◌, refl, sym, ◌∙◌, Option}
 use Rattle.std.proofs.Common.{Some, None}
 use Rattle.std.specs.Prelude.{map, option_map}
@@ -127,7 +127,7 @@ item_kept d b x h =
     first_of_three false true c h = cc
     first_of_three false false c h = (refl, refl)
 
--- items behind others
+-- items after others
 abbrev pub AreItemsKept : Declared → List HeadedItem → List HeadedItem → Type 0
 AreItemsKept d before [] = Unit {0}
 AreItemsKept d before (x ∷ xs) = IsItemKept d (declared_by before []) x × AreItemsKept d (before ++ x ∷ []) xs
@@ -235,7 +235,7 @@ head_kept d b s h =
     last_of_four false false false true h = cc
     last_of_four false false false false h = (refl, refl)
 
--- sections behind items and other heads
+-- sections after items and other heads
 abbrev pub AreSectionsKept : Declared → List HeadedItem → List Head → List w.Section → Type 0
 AreSectionsKept d xs before [] = Unit {0}
 AreSectionsKept d xs before (s ∷ ss) =

@@ -1,4 +1,4 @@
--- Where the places of a tree go on, and which loops are open there.
+-- The next places of the places of a tree, and the loops that are open there.
 use Rattle.std.proofs.Common.{◌≡◌, ◌≤◌, ◌<◌, ℕ, suc, ◌+◌, ◌-◌, Bool, true, false, List, [], ◌∷◌, ◌++◌, length, drop}
 use Rattle.std.proofs.Common.{refl, sym, ap, ◌∙◌, arith, append_assoc, length-append}
 use Rattle.std.specs.Prelude.{if◌then◌else◌, max}
@@ -31,9 +31,9 @@ use Rattle.ss_check.proofs.SoundNesting.{Open, shut_one, shut_phrase, block_shut
 use Rattle.ss_check.proofs.SoundNesting.{otherwise_shut, loop_shut, body_fits, open_past, open_into, around_is, Goes}
 use Rattle.ss_check.proofs.SoundNesting.{goes_there, goes_back, goes_same, goes_at}
 
--- ---- what holds of a place
+-- ---- laws of a place
 
--- where else it may go on, and how many loops it closes
+-- the other places at which it may go on, and how many loops it closes
 abbrev pub Exits : ℕ → Ways → Place → Type 0
 Exits count w (Branch (If q)) = w.exit < count
 Exits count w (Looping (For f)) = w.exit < count
@@ -203,7 +203,7 @@ module _ (ps : List Spot) where
     nested = let t = goes_same ps outer (drop (chain_before ps i) (phrases_around ps i)) (i + 1) e g in t.loops;
   }
 
-  -- ---- what the place before says
+  -- ---- the facts from the place before
 
   next_is : (i : ℕ) (b a : List Spot) → At ps i b a → next_place ps i
       ≡ (if front_is controls_next_place b then i - 1 else i + 1)
@@ -274,7 +274,7 @@ module _ (ps : List Spot) where
       (omega arith)
       ∙ shut_phrase ps i (i + 1 + 1) (omega (arith, e))
 
-  -- where a false IF goes
+  -- the place to which a false IF goes
   false_goes : (o : Otherwise) (i j m : ℕ) (js : List ℕ) (w : ℕ) (b r : List Spot) → branch_end ps i ≡ j →
       At ps j b (flat_otherwise o ++ always_at w ∷ r) → Open ps j m js → j + length (flat_otherwise o) < m →
       m ≤ length ps →
@@ -312,7 +312,7 @@ module _ (ps : List Spot) where
         back = goes_back ps i js b (for_at f has_do) a h refl here;
       }
 
-  -- h bare phrases stand directly before, js are around, and `outer` outside them; so many more may be open
+  -- h bare phrases are directly before, js are around, `outer` is outside them; `more` may be open
   record Chain (b : List Spot) (js outer : List ℕ) (more : ℕ) : Type 0 where
     before : ℕ
     count : bare_phrases b ≡ before
@@ -335,7 +335,7 @@ module _ (ps : List Spot) where
     few = let l = c.few in omega (arith, l);
   }
 
-  -- FIND behind its phrases
+  -- FIND after its phrases
   finds : (i : ℕ) (b a : List Spot) (js outer : List ℕ) → At ps i b a → Chain b js outer 0 → phrases_around ps i ≡ js →
       Goes ps outer (i + 1) →
       IsStep ps i (Looping Find)
@@ -450,7 +450,7 @@ module _ (ps : List Spot) where
           block_steps B (i + 1) m js (else_at v ∷ b) (always_at w ∷ r) second refl open1 (omega (arith, l)) s p,
         )
 
-    -- a phrase that stands behind a chain of others, around which js are, and outside the whole chain `outer`
+    -- a phrase after a chain of others; js are around it, and `outer` is outside the whole chain
     loop_steps : (c : Controlled) (f : Head) (i m m0 k : ℕ) (js outer : List ℕ) (b r : List Spot) →
         At ps i b (flat_loop f c ++ r) →
         Chain b js outer (suc (phrases_controlled c)) →
@@ -551,7 +551,7 @@ module _ (ps : List Spot) where
 
 -- ---- a section
 
--- the places of a tree and the END behind them
+-- the places of a tree and the END after them
 pub section_steps : (B : Block) (l : ℕ) → phrases_block B ≤ MOST_PHRASES →
     AreSteps (flat_block B ++ record { line = l; place = Control End } ∷ []) 0
     (flat_block B ++ record { line = l; place = Control End } ∷ [])

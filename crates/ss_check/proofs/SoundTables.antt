@@ -50,7 +50,7 @@ use Rattle.ss_check.proofs.SoundNumbers.{event_found, section_at, slice_in}
 
 -- ---- lists
 
--- a name stands at its number
+-- a name is at its number
 name_at : (n : Name) (ns : List Name) → In n ns → slice_get ns (number n ns) ≡ Some n
 name_at n ns h = ap (λ (ms : List Name). slice_get ms (number n ns)) (sym (map_same ns)) ∙ image_at (λ m. m) n ns h
   where

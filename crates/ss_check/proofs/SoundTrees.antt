@@ -1,4 +1,4 @@
--- The places of a section are those of a tree, whatever their names stand for.
+-- The places of a section are those of a tree, for any meaning of their names.
 use Rattle.std.proofs.Common.{◌≡◌, ◌≤◌, ℕ, suc, ◌+◌, true, false, List, [], ◌∷◌, ◌++◌, length, refl, sym, ap, ◌∙◌}
 use Rattle.std.proofs.Common.{subst, arith}
 use Rattle.std.specs.Prelude.{map}
@@ -254,7 +254,7 @@ module _ (d : Declared) (v : Names) (locals : List Name) (q : Section) (h : IsOf
       (record { line = h.end; place = EndOfSection } ∷ [])
       ∙ ap (λ (zs : List Spot). zs ++ last ∷ []) (sym (block_flat d v locals h.lines h.block h.from))
 
-  -- where its places go on
+  -- the next places of its places
   pub tree_steps : AreSteps places 0 places
   tree_steps =
       rw places_are

@@ -1,4 +1,4 @@
--- What is known of the names of a program without a breach, and what they stand for.
+-- The known facts about the names of a program without a breach, and the things that they denote.
 use Rattle.std.proofs.Common.{◌≡◌, ◌<◌, true, false, not, List, [], ◌∷◌, ◌++◌, length, refl, Option, Some, None}
 use Rattle.std.specs.Prelude.{slice_get, codes}
 use Rattle.std.specs.List.{list_any}
@@ -26,7 +26,7 @@ use Rattle.ss_check.specs.Uses.{Use}
 use Rattle.ss_check.proofs.SoundLists.{In}
 use mathlib.Core.Logic.{inl, inr}
 
--- ---- what the tables have, as the places of a section may name it
+-- ---- the contents of the tables, as the places of a section may name it
 
 pub record Scoped (d : Declared) (v : Names) (locals : List Name) (sc : Scope) : Type 0 where
   pub global : (n : Name) (j : NameKind) → kind_of d n ≡ Some j → is_global j ≡ true → number n v.globals < sc.globals
@@ -85,7 +85,7 @@ module _ (d : Declared) (locals : List Name) where
         good_from us p.1 q.1 r.1 s.1 (λ v i. n v (inr i)),
       )
 
--- ---- what a name stands for
+-- ---- the thing that a name denotes
 
 module _ (d : Declared) (v : Names) (locals : List Name) (sc : Scope) (S : Scoped d v locals sc) where
   local_there : (n : Name) → number n locals < length locals → number n locals < sc.locals

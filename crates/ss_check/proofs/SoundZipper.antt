@@ -10,7 +10,7 @@ use Rattle.ss_program.specs.declared.place.Place.{Place}
 use Rattle.ss_program.specs.declared.place.Spot.{Spot}
 use Rattle.ss_program.specs.Match.{is_at, is_before, passes}
 
--- places behind others that are turned round
+-- places after others that are turned round
 abbrev pub unwind : List Spot → List Spot → List Spot
 unwind [] a = a
 unwind (x ∷ b) a = unwind b (x ∷ a)
@@ -59,7 +59,7 @@ module _ (ps : List Spot) (i : ℕ) (b a : List Spot) (h : At ps i b a) where
 pub onward : {ps : List Spot} {i : ℕ} {x : Spot} {b a : List Spot} → At ps i b (x ∷ a) → At ps (i + 1) (x ∷ b) a
 onward h = record { list = h.list; index = let j = h.index in omega (arith, j) }
 
--- behind several places
+-- after several places
 pub past : (ps : List Spot) (i : ℕ) (b xs a : List Spot) → At ps i b (xs ++ a) → At ps (i + length xs) (unwind xs b) a
 past ps i b xs a h = record {
   list = h.list ∙ unwind_append b xs a;

@@ -1,4 +1,4 @@
--- The first breach of statements one behind the other.
+-- The first breach of statements one after the other.
 use Rattle.std.proofs.Common.{◌≡◌, ℕ, Bool, true, false, not, List, [], ◌∷◌, ◌++◌, refl, sym, ap, subst, ◌∙◌, Option}
 use Rattle.std.proofs.Common.{Some, None}
 use Rattle.std.specs.Prelude.{map, option_map, unwrap_or, Result, Ok, Err, IfOk, IfErr, OnOk}
@@ -27,7 +27,7 @@ option_or-assoc : {T : Type 0} (a b c : Option T) → option_or (option_or a b) 
 option_or-assoc None b c = refl
 option_or-assoc (Some x) b c = refl
 
--- of two lists the first one's, else the second one's
+-- the first breach of two lists: the first one's, else the second one's
 pub first_breach-append : (xs ys : List Statement) →
     first_breach (xs ++ ys) ≡ option_or (first_breach xs) (first_breach ys)
 first_breach-append [] ys = refl
@@ -35,7 +35,7 @@ first_breach-append (x ∷ xs) ys =
     ap (option_or (breach_of x)) (first_breach-append xs ys)
     ∙ sym (option_or-assoc (breach_of x) (first_breach xs) (first_breach ys))
 
--- items behind others
+-- items after others
 items_bridge : (d : Declared) (before xs : List HeadedItem) →
     items_breach d (declared_by before []) xs ≡ first_breach (item_statements d before xs)
 unfolding items_breach
@@ -44,14 +44,14 @@ items_bridge d before (x ∷ xs) =
     ap (option_or (breach_of (item_statement d (declared_by before []) x)))
     (ap (λ (t : Declared). items_breach d t xs) (sym (entry_more before x)) ∙ items_bridge d (before ++ x ∷ []) xs)
 
--- a section behind items and other heads
+-- a section after items and other heads
 section_bridge : (d b : Declared) (s : Section) → section_breach d b s ≡ first_breach (section_statements d b s)
 unfolding section_breach locals_breach places_breach
 section_bridge d b s =
     ap (option_or (breach_of (head_statement d b s)))
     (sym (first_breach-append (map (local_statement d) s.locals) (place_statements d (is_main s.head) false s.places)))
 
--- sections behind items and other heads
+-- sections after items and other heads
 sections_bridge : (d : Declared) (xs : List HeadedItem) (before : List Head) (ss : List Section) →
     sections_breach d (declared_by xs before) ss ≡ first_breach (sections_statements d xs before ss)
 unfolding sections_breach
@@ -91,7 +91,7 @@ fault_first (Broken r l) None b h = cc
 fault_first (Broken r l) (Some x) b h = h
 fault_first Memory a b h = tt
 
--- behind a part without breach a fault of the rest is one of the whole
+-- after a part without breach a fault of the rest is one of the whole
 pub fault_rest : (f : CheckFault) (a b : Option (CheckRule × ℕ)) → a ≡ None → IsBreach f b → IsBreach f (option_or a b)
 fault_rest f None b e h = h
 fault_rest f (Some x) b e h = cc
@@ -145,11 +145,11 @@ section_sound d b s h e k =
 
 -- the tables that a program's parts are looked at with
 pub record AreTables (p : Decls) (ss : List Section) (whole start middle : Declared) : Type 0 where
-  -- what the whole program says
+  -- the declarations of the whole program
   pub all : whole ≡ declared_by_program p.items ss
-  -- what is said before all
+  -- the declarations before all items
   pub none : start ≡ declared_by [] []
-  -- what the items say
+  -- the declarations of the items
   pub items : middle ≡ with_items start (headed_items p.items)
 
 parts : (p : Decls) (ss : List Section) (whole start middle : Declared) → AreTables p ss whole start middle →
@@ -166,7 +166,7 @@ pub fault_items : (f : CheckFault) (p : Decls) (ss : List Section) (whole start 
 fault_items f p ss whole start middle t h =
     subst (IsBreach f) (parts p ss whole start middle t) (fault_first f _ _ h)
 
--- a fault of the sections, where the items have none
+-- a fault of the sections, if the items have none
 pub fault_sections : (f : CheckFault) (p : Decls) (ss : List Section) (whole start middle : Declared) →
     AreTables p ss whole start middle →
     items_breach whole start (headed_items p.items) ≡ None → IsBreach f (sections_breach whole middle ss) →
@@ -174,7 +174,7 @@ pub fault_sections : (f : CheckFault) (p : Decls) (ss : List Section) (whole sta
 fault_sections f p ss whole start middle t e h =
     subst (IsBreach f) (parts p ss whole start middle t) (fault_rest f _ _ e (fault_first f _ _ h))
 
--- what is left at the last END, where neither has one
+-- the breach that is left at the last END, if neither has one
 at_end : (p : Decls) (ss : List Section) (whole start middle : Declared) → AreTables p ss whole start middle →
     items_breach whole start (headed_items p.items) ≡ None → sections_breach whole middle ss ≡ None →
     breach p ss ≡ first_breach
@@ -205,17 +205,17 @@ sound_all p ss whole start middle t e h m =
 
 -- ---- results
 
--- what follows from what holds of a value
+-- a law that follows from a law of a value
 pub ok_more : {T E : Type 0} (r : Result T E) (P Q : Type 0) → (P → Q) → IfOk r (λ x. P) → IfOk r (λ x. Q)
 ok_more (Ok x) P Q f h = f h
 ok_more (Err e) P Q f h = tt
 
--- and of an error
+-- a law that follows from a law of an error
 pub err_more : {T E : Type 0} (r : Result T E) (P Q : E → Type 0) → ((e : E) → P e → Q e) → IfErr r P → IfErr r Q
 err_more (Ok x) P Q f h = tt
 err_more (Err e) P Q f h = f e h
 
--- what holds anyway
+-- a law that holds in any case
 pub ok_anyway : {T E : Type 0} (r : Result T E) (P : Type 0) → P → OnOk r P
 ok_anyway (Ok x) P h = h
 ok_anyway (Err e) P h = tt

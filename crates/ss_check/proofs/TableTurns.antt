@@ -1,4 +1,4 @@
--- The turns of the loops that fill tables, and what tables of references find.
+-- The turns of the loops that fill tables, and the entries that tables of references find.
 use Rattle.std.proofs.Common.{◌≡◌, ℕ, ◌+◌, ◌<◌, ◌≤◌, Bool, true, false, cond, List, [], ◌∷◌, ◌++◌, length, get_or, drop}
 use Rattle.std.proofs.Common.{refl, sym, ap, ◌∙◌, Some, append_assoc}
 use Rattle.std.specs.Prelude.{map, option_map, bytes_eq}
@@ -9,7 +9,7 @@ use Rattle.ss_check.specs.Facts.{Fact, fact, fact_of, names_of}
 use Rattle.ss_check.specs.FactsView.{facts_view}
 use Rattle.ss_check.proofs.FactTables.{append_none}
 
--- what is left of a list at an element
+-- the part of a list that is left at an element
 left_at : {X : Type 0} (xs : List X) (i : ℕ) (x : X) → i < length xs → x ≡ get_or xs i x →
     drop i xs ≡ x ∷ drop (i + 1) xs
 left_at xs i x l e = drop_more xs i x l ∙ ap (λ y. y ∷ drop (i + 1) xs) (sym e)
@@ -23,14 +23,14 @@ map_turn f done xs i x whole l e h =
     append_assoc done (f x ∷ []) (map f (drop (i + 1) xs))
     ∙ ap (λ ys. done ++ map f ys) (sym (left_at xs i x l e)) ∙ h
 
--- of what the next is seen as, from a list that is taken apart
+-- of the image of the next element, from a list that is taken apart
 pub maps_turn : {X Y A : Type 0} (f : Y → A) (g : X → Y) (done : List A) (xs : List X) (x : X) (ys : List X)
     (whole : List A) → xs ≡ x ∷ ys → done ++ map f (map g xs) ≡ whole →
     (done ++ f (g x) ∷ []) ++ map f (map g ys) ≡ whole
 maps_turn f g done xs x ys whole e h =
     append_assoc done (f (g x) ∷ []) (map f (map g ys)) ∙ ap (λ zs. done ++ map f (map g zs)) (sym e) ∙ h
 
--- of what the next is seen as
+-- of the image of the next element
 pub seen_turn : {X Y A : Type 0} (f : Y → A) (g : X → Y) (done : List A) (xs : List X) (i : ℕ) (x : X)
     (whole : List A) → i < length xs → x ≡ get_or xs i x → done ++ map f (map g (drop i xs)) ≡ whole →
     (done ++ f (g x) ∷ []) ++ map f (map g (drop (i + 1) xs)) ≡ whole
@@ -42,7 +42,7 @@ pub seen_end : {X Y A : Type 0} (f : Y → A) (g : X → Y) (done : List A) (xs 
 seen_end f g done xs i whole l h =
     sym (append_none done) ∙ ap (λ ys. done ++ map f (map g ys)) (sym (drop_all i xs l)) ∙ h
 
--- where what is put at the end is seen as the function's value
+-- if the image of the element put at the end is the function's value
 pub shown_turn : {X Y A : Type 0} (f : X → A) (g : Y → A) (done : List Y) (y : Y) (xs : List X) (i : ℕ) (x : X)
     (whole : List A) → i < length xs → x ≡ get_or xs i x → g y ≡ f x → map g done ++ map f (drop i xs) ≡ whole →
     map g (done ++ y ∷ []) ++ map f (drop (i + 1) xs) ≡ whole
@@ -58,7 +58,7 @@ shown_end f done xs i whole l h =
 
 -- ---- lists put at the end of a list, each of the next
 
--- F: what is behind each of the next
+-- F: the part that each of the next brings
 pub added_turn : {X A : Type 0} (F : List X → List A) (f : X → List A) (done : List A) (xs : List X) (i : ℕ) (x : X)
     (whole : List A) → ((y : X) (ys : List X) → F (y ∷ ys) ≡ f y ++ F ys) → i < length xs → x ≡ get_or xs i x →
     done ++ F (drop i xs) ≡ whole → (done ++ f x) ++ F (drop (i + 1) xs) ≡ whole
@@ -72,7 +72,7 @@ pub added_end : {X A : Type 0} (F : List X → List A) (done : List A) (xs : Lis
 added_end F done xs i whole none l h =
     sym (append_none done) ∙ ap (λ ys. done ++ ys) (sym none ∙ ap F (sym (drop_all i xs l))) ∙ h
 
--- ---- facts seen by what they say
+-- ---- facts seen by their contents
 
 -- the facts of one more
 pub facts_view_push : {X A : Type 0} (g : X → A) (fs : List (Fact X)) (f : Fact X) →
@@ -85,7 +85,7 @@ pub names_of_view : {X A : Type 0} (g : X → A) (fs : List (Fact X)) → names_
 names_of_view g [] = refl
 names_of_view g (f ∷ fs) = ap (λ (ns : List Name). f.name ∷ ns) (names_of_view g fs)
 
--- what is found of a name
+-- the fact that is found for a name
 pub fact_of_view : {X A : Type 0} (g : X → A) (fs : List (Fact X)) (n : Name) →
     fact_of (facts_view g fs) n ≡ option_map g (fact_of fs n)
 fact_of_view g [] n = refl

@@ -20,7 +20,7 @@ any_map p f (x ∷ xs) = ap (λ (b : Bool). p (f x) || b) (any_map p f xs)
 pub any_append : {X : Type 0} (p : X → Bool) (xs ys : List X) → list_any p (xs ++ ys) ≡ (list_any p xs || list_any p ys)
 any_append p xs ys = list_any-append p xs ys
 
--- one of a list with nothing behind it
+-- one of a list with nothing after it
 pub any_end : {X : Type 0} (p : X → Bool) (xs : List X) → list_any p (xs ++ []) ≡ list_any p xs
 any_end p [] = refl
 any_end p (x ∷ xs) = ap (λ (b : Bool). p x || b) (any_end p xs)
@@ -49,7 +49,7 @@ joins_more (Has ms) ns b h = h
 joins_more (Owns ms) ns b h = h
 joins_more (BelongsTo ms) ns b h = refl
 
--- clauses of the system name a set to which they belong where one of them is BELONGS
+-- clauses of the system name a set to which they belong if one of them is BELONGS
 pub joins_any : (cs : List CodeClause) →
     joins_system None (flat_map joined_in (map clause_view cs)) ≡ list_any (λ c. is_belongs_to (clause_view c)) cs
 joins_any [] = refl

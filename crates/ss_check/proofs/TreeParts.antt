@@ -15,7 +15,7 @@ use Rattle.ss_check.specs.Resolved.{resolved_expr, resolved_sums, resolved_term,
 use Rattle.ss_check.specs.Resolved.{resolved_factor, resolved_exprs, resolved_alternatives, resolved_conjunction}
 use Rattle.ss_check.specs.Resolved.{resolved_additions, resolved_relation}
 
--- a result of which something is this, is that too where the two are the same
+-- if a part of a result is this, it is that too if the two are the same
 pub along : {A B E : Type 0} (r : Result A E) (f : A → B) (y z : B) → IfOk r (λ a. f a ≡ y) → y ≡ z →
     IfOk r (λ a. f a ≡ z)
 along (Ok a) f y z h e = h ∙ e

@@ -26,18 +26,18 @@ use Rattle.ss_check.specs.PlaceRules.{is_find, place_rule}
 use Rattle.ss_check.specs.Statements.{IsBreach}
 use Rattle.ss_check.proofs.Statements.{fault_first}
 
--- what is left of a list at an element
+-- the part of a list that is left at an element
 left_at : {X : Type 0} (xs : List X) (i : ℕ) (x : X) → i < length xs → x ≡ get_or xs i x →
     drop i xs ≡ x ∷ drop (i + 1) xs
 left_at xs i x l e = drop_more xs i x l ∙ ap (λ y. y ∷ drop (i + 1) xs) (sym e)
 
--- a rule is broken on this line, and what stands behind counts no more
+-- a rule is broken on this line, and the part after it counts no more
 pub told : (o : Option CheckRule) (l : ℕ) (rest whole : Option (CheckRule × ℕ)) (r : CheckRule) →
     option_or (option_map (λ k. (k, l)) o) rest ≡ whole → o ≡ Some r → whole ≡ Some (r, l)
 told None l rest whole r h e = cc
 told (Some k) l rest whole r h e = sym h ∙ ap (option_map (λ j. (j, l))) e
 
--- none is, and what stands behind counts
+-- none is broken, and the part after it counts
 pub passed : (o : Option CheckRule) (l : ℕ) (rest whole : Option (CheckRule × ℕ)) →
     option_or (option_map (λ k. (k, l)) o) rest ≡ whole → o ≡ None → rest ≡ whole
 passed None l rest whole h e = h
@@ -55,7 +55,7 @@ unfolding with_items
 filled_turn t h xs i x whole l e k =
     ap (λ (ys : List CodeItemAt). with_items t (headed_items_under h (items_view ys))) (sym (left_at xs i x l e)) ∙ k
 
--- its lowest rule, else the breach of what stands behind it
+-- its lowest rule, else the breach of the part after it
 pub item_turn : (d t : Declared) (h : Option Heading) (xs : List CodeItemAt) (i : ℕ) (x : CodeItemAt)
     (whole : Option (CheckRule × ℕ)) →
     i < length xs → x ≡ get_or xs i x → items_breach d t (headed_items_under h (items_view (drop i xs))) ≡ whole →
@@ -136,7 +136,7 @@ unfolding with_sections
 headed_turn t xs i x whole l e k =
     ap (λ (ys : List CodeSection). with_sections t (map section_view ys)) (sym (left_at xs i x l e)) ∙ k
 
--- the breach of the next section, else of those behind it
+-- the breach of the next section, else of those after it
 pub section_turn : (d t : Declared) (xs : List CodeSection) (i : ℕ) (x : CodeSection) (whole : Option (CheckRule × ℕ)) →
     i < length xs → x ≡ get_or xs i x → sections_breach d t (map section_view (drop i xs)) ≡ whole →
     option_or (section_breach d t (section_view x))
@@ -169,7 +169,7 @@ section_passed d t xs i x whole l e k h =
 
 -- ---- local DEFINEs
 
--- the rule of the next one, else the breach of those behind it
+-- the rule of the next one, else the breach of those after it
 pub local_turn : (d : Declared) (xs : List CodeLocalNames) (i : ℕ) (x : CodeLocalNames)
     (whole : Option (CheckRule × ℕ)) →
     i < length xs → x ≡ get_or xs i x → locals_breach d (map local_view (drop i xs)) ≡ whole →
@@ -208,7 +208,7 @@ locals_end d xs i whole l k = sym k ∙ ap (λ (ys : List CodeLocalNames). local
 
 -- ---- places
 
--- the lowest rule of the first place, else the breach of those behind it
+-- the lowest rule of the first place, else the breach of those after it
 pub place_turn : (d : Declared) (m f : Bool) (p : Spot) (ps : List Spot) →
     places_breach d m f (p ∷ ps)
     ≡ option_or (option_map (λ k. (k, p.line)) (place_rule d m f p ps)) (places_breach d m (is_find p.place) ps)
@@ -260,7 +260,7 @@ last_line_last n (y ∷ ys) x h =
     ap (λ (z : CodeSpot). z.line) (sym (get_or_from_slice_get (y ∷ ys) (length ys) x x (sym e)))
     ∙ sym (last_at y ys n x)
 
--- where there is none the line is the one before
+-- if there is none the line is the one before
 pub last_line_none : (n : ℕ) (xs : List CodeSpot) → None ≡ slice_get xs (length xs - 1) → n ≡ last_line n (spots xs)
 last_line_none n [] h = refl
 last_line_none n (y ∷ ys) h =

@@ -12,37 +12,37 @@ use Rattle.ss_check.specs.Statements.{Statement, rule_where, first_breach}
 use Rattle.ss_check.specs.ItemRules.{item_statement, head_statement, local_statement}
 use Rattle.ss_check.specs.PlaceRules.{place_statements}
 
--- ---- the statements that can break a rule; d: what the whole program says
+-- ---- the statements that can break a rule; d: the declarations of the whole program
 
--- items behind others
+-- items after others
 abbrev pub item_statements : Declared → List HeadedItem → List HeadedItem → List Statement
 item_statements declared before [] = []
 item_statements declared before (x ∷ xs) =
     item_statement declared (declared_by before []) x ∷ item_statements declared (before ++ x ∷ []) xs
 
--- a section; b: what the items and the heads before it say
+-- a section; b: the declarations of the items and the heads before it
 abbrev pub section_statements : Declared → Declared → Section → List Statement
 section_statements d b section =
     head_statement d b section
     ∷ (map (local_statement d) section.locals ++ place_statements d (is_main section.head) false section.places)
 
--- sections behind items and other heads
+-- sections after items and other heads
 abbrev pub sections_statements : Declared → List HeadedItem → List Head → List Section → List Statement
 sections_statements declared xs before [] = []
 sections_statements declared xs before (s ∷ ss) =
     section_statements declared (declared_by xs before) s ++ sections_statements declared xs (before ++ s.head ∷ []) ss
 
--- the line of the last place, or l where there is none
+-- the line of the last place, or l if there is none
 abbrev pub last_line : ℕ → List Spot → ℕ
 last_line l [] = l
 last_line l (p ∷ ps) = last_line p.line ps
 
--- the line of the last END of sections, or l where there are none
+-- the line of the last END of sections, or l if there are none
 abbrev pub last_end : ℕ → List Section → ℕ
 last_end l [] = l
 last_end l (s ∷ ss) = last_end (last_line l s.places) ss
 
--- C11 at the last END, that of the preamble or line 1 where there are no sections: no MAIN
+-- C11 at the last END, that of the preamble or line 1 if there are no sections: no MAIN
 abbrev pub end_statement : Option ℕ → List Section → Statement
 end_statement end sections = record {
   line = last_end (unwrap_or end 1) sections;

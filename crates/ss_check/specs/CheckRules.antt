@@ -1,4 +1,4 @@
--- What the rules of the checker are called in a refusal.
+-- The names of the rules of the checker in a refusal.
 use Rattle.std.specs.Prelude.{ℕ, List, codes}
 use Rattle.ss_check.specs.declared.fault.CheckRule.{CheckRule}
 use Rattle.ss_check.specs.declared.fault.CheckRule.TheVariants as rule

@@ -1,4 +1,5 @@
--- What the items of a preamble and the heads of sections declare, in the order in which they are written.
+-- The declarations of the items of a preamble and of the heads of sections, in the order of the
+-- text.
 use Rattle.std.specs.Prelude.{ℕ, Bool, true, false, List, [], ◌∷◌, ◌++◌, length, map, count_by, bytes_eq, Option, Some}
 use Rattle.std.specs.Prelude.{None}
 use Rattle.std.specs.List.{flat_map, list_any}
@@ -14,7 +15,7 @@ use Rattle.ss_check.specs.NameKind as kinds
 use Rattle.ss_check.specs.Facts.{Fact, is_among, fact, fact_of, names_of}
 use Rattle.ss_check.specs.NameKinds.{language_facts, class_facts, set_facts, names_event}
 
--- ---- what a text declares
+-- ---- the declarations of a text
 
 -- how many parameters a routine has
 pub record Counts : Type 0 where
@@ -23,9 +24,9 @@ pub record Counts : Type 0 where
   -- how many are yielded
   pub yielded : ℕ
 
--- what items and the heads of sections say of names, each list in the order of the text
+-- the declarations of items and of the heads of sections, each list in the order of the text
 pub record Declared : Type 0 where
-  -- what names are declared as
+  -- the kind as which each name is declared
   pub kinds : List (Fact NameKind)
   -- the class of each attribute
   pub attributes : List Name
@@ -52,7 +53,7 @@ pub record Declared : Type 0 where
 
 -- ---- items under their headings
 
--- an item, and where it stands
+-- an item with its line and the heading over it
 pub record HeadedItem : Type 0 where
   -- its line
   pub line : ℕ
@@ -61,12 +62,12 @@ pub record HeadedItem : Type 0 where
   -- the item
   pub item : Item
 
--- the heading over an item that stands behind others under heading: a heading's own, else heading
+-- the heading over an item that is after others under heading: a heading's own, else heading
 abbrev pub heading_at : Option Heading → Item → Option Heading
 heading_at heading (Headed g names) = Some g
 heading_at heading _ = heading
 
--- items behind others under a heading, each under its own
+-- items after others under a heading, each under its own
 abbrev pub headed_items_under : Option Heading → List ItemAt → List HeadedItem
 headed_items_under heading [] = []
 headed_items_under heading (i ∷ is) =
@@ -77,7 +78,7 @@ headed_items_under heading (i ∷ is) =
 abbrev pub headed_items : List ItemAt → List HeadedItem
 headed_items is = headed_items_under None is
 
--- the class whose the clauses of an item are, none for the system
+-- the class to which the clauses of an item belong, none for the system
 abbrev pub class_of_item : Item → Option Name
 class_of_item (OfEvery c clauses) = Some c
 class_of_item _ = None
@@ -88,26 +89,26 @@ clauses_of (OfEvery c clauses) = all_of clauses
 clauses_of (OfSystem clauses) = all_of clauses
 clauses_of _ = []
 
--- the names behind INCLUDE, or none
+-- the names after INCLUDE, or none
 abbrev pub included_names : Option (Several Name) → List Name
 included_names None = []
 included_names (Some names) = all_of names
 
--- ---- what an item declares
+-- ---- the declarations of an item
 
--- what a clause declares for a class or the system
+-- the declarations of a clause for a class or the system
 abbrev pub clause_facts : Option Name → Clause → List (Fact NameKind)
 clause_facts (Some c) (Has names) = map (λ n. fact n (kinds.Attribute c)) (all_of names)
 clause_facts None (Has names) = map (λ n. fact n kinds.Variable) (all_of names)
 clause_facts o (Owns names) = flat_map set_facts (all_of names)
 clause_facts o (BelongsTo names) = flat_map set_facts (all_of names)
 
--- what a DEFINE declares
+-- the declarations of a DEFINE
 abbrev pub definition_facts : Definition → List (Fact NameKind)
 definition_facts (Variables names) = map (λ n. fact n kinds.Variable) (all_of names)
 definition_facts (Sets names kind) = flat_map set_facts (all_of names)
 
--- what an item under a heading declares besides its clauses
+-- the declarations of an item under a heading apart from its clauses
 abbrev pub item_facts : Option Heading → Item → List (Fact NameKind)
 item_facts heading (Headed g names) = flat_map (class_facts (Some g)) (included_names names)
 item_facts heading (OfEvery c clauses) = class_facts heading c
@@ -139,7 +140,7 @@ abbrev pub is_belongs_to : Clause → Bool
 is_belongs_to (BelongsTo names) = true
 is_belongs_to _ = false
 
--- the sets of which a clause says who belongs to them
+-- the sets whose members a clause gives
 abbrev pub joined_in : Clause → List Name
 joined_in (BelongsTo names) = all_of names
 joined_in _ = []
@@ -148,7 +149,7 @@ joined_in _ = []
 abbrev pub owners_in : Item → List (Fact (Option Name))
 owners_in item = map (λ s. fact s (class_of_item item)) (flat_map owned_in (clauses_of item))
 
--- the sets of which an item says who belongs to them
+-- the sets whose members an item gives
 abbrev pub sets_joined : Item → List Name
 sets_joined item = flat_map joined_in (clauses_of item)
 
@@ -157,7 +158,7 @@ abbrev pub members_for : Option Name → List Name → List (Fact Name)
 members_for (Some c) sets = map (λ s. fact s c) sets
 members_for None sets = []
 
--- the class of the members of each set of which an item says who belongs to it
+-- the class of the members of each set whose members an item gives
 abbrev pub members_in : Item → List (Fact Name)
 members_in item = members_for (class_of_item item) (sets_joined item)
 
@@ -245,7 +246,7 @@ routine_facts _ = []
 abbrev pub counts_of : Head → Counts
 counts_of head = record { given = length (given_of head); yielded = length (yielded_of head) }
 
--- the same as a fact on its name
+-- the counts of a routine as a fact on its name
 abbrev pub routine_counts : Head → List (Fact Counts)
 routine_counts (RoutineHead n given yielded) = fact n (counts_of (RoutineHead n given yielded)) ∷ []
 routine_counts _ = []
@@ -257,10 +258,11 @@ events_in _ = []
 
 -- ---- the whole program
 
--- what items and heads say: what names are declared as; the class of each attribute; the owners of sets and the classes
--- of their members; the sets whose discipline is given and the event classes whose ties are broken; the external
--- classes, those that PRIORITY names and all that are named as classes; the event classes that have a section, the
--- routines with the counts of their parameters, and whether there is a MAIN
+-- the declarations of items and heads: the kind of each name; the class of each attribute; the
+-- owners of sets and the classes of their members; the sets whose discipline is given and the event
+-- classes whose ties are broken; the external classes, those that PRIORITY names and all that are
+-- named as classes; the event classes that have a section, the routines with the counts of their
+-- parameters, and whether there is a MAIN
 abbrev pub declared_by : List HeadedItem → List Head → Declared
 declared_by xs hs = record {
   kinds = language_facts ++ flat_map declarations xs ++ flat_map routine_facts hs;
@@ -281,11 +283,11 @@ declared_by xs hs = record {
 abbrev pub heads : List Section → List Head
 heads sections = map (λ s. s.head) sections
 
--- what a whole program says
+-- the declarations of a whole program
 abbrev pub declared_by_program : List ItemAt → List Section → Declared
 declared_by_program is sections = declared_by (headed_items is) (heads sections)
 
--- what a name is declared as; a local variable is not declared
+-- the kind as which a name is declared; a local variable is not declared
 abbrev pub kind_of : Declared → Name → Option NameKind
 kind_of declared name = fact_of declared.kinds name
 

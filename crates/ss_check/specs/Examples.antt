@@ -1,4 +1,5 @@
--- Small programs, and the first rule that each breaks. An item stands on each line from 2 on, and MAIN on line 20.
+-- Small programs, and the first rule that each breaks. An item is on each line from 2 on, and MAIN
+-- on line 20.
 use Rattle.std.specs.Prelude.{◌≡◌, ℕ, ◌+◌, true, false, List, [], ◌∷◌, ◌++◌, length, codes, Option, Some, None}
 use Rattle.ss_words.specs.Lists.{Name, Several}
 use Rattle.ss_preamble.specs.declared.item.Heading.TheVariants.{PermanentEntities, TemporaryEntities, EventNotices}
@@ -61,7 +62,7 @@ name_i = codes "I"
 abbrev pub name_y : Name
 name_y = codes "Y"
 
--- what is no class
+-- a name that is no class
 abbrev pub name_d : Name
 name_d = codes "D"
 
@@ -198,7 +199,7 @@ let_x expression = let_be (plain name_x) expression
 abbrev pub print : List Expr → List ℕ → Place
 print values line = Simply (Exchanges (Print 1 values (line ∷ [])))
 
--- FOR and what it goes through, without DO
+-- FOR and its range, without DO
 abbrev pub for_phrase : Range → Place
 for_phrase r = Loops (For (record { range = r; qualifiers = [] }) false)
 
@@ -280,13 +281,13 @@ NamesAreUsedAsDeclared =
 
 -- ---- C4 and C5
 
--- BELONGS TO S alone; SYSTEM OWNS S twice
+-- only BELONGS TO S; SYSTEM OWNS S twice
 abbrev pub SetsHaveOneOwner : Type 0
 SetsHaveOneOwner =
     (breach_in_main (temporary ∷ every class_t (BelongsTo (one set_s)) ∷ []) [] ≡ Some (WrongOwner, 3))
     × (breach_in_main (system_set ++ system (Owns (one set_s)) ∷ []) [] ≡ Some (WrongOwner, 5))
 
--- SYSTEM OWNS S alone; BELONGS TO S twice; SYSTEM BELONGS TO S
+-- only SYSTEM OWNS S; BELONGS TO S twice; SYSTEM BELONGS TO S
 abbrev pub SetsHaveOneMemberClass : Type 0
 SetsHaveOneMemberClass =
     (breach_in_main (system (Owns (one set_s)) ∷ []) [] ≡ Some (WrongMember, 2))
@@ -356,7 +357,7 @@ FieldsHaveValues =
 
 -- ---- C11
 
--- no sections and no preamble; no sections; a routine alone; a second MAIN
+-- no sections and no preamble; no sections; only a routine; a second MAIN
 abbrev pub ThereIsOneMain : Type 0
 ThereIsOneMain =
     (breach (record { items = []; end = None }) [] ≡ Some (WrongMain, 1))
@@ -386,7 +387,7 @@ SimulationStartsInMain =
 
 -- ---- C14
 
--- IF FOUND directly behind a FIND, behind a statement between, and without a FIND
+-- IF FOUND directly after a FIND, after a statement between, and without a FIND
 abbrev pub FoundIsAskedBehindFind : Type 0
 FoundIsAskedBehindFind =
     (breach_in_main [] (for_number name_i ∷ Loops Find ∷ Branches (If Found) ∷ Branches Always ∷ []) ≡ None)
@@ -396,7 +397,7 @@ FoundIsAskedBehindFind =
 
 -- ---- which breach counts
 
--- of LET TIME.V = 1 (C9) and LET X = ABS.F (C7) the one on the earlier line
+-- LET TIME.V = 1 (C9) and LET X = ABS.F (C7): the one on the earlier line is refused
 abbrev pub EarlierStatementCounts : Type 0
 EarlierStatementCounts =
     (breach_in_main [] (let_be (plain time_v) number ∷ let_x (alone (named abs_f)) ∷ []) ≡ Some (FixedTarget, 21))
@@ -407,8 +408,8 @@ abbrev pub compute_i : Place
 compute_i = Loops (Compute
     (one (record { target = record { name = name_i; subscript = Some number }; statistic = Sum })))
 
--- LET TIME.V = MOD.F breaks C7 and C9; EXTERNAL EVENTS ARE D, D of no class D breaks C1 and C2; of a COMPUTE the two
--- places are one statement
+-- LET TIME.V = MOD.F breaks C7 and C9; EXTERNAL EVENTS ARE D, D of no class D breaks C1 and C2; the
+-- two places of a COMPUTE are one statement
 abbrev pub LowerRuleCounts : Type 0
 LowerRuleCounts =
     (breach_in_main [] (let_be (plain time_v) (alone (named mod_f)) ∷ []) ≡ Some (WrongCount, 21))

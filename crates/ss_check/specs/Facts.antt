@@ -10,7 +10,7 @@ use Rattle.ss_words.specs.Lists.{Name}
 abbrev pub is_among : Name → List Name → Bool
 is_among name names = list_any (bytes_eq name) names
 
--- whether one of these names stands among those before it
+-- whether one of these names is among those before it
 abbrev pub repeats : List Name → List Name → Bool
 repeats before [] = false
 repeats before (n ∷ ns) = is_among n before || repeats (before ++ n ∷ []) ns
@@ -19,17 +19,17 @@ repeats before (n ∷ ns) = is_among n before || repeats (before ++ n ∷ []) ns
 abbrev pub is_one_outside : List Name → List Name → Bool
 is_one_outside others names = list_any (λ n. not (is_among n others)) names
 
--- each name once, where it stands first
+-- each name once, at its first place
 abbrev pub each_once : List Name → List Name
 each_once names = fold (λ table n. if is_among n table then table else table ++ n ∷ []) [] names
 
 -- ---- tables
 
--- a name, and what holds of it
+-- a name, and the fact about it
 pub record Fact (A : Type 0) : Type 0 where
   -- the name
   pub name : Name
-  -- what holds of it
+  -- the fact about it
   pub what : A
 
 -- this holds of a name

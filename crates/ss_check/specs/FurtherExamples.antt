@@ -1,4 +1,5 @@
--- Further small programs, and the first rule that each breaks. Items and MAIN stand as in the examples.
+-- Further small programs, and the first rule that each breaks. Items and MAIN are on lines as in
+-- the examples.
 use Rattle.std.specs.Prelude.{◌≡◌, ℕ, false, List, [], ◌∷◌, ◌++◌, Option, Some, None}
 use Rattle.ss_words.specs.Lists.{Name}
 use Rattle.ss_preamble.specs.declared.item.Heading.TheVariants.{PermanentEntities}
@@ -114,8 +115,9 @@ KeysAreOfTheirClass =
 
 -- ---- names declared twice
 
--- a set of T ranked by W, which the system has and, further down, T; ties of E by W, a variable and, further down, an
--- attribute of E; CALL R of a variable R where, further down, a section ROUTINE R stands
+-- a set of T ranked by W, which the system has and, further down, T; ties of E by W, a variable
+-- and, further down, an attribute of E; CALL R of a variable R with a section ROUTINE R further
+-- down
 abbrev pub SecondDeclarationsAreRefused : Type 0
 SecondDeclarationsAreRefused =
     (breach_in_main

@@ -1,4 +1,4 @@
--- The tables of a program with more items or heads, and the first breach of what stands behind others.
+-- The tables of a program with more items or heads, and the first breach of the parts after others.
 use Rattle.std.specs.Prelude.{◌≡◌, ℕ, Bool, true, false, List, [], ◌∷◌, ◌++◌, map, Option, None}
 use Rattle.std.specs.Option.{option_or}
 use Rattle.ss_preamble.specs.declared.item.Heading.{Heading}
@@ -46,12 +46,12 @@ with_head declared (RoutineHead n given yielded) = record declared {
 }
 with_head declared (EventHead n given saving) = record declared { events = declared.events ++ n ∷ [] }
 
--- with items behind one another
+-- with items one after another
 unfoldable pub with_items : Declared → List HeadedItem → Declared
 with_items declared [] = declared
 with_items declared (x ∷ xs) = with_items (with_item declared x) xs
 
--- with the heads of sections behind one another
+-- with the heads of sections one after another
 unfoldable pub with_sections : Declared → List Section → Declared
 with_sections declared [] = declared
 with_sections declared (s ∷ ss) = with_sections (with_head declared s.head) ss
@@ -73,7 +73,7 @@ pub record IsOnce (declared : Declared) : Type 0 where
   -- none has two sections
   pub events : repeats [] declared.events ≡ false
 
--- ---- breaches; d: what the whole program says; b: what stands before says
+-- ---- breaches; d: the declarations of the whole program; b: the declarations before
 
 -- the first breach of items
 unfoldable pub items_breach : Declared → Declared → List HeadedItem → Option (CheckRule × ℕ)
@@ -84,7 +84,7 @@ items_breach d b (x ∷ xs) = option_or (breach_of (item_statement d b x)) (item
 unfoldable pub locals_breach : Declared → List LocalNames → Option (CheckRule × ℕ)
 locals_breach declared ls = first_breach (map (local_statement declared) ls)
 
--- the first breach of places, in MAIN or not, directly behind a FIND or not
+-- the first breach of places, in MAIN or not, directly after a FIND or not
 unfoldable pub places_breach : Declared → Bool → Bool → List Spot → Option (CheckRule × ℕ)
 places_breach declared in_main behind_find ps = first_breach (place_statements declared in_main behind_find ps)
 

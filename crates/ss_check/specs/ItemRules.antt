@@ -27,16 +27,16 @@ abbrev pub joins_system : Option Name → List Name → Bool
 joins_system None (s ∷ ss) = true
 joins_system _ _ = false
 
--- ---- what the whole program decides; d: what it declares
+-- ---- the rules that the whole program decides; d: its declarations
 
 module _ (d : Declared) where
-  -- whether BREAK or EXTERNAL is of what is no event class
+  -- whether BREAK or EXTERNAL names no event class
   abbrev pub orders_wrong_class : EventRule → Bool
   orders_wrong_class (BreakTies c keys) = not (is_event_class d c)
   orders_wrong_class (ExternalEvents names) = list_any (λ c. not (is_event_class d c)) (all_of names)
   orders_wrong_class _ = false
 
-  -- C2: EVERY under no heading; BREAK or EXTERNAL of what is no event class
+  -- C2: EVERY under no heading; BREAK or EXTERNAL of no event class
   abbrev pub names_wrong_class : Option Heading → Item → Bool
   names_wrong_class h (OfEvery c clauses) = is_none h
   names_wrong_class h (Orders r) = orders_wrong_class r
@@ -66,7 +66,7 @@ module _ (d : Declared) where
   abbrev pub is_without_section : Name → Bool
   is_without_section c = is_event_class d c && not (is_among c d.events)
 
-  -- C12: a second PRIORITY, behind one that names `before`; a name in it that stands twice or is no event class
+  -- C12: a second PRIORITY, after one that names `before`; a name twice in it or of no event class
   abbrev pub has_wrong_priority : List Name → List Name → Bool
   has_wrong_priority before [] = false
   has_wrong_priority (c ∷ cs) names = true
@@ -80,11 +80,11 @@ module _ (d : Declared) where
   abbrev pub has_too_many : Head → Bool
   has_too_many h = list_any (has_fewer (given_of h)) (events_in h)
 
-  -- C8: a section of what is no event class
+  -- C8: a section of no event class
   abbrev pub lacks_class : Head → Bool
   lacks_class h = list_any (λ c. not (is_event_class d c)) (events_in h)
 
--- ---- items and heads behind others; d: what the whole program declares; b: what the items and heads before do
+-- ---- items and heads after others; d: all declarations of the program; b: those before
 
 module _ (d b : Declared) where
   -- C1: a name that is declared before, a second discipline, a second BREAK, an external class a second time

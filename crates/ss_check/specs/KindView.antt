@@ -1,4 +1,4 @@
--- Private: the pure data that kinds of names, functions and needs of the code stand for.
+-- Private: the pure data for kinds of names, functions and needs of the code.
 use Rattle.ss_check.specs.declared.declared.class_need.ClassNeed.{ClassNeed as CodeNeed}
 use Rattle.ss_check.specs.declared.declared.class_need.ClassNeed.TheVariants as code_need
 use Rattle.ss_check.specs.declared.declared.function.Function.{Function as CodeFunction}

@@ -1,3 +1,4 @@
+-- The modules that specify the checker: declarations, rules, examples, and the resolved program.
 pub mod CheckRules
 pub mod Facts
 pub mod LanguageFunction

@@ -1,4 +1,4 @@
--- What a name is declared as.
+-- The kinds as which names are declared.
 use Rattle.std.specs.Prelude.{Bool, true, false, not, ◌||◌, List, [], ◌∷◌, ◌++◌, codes, bytes_eq, Option, Some, None}
 use Rattle.ss_words.specs.Lists.{Name}
 use Rattle.ss_preamble.specs.declared.item.Heading.{Heading}
@@ -14,7 +14,7 @@ use Rattle.ss_check.specs.Facts.{Fact, fact, fact_of}
 
 -- ---- declarations
 
--- what the language declares before all
+-- the declarations of the language before all
 abbrev pub language_facts : List (Fact NameKind)
 language_facts =
     fact (codes "ABS.F") (kinds.Function Absolute) ∷
@@ -25,7 +25,7 @@ language_facts =
     fact (codes "TIME.V") kinds.Clock ∷
     []
 
--- N.c, where class c stands under the heading of permanent ones
+-- N.c, if class c is under the heading of permanent ones
 abbrev pub count_facts : Option Heading → Name → List (Fact NameKind)
 count_facts (Some PermanentEntities) c = fact (codes "N." ++ c) kinds.ClassCount ∷ []
 count_facts heading c = []
@@ -48,7 +48,7 @@ set_facts s =
 
 -- ---- declared twice
 
--- whether two classes stand under the same kind of heading
+-- whether two classes are under the same kind of heading
 abbrev pub is_same_heading : Option Heading → Option Heading → Bool
 is_same_heading None None = true
 is_same_heading (Some PermanentEntities) (Some PermanentEntities) = true
@@ -56,8 +56,9 @@ is_same_heading (Some TemporaryEntities) (Some TemporaryEntities) = true
 is_same_heading (Some EventNotices) (Some EventNotices) = true
 is_same_heading _ _ = false
 
--- whether a name may be declared twice: a class under one kind of heading, a set; N.c and kept attributes too (two
--- kept attributes of one name are the same one of one set, for the name tells both)
+-- whether a name may be declared twice: a class under one kind of heading, a set; N.c and kept
+-- attributes too (two kept attributes of one name are one attribute of one set, for the name shows
+-- both)
 abbrev pub may_repeat : NameKind → NameKind → Bool
 may_repeat (kinds.Class g) (kinds.Class h) = is_same_heading g h
 may_repeat kinds.Set kinds.Set = true
@@ -66,12 +67,12 @@ may_repeat (kinds.OwnerKept a s) (kinds.OwnerKept b t) = true
 may_repeat (kinds.MemberKept a s) (kinds.MemberKept b t) = true
 may_repeat _ _ = false
 
--- whether what a name is, if it is declared, keeps it from being declared as this
+-- whether a name's kind, if it is declared, keeps it from being declared as this
 abbrev pub conflicts : Option NameKind → NameKind → Bool
 conflicts None kind = false
 conflicts (Some j) kind = not (may_repeat j kind)
 
--- whether one of these declarations conflicts with what its name is by those before it
+-- whether one of these declarations conflicts with the kind of its name by those before it
 abbrev pub one_conflicts : List (Fact NameKind) → List (Fact NameKind) → Bool
 one_conflicts before [] = false
 one_conflicts before (f ∷ fs) = conflicts (fact_of before f.name) f.what || one_conflicts (before ++ f ∷ []) fs
@@ -114,7 +115,7 @@ abbrev pub names_variable : Option NameKind → Bool
 names_variable None = true
 names_variable (Some j) = is_global j
 
--- what has a value and is never assigned: a kept attribute, TIME.V, a function
+-- a name that has a value and is never assigned: a kept attribute, TIME.V, a function
 abbrev pub names_fixed : Option NameKind → Bool
 names_fixed (Some (kinds.OwnerKept a s)) = true
 names_fixed (Some (kinds.MemberKept a s)) = true

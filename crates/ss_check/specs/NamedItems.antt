@@ -1,4 +1,5 @@
--- What a program's tables say of the items of its preamble: each number is the name that its table has there.
+-- A program's tables give the items of its preamble: each number is the name that its table has
+-- there.
 use Rattle.std.specs.Prelude.{◌≡◌, true, List, [], ◌∷◌, ◌++◌, map, codes, bytes_eq, Option, Some, None}
 use Rattle.std.specs.List.{All, filter, flat_map}
 use Rattle.ss_words.specs.Lists.{Name, all_of}
@@ -49,7 +50,7 @@ abbrev pub named_owner : ProgramTable → Owner → Option Name
 named_owner program System = None
 named_owner program (OwnedBy c) = Some (class_of program c).name
 
--- ---- what items write
+-- ---- the contents of items
 
 -- all that facts say of a name, in order
 abbrev pub said_of : {A : Type 0} → List (Fact A) → Name → List A
@@ -79,7 +80,7 @@ globals_in heading (OfSystem clauses) = flat_map clause_has (all_of clauses)
 globals_in heading (Defines (Variables names)) = all_of names
 globals_in heading _ = []
 
--- what items write
+-- the contents of items
 pub record Written : Type 0 where
   -- the global variables, each once in the order in which they are first named
   pub variables : List Name
@@ -87,24 +88,24 @@ pub record Written : Type 0 where
   pub classes : List Name
   -- the sets, in the same way
   pub sets : List Name
-  -- of a class the heading over each item that names it
+  -- each class with the heading over each item that names it
   pub headings : List (Fact (Option Heading))
-  -- of a class the attributes that HAS gives it
+  -- each class with the attributes that HAS gives it
   pub attributes : List (Fact Name)
-  -- of an event class the keys of its BREAK
+  -- each event class with the keys of its BREAK
   pub ties : List (Fact (List WrittenKey))
   -- the classes that EXTERNAL names
   pub external : List Name
   -- the classes that PRIORITY names
   pub priority : List Name
-  -- of a set who owns it: a class, or none for the system
+  -- each set with its owner: a class, or none for the system
   pub owners : List (Fact (Option Name))
-  -- of a set the class of its members
+  -- each set with the class of its members
   pub members : List (Fact Name)
-  -- of a set the discipline of its DEFINE
+  -- each set with the discipline of its DEFINE
   pub disciplines : List (Fact SetDiscipline)
 
--- the same of items under their headings
+-- the contents of items under their headings
 abbrev pub items_written : List HeadedItem → Written
 items_written xs = record {
   variables = each_once (flat_map (λ x. globals_in x.heading x.item) xs);
@@ -120,9 +121,9 @@ items_written xs = record {
   disciplines = flat_map (λ x. disciplines_in x.item) xs;
 }
 
--- ---- the law; p: a program; w: what items write
+-- ---- the law; p: a program; w: the contents of items
 
--- the one thing that is said, or this where nothing is
+-- the one thing that is said, or this if nothing is
 abbrev pub IsSaid : {A : Type 0} → A → List A → A → Type 0
 IsSaid without [] a = a ≡ without
 IsSaid without (b ∷ []) a = a ≡ b
@@ -141,14 +142,14 @@ pub record IsClassOf (program : ProgramTable) (written : Written) (class : Class
   pub variable : name_at program.globals class.variable ≡ class.name
   -- it has the counter or the section of its kind
   pub kind : IsKindOf program class.name class.kind
-  -- each item that names it stands under the heading of its kind
+  -- each item that names it is under the heading of its kind
   pub heading : All (λ h. h ≡ Some (named_heading class.kind)) (said_of written.headings class.name)
   -- its attributes are those that HAS gives it, in order
   pub attributes : class.attributes ≡ said_of written.attributes class.name
   -- the keys that break its ties are those of its one BREAK, or none
   pub ties : IsSaid [] (said_of written.ties class.name)
       (map (named_key class.attributes) (event_of_kind class.kind).ties)
-  -- it is external where EXTERNAL names it
+  -- it is external if EXTERNAL names it
   pub external : (event_of_kind class.kind).external ≡ is_among class.name written.external
 
 -- a set
@@ -176,7 +177,7 @@ pub record IsOfItems (program : ProgramTable) (written : Written) : Type 0 where
   -- the classes of PRIORITY, in order
   pub priority : map (λ c. (class_of program c).name) program.priority ≡ written.priority
 
--- the tables of a program without a breach, each number looked up in its table, say what the items of its preamble say
+-- tables of a program without a breach, numbers looked up in them, give the items of its preamble
 abbrev pub TablesGiveTheItems : Type 0
 TablesGiveTheItems =
     (decls : Decls) (qs : List Section) → breach decls qs ≡ None →

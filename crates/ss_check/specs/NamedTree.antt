@@ -1,4 +1,4 @@
--- The text that a program stands for: each number replaced by the name that its table has there.
+-- The text of a program: each number replaced by the name that its table has there.
 use Rattle.std.specs.Prelude.{◌≡◌, ℕ, Bool, true, false, List, [], ◌∷◌, ◌++◌, map, take, drop, codes, slice_get, Option}
 use Rattle.std.specs.Prelude.{Some, None, option_map, unwrap_or}
 use Rattle.ss_words.specs.Lists.{Name, Several}
@@ -82,13 +82,13 @@ listing_of listing.InParentheses (a ∷ rest) = simple.InParentheses (record { f
 
 -- ---- names of the language
 
--- what a set keeps of its owner
+-- the attribute kept in a set's owner
 abbrev pub owner_kept_name : OwnerKept → Name → Name
 owner_kept_name owner.First name = codes "F." ++ name
 owner_kept_name owner.Last name = codes "L." ++ name
 owner_kept_name owner.Count name = codes "N." ++ name
 
--- what a set keeps of its members
+-- the attribute kept in a set's members
 abbrev pub member_kept_name : MemberKept → Name → Name
 member_kept_name member.Predecessor name = codes "P." ++ name
 member_kept_name member.Successor name = codes "S." ++ name
@@ -161,7 +161,7 @@ module _ (p : ProgramTable) (locals : List Name) where
     named_applied n tree.of_system = text.named n
     named_applied n (tree.at a) = text.applied n (named_expr a) text.no_exprs
 
-    -- the arguments behind the first
+    -- the arguments after the first
     pub named_exprs : tree.Exprs → text.Exprs
     named_exprs tree.no_exprs = text.no_exprs
     named_exprs (tree.exprs a bs) = text.exprs (named_expr a) (named_exprs bs)
@@ -187,12 +187,12 @@ module _ (p : ProgramTable) (locals : List Name) where
   abbrev pub named_set : SetRef → Reference
   named_set r = record { name = (set_of p r.set).name; subscript = named_subscript r.owner }
 
-  -- what stands behind CALLED, if it is written: a target, and a value
+  -- the part after CALLED, if it is written: a target, and a value
   abbrev pub named_called_target : Bool → Target → Option Reference
   named_called_target false t = None
   named_called_target true t = Some (named_target t)
 
-  -- the same of a value
+  -- the part after CALLED, if it is written, as a value
   abbrev pub named_called_value : Bool → tree.Expr → Option Reference
   named_called_value false a = None
   named_called_value true a = Some (named_value a)
@@ -208,7 +208,7 @@ module _ (p : ProgramTable) (locals : List Name) where
     pub named_condition : tree_condition.Condition → text_condition.Condition
     named_condition (tree_condition.any a bs) = text_condition.condition (named_conjunction a) (named_alternatives bs)
 
-    -- what OR joins to it
+    -- the conjunctions that OR joins to it
     pub named_alternatives : tree_condition.Conjunctions → text_condition.Alternatives
     named_alternatives tree_condition.no_conjunctions = text_condition.no_alternatives
     named_alternatives (tree_condition.or_else a bs) =
@@ -218,7 +218,7 @@ module _ (p : ProgramTable) (locals : List Name) where
     pub named_conjunction : tree_condition.Conjunction → text_condition.Conjunction
     named_conjunction (tree_condition.all r rs) = text_condition.conjunction (named_relation r) (named_additions rs)
 
-    -- the relations behind the first
+    -- the relations after the first
     pub named_additions : tree_condition.Relations → text_condition.Additions
     named_additions tree_condition.no_relations = text_condition.no_additions
     named_additions (tree_condition.and_also r rs) = text_condition.addition (named_relation r) (named_additions rs)
@@ -244,7 +244,7 @@ module _ (p : ProgramTable) (locals : List Name) where
   named_making (making.CreateEvery k n count) = simple.CreateEvery (class_of p k).name (option_map named_expr n)
   named_making (making.Destroy k called a) = simple.Destroy (class_of p k).name (named_called_value called a)
 
-  -- where FILE puts a member
+  -- the place at which FILE puts a member
   abbrev pub named_position : Position → simple.FilePlace
   named_position position.ByRule = simple.ByDiscipline
   named_position (position.AtEnd z) = simple.AtEnd z
@@ -269,7 +269,7 @@ module _ (p : ProgramTable) (locals : List Name) where
   named_article (notice.New called t) = A
   named_article (notice.Known called a) = The
 
-  -- what a notice is CALLED
+  -- the reference after CALLED of a notice
   abbrev pub named_notice : Notice → Option Reference
   named_notice (notice.New called t) = named_called_target called t
   named_notice (notice.Known called a) = named_called_value called a
@@ -301,18 +301,18 @@ module _ (p : ProgramTable) (locals : List Name) where
 
   -- ---- FOR phrases
 
-  -- where a walk through a list begins
+  -- the start of a walk through a list
   abbrev pub named_begin : Begin → loops.WalkStart
   named_begin begin.AtTheEnd = loops.AtEnd
   named_begin (begin.From a) = loops.From (named_expr a)
   named_begin (begin.After a) = loops.After (named_expr a)
 
-  -- the variable of FOR EACH behind CALLED, if it is written
+  -- the variable of FOR EACH after CALLED, if it is written
   abbrev pub named_loop_variable : Bool → Variable → Option Name
   named_loop_variable false u = None
   named_loop_variable true u = Some (named_variable u)
 
-  -- what a FOR phrase goes through
+  -- the range of a FOR phrase
   abbrev pub named_range : Phrase → loops.Range
   named_range (phrase.Counting way u a b step) =
       loops.Counting way (named_variable u) (named_expr a) (named_expr b) (option_map named_expr step)
@@ -330,7 +330,7 @@ module _ (p : ProgramTable) (locals : List Name) where
 
   -- ---- places
 
-  -- what an IF asks
+  -- the question of an IF
   abbrev pub named_question : Question → loops.Question
   named_question (question.Whether a) = loops.Holds (named_condition a)
   named_question question.WasFound = loops.Found
@@ -356,7 +356,7 @@ module _ (p : ProgramTable) (locals : List Name) where
       spots.Compute (several (record { target = record { name = []; subscript = None }; statistic = statistics.Number })
       (map named_telling ts))
 
-  -- what ends a section or the run
+  -- the statement that ends a section or the run
   abbrev pub named_control : Control → spots.Place
   named_control control.Stop = spots.Simply (simple.Transfers simple.Stop)
   named_control control.Return = spots.Simply (simple.Transfers simple.Return)

@@ -26,7 +26,7 @@ use Rattle.ss_check.specs.Statements.{Statement, rule_where, lowest}
 abbrev pub is_valueless : Option NameKind → Bool
 is_valueless kind = names_set kind || names_routine kind
 
--- whether a function takes so many arguments
+-- whether a function takes n arguments
 abbrev pub takes : LanguageFunction → ℕ → Bool
 takes Absolute n = n == 1
 takes Greatest n = nat_le 2 n
@@ -43,7 +43,7 @@ abbrev pub is_wrong_call : ℕ → ℕ → Option Counts → Bool
 is_wrong_call values targets None = false
 is_wrong_call values targets (Some c) = has_other_counts values targets c
 
--- d: what the whole program says
+-- d: the declarations of the whole program
 module _ (d : Declared) where
   -- ---- names
 
@@ -59,7 +59,7 @@ module _ (d : Declared) where
   takes_subscript (Some (kinds.MemberKept a s)) = true
   takes_subscript _ = false
 
-  -- what takes no parentheses
+  -- a name that takes no parentheses
   abbrev pub takes_no_parentheses : Option NameKind → Bool
   takes_no_parentheses j = not (names_function j || takes_subscript j)
 
@@ -67,8 +67,8 @@ module _ (d : Declared) where
   abbrev pub is_routine : Name → Bool
   is_routine n = is_among n (names_of d.routines)
 
-  -- C3: a set or a routine as a value or target; a subscript of what takes none, as of a set of the system; no set
-  -- where one is needed; CALL of no routine
+  -- C3: a set or a routine as a value or target; a subscript of a name that takes none, as with a
+  -- set of the system; no set if one is needed; CALL of no routine
   abbrev pub is_misused : Use → Bool
   is_misused (Value n None) = is_valueless (kind_of d n)
   is_misused (Value n (Some c)) = takes_no_parentheses (kind_of d n)
@@ -78,7 +78,7 @@ module _ (d : Declared) where
   is_misused (Routine n values targets) = not (is_routine n)
   is_misused _ = false
 
-  -- whether a function takes another count of arguments, or what takes a subscript has more than one
+  -- whether a function takes another argument count, or a name that takes a subscript has several
   abbrev pub has_wrong_arguments : Option NameKind → ℕ → Bool
   has_wrong_arguments (Some (kinds.Function f)) n = not (takes f n)
   has_wrong_arguments j n = takes_subscript j && not (n == 1)
@@ -121,7 +121,7 @@ abbrev pub is_find : Place → Bool
 is_find (Loops Find) = true
 is_find _ = false
 
--- what the statement at a place uses; COMPUTE is one statement of two places
+-- the uses of the statement at a place; COMPUTE is one statement of two places
 abbrev pub uses_from : Place → List Spot → List Use
 uses_from (Loops (Gather e)) (q ∷ qs) = uses (Loops (Gather e)) ++ uses q.place
 uses_from place qs = uses place
@@ -134,14 +134,14 @@ use_breaks declared us =
     rule_where WrongCount (list_any (is_wrong_count declared) us) ++
     rule_where FixedTarget (list_any (is_fixed declared) us)
 
--- the rules on what stands around a place. C13: START SIMULATION outside MAIN; C14: IF FOUND or IF NONE not directly
--- behind a FIND
+-- the rules on the surroundings of a place. C13: START SIMULATION outside MAIN; C14: IF FOUND or IF
+-- NONE not directly after a FIND
 abbrev pub standing_breaks : Bool → Bool → Place → List CheckRule
 standing_breaks in_main behind_find place =
     rule_where StartOutsideMain (is_start place && not in_main)
     ++ rule_where WithoutFind (asks_find place && not behind_find)
 
--- a place, with what it uses, and the rules that it breaks
+-- a place, with its uses, and the rules that it breaks
 abbrev pub place_statement : Declared → Bool → Bool → List Use → Spot → Statement
 place_statement declared in_main behind_find us spot = record {
   line = spot.line;
@@ -151,12 +151,12 @@ place_statement declared in_main behind_find us spot = record {
       standing_breaks in_main behind_find spot.place;
 }
 
--- the lowest rule that a place breaks, with others behind it
+-- the lowest rule that a place breaks, with others after it
 unfoldable pub place_rule : Declared → Bool → Bool → Spot → List Spot → Option CheckRule
 place_rule declared in_main behind_find spot ps =
     lowest (place_statement declared in_main behind_find (uses_from spot.place ps) spot).breaks
 
--- the places of a section, with whether it is MAIN, and whether a FIND stands directly before
+-- the places of a section, with whether it is MAIN, and whether a FIND is directly before
 abbrev pub place_statements : Declared → Bool → Bool → List Spot → List Statement
 place_statements declared in_main behind_find [] = []
 place_statements declared in_main behind_find (p ∷ ps) =

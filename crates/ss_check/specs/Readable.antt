@@ -1,4 +1,4 @@
--- Private: what is known of the sections of a program that was read.
+-- Private: the known facts about the sections of a program that was read.
 use Rattle.std.specs.Prelude.{◌≡◌, ℕ, ◌<◌, ◌^◌, List, length}
 use Rattle.std.specs.List.{All}
 use Rattle.ss_routines.specs.Places.{Section}

@@ -1,4 +1,4 @@
--- The program that a tree without a breach stands for: each name replaced by its number in its table.
+-- The program of a tree without a breach: each name replaced by its number in its table.
 use Rattle.std.specs.Prelude.{Bool, false, List, [], length, map, codes, Option, Some, None, option_map, is_some}
 use Rattle.std.specs.Prelude.{unwrap_or}
 use Rattle.std.specs.List.{flat_map}
@@ -76,7 +76,7 @@ use Rattle.ss_check.specs.ResolvedNames.{set_number, class_variable, count_varia
 use Rattle.ss_check.specs.ResolvedNames.{resolved_variable, owner_of, member_class, owner_subscript, factor_of}
 use Rattle.ss_check.specs.ResolvedNames.{applied_factor, value_factor, target_of}
 
--- a factor alone as an expression
+-- a factor by itself as an expression
 abbrev pub alone : tree.Factor → tree.Expr
 alone f = tree.expr None (tree.term f tree.no_products) tree.no_sums
 
@@ -85,12 +85,12 @@ abbrev pub resolved_listing : {A : Type 0} → simple.Listing A → Listing
 resolved_listing (simple.InParentheses xs) = listing.InParentheses
 resolved_listing _ = listing.Given
 
--- d: what the whole program says; v: its tables; locals: those of the section
+-- d: the declarations of the whole program; v: its tables; locals: those of the section
 module _ (d : Declared) (v : Names) (locals : List Name) where
   -- ---- expressions
 
   abbrev mutual
-    -- an expression, each name by what it stands for
+    -- an expression, each name by the thing that it denotes
     pub resolved_expr : text.Expr → tree.Expr
     resolved_expr (text.expr l t ts) = tree.expr l (resolved_term t) (resolved_sums ts)
 
@@ -116,7 +116,7 @@ module _ (d : Declared) (v : Names) (locals : List Name) where
         applied_factor d v locals (kind_of d n) n (resolved_expr a) (resolved_exprs bs)
     resolved_factor (text.within a) = tree.within (resolved_expr a)
 
-    -- the arguments behind the first
+    -- the arguments after the first
     pub resolved_exprs : text.Exprs → tree.Exprs
     resolved_exprs text.no_exprs = tree.no_exprs
     resolved_exprs (text.exprs a bs) = tree.exprs (resolved_expr a) (resolved_exprs bs)
@@ -142,12 +142,12 @@ module _ (d : Declared) (v : Names) (locals : List Name) where
     owner = owner_subscript d v locals r.name (resolved_option r.subscript);
   }
 
-  -- behind CALLED, else the variable of the class's name: as a target, and as a value
+  -- after CALLED, else the variable of the class's name: as a target, and as a value
   abbrev pub called_target : Name → Option text_condition.Reference → Target
   called_target n None = target.Variable (Global (class_variable d v locals n))
   called_target n (Some r) = resolved_target r
 
-  -- the same as a value
+  -- after CALLED, else the variable of the class's name, as a value
   abbrev pub called_value : Name → Option text_condition.Reference → tree.Expr
   called_value n None = alone (tree.variable (Global (class_variable d v locals n)))
   called_value n (Some r) = resolved_value r
@@ -160,7 +160,7 @@ module _ (d : Declared) (v : Names) (locals : List Name) where
     resolved_condition (text_condition.condition a bs) =
         tree_condition.any (resolved_conjunction a) (resolved_alternatives bs)
 
-    -- what OR joins to it
+    -- the conjunctions that OR joins to it
     pub resolved_alternatives : text_condition.Alternatives → tree_condition.Conjunctions
     resolved_alternatives text_condition.no_alternatives = tree_condition.no_conjunctions
     resolved_alternatives (text_condition.alternative a bs) =
@@ -171,7 +171,7 @@ module _ (d : Declared) (v : Names) (locals : List Name) where
     resolved_conjunction (text_condition.conjunction r rs) =
         tree_condition.all (resolved_relation r) (resolved_additions rs)
 
-    -- the relations behind the first
+    -- the relations after the first
     pub resolved_additions : text_condition.Additions → tree_condition.Relations
     resolved_additions text_condition.no_additions = tree_condition.no_relations
     resolved_additions (text_condition.addition r rs) =
@@ -200,7 +200,7 @@ module _ (d : Declared) (v : Names) (locals : List Name) where
       making.CreateEvery (class_number d v locals n) (resolved_option a) (count_variable d v locals n)
   resolved_making (simple.Destroy n r) = making.Destroy (class_number d v locals n) (is_some r) (called_value n r)
 
-  -- where FILE puts a member
+  -- the place at which FILE puts a member
   abbrev pub resolved_position : simple.FilePlace → Position
   resolved_position simple.ByDiscipline = position.ByRule
   resolved_position (simple.AtEnd end) = position.AtEnd end
@@ -236,7 +236,7 @@ module _ (d : Declared) (v : Names) (locals : List Name) where
   resolved_when simple.Now = when.Now
   resolved_when (simple.In a) = when.In (resolved_expr a)
 
-  -- SCHEDULE, with its values before CALLED or behind GIVEN
+  -- SCHEDULE, with its values before CALLED or after GIVEN
   abbrev pub resolved_schedule : Article → Name → simple.Details → simple.When → Timing
   resolved_schedule article n (simple.ValuesFirst bs r) at = timing.Schedule (record {
     class = class_number d v locals n;
@@ -276,18 +276,18 @@ module _ (d : Declared) (v : Names) (locals : List Name) where
 
   -- ---- FOR phrases
 
-  -- where a walk through a list begins
+  -- the start of a walk through a list
   abbrev pub resolved_begin : loops.WalkStart → Begin
   resolved_begin loops.AtEnd = begin.AtTheEnd
   resolved_begin (loops.From a) = begin.From (resolved_expr a)
   resolved_begin (loops.After a) = begin.After (resolved_expr a)
 
-  -- the variable behind CALLED, else that of the class's name
+  -- the variable after CALLED, else that of the class's name
   abbrev pub loop_variable : Name → Option Name → Variable
   loop_variable n None = Global (class_variable d v locals n)
   loop_variable n (Some called) = resolved_variable d v locals called
 
-  -- what a FOR phrase goes through
+  -- the range of a FOR phrase
   abbrev pub resolved_range : loops.Range → Phrase
   resolved_range (loops.Counting way n a b step) =
       phrase.Counting way (resolved_variable d v locals n) (resolved_expr a) (resolved_expr b)
@@ -301,7 +301,7 @@ module _ (d : Declared) (v : Names) (locals : List Name) where
   abbrev pub resolved_qualifier : loops.Qualifier → Qualifier
   resolved_qualifier q = record { word = q.word; condition = resolved_condition q.condition }
 
-  -- with whether DO stands behind it
+  -- with whether DO is after it
   abbrev pub resolved_phrase : loops.Phrase → Bool → ForPhrase
   resolved_phrase f has_do = record {
     phrase = resolved_range f.range;
@@ -311,7 +311,7 @@ module _ (d : Declared) (v : Names) (locals : List Name) where
 
   -- ---- places
 
-  -- what an IF asks
+  -- the question of an IF
   abbrev pub resolved_question : loops.Question → Question
   resolved_question (loops.Holds a) = question.Whether (resolved_condition a)
   resolved_question loops.Found = question.WasFound
@@ -348,7 +348,7 @@ module _ (d : Declared) (v : Names) (locals : List Name) where
 
 -- ---- classes and sets
 
--- what items say of orders
+-- the orders that items give
 pub record Rankings : Type 0 where
   -- the disciplines of sets
   pub disciplines : List (Fact SetDiscipline)
@@ -366,21 +366,21 @@ rankings is = record {
 abbrev pub resolved_key : List Name → WrittenKey → Key
 resolved_key attributes key = record { rank = key.rank; attribute = number key.name attributes }
 
--- the discipline of a set whose members have these attributes; FIFO where none is given
+-- the discipline of a set whose members have these attributes; FIFO if none is given
 abbrev pub resolved_discipline : List Name → Option SetDiscipline → Discipline
 resolved_discipline attributes None = disciplines.Fifo
 resolved_discipline attributes (Some Fifo) = disciplines.Fifo
 resolved_discipline attributes (Some Lifo) = disciplines.Lifo
 resolved_discipline attributes (Some (Ranked keys)) = disciplines.Ranked (map (resolved_key attributes) (all_of keys))
 
--- whose a set's lists are, by the names of the classes
+-- the owner of a set's lists, by the names of the classes
 abbrev pub resolved_owner : List Name → Option Name → Owner
 resolved_owner classes None = System
 resolved_owner classes (Some n) = OwnedBy (number n classes)
 
--- d: what the whole program says; v: its tables; r: its rankings
+-- d: the declarations of the whole program; v: its tables; r: its rankings
 module _ (d : Declared) (v : Names) (r : Rankings) where
-  -- what an event class has besides: its section, the keys that break its ties, and whether it is external
+  -- the rest of an event class: its section, its tie-breaking keys, and whether it is external
   abbrev pub event_table : Name → EventTable
   event_table n = record {
     section = event_section d v [] n;
@@ -388,7 +388,7 @@ module _ (d : Declared) (v : Names) (r : Rankings) where
     external = is_among n d.external;
   }
 
-  -- the kind of a class, by what its name is declared as
+  -- the kind of a class, by the kind as which its name is declared
   abbrev pub class_kind : Name → Option NameKind → ClassKind
   class_kind n (Some (kinds.Class (Some PermanentEntities))) = class_kinds.Permanent (count_variable d v [] n)
   class_kind n (Some (kinds.Class (Some EventNotices))) = class_kinds.Event (event_table n)
@@ -420,7 +420,7 @@ section_name MainHead = codes "MAIN"
 section_name (RoutineHead n given yielded) = n
 section_name (EventHead n given saving) = n
 
--- what a section is
+-- the kind of a section
 abbrev pub section_kind : Head → SectionKind
 section_kind MainHead = sections.Main
 section_kind (RoutineHead n given yielded) = sections.Routine
@@ -462,7 +462,7 @@ resolved_section declared v section = section_with declared v (locals_of declare
 
 -- ---- the program
 
--- with what the whole program says, its tables and its rankings
+-- with the declarations of the whole program, its tables and its rankings
 abbrev pub resolved_with : Declared → Names → Rankings → List spots.Section → ProgramTable
 resolved_with declared v rankings qs = record {
   globals = v.globals;

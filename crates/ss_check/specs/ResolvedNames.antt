@@ -1,4 +1,4 @@
--- The tables of a program's names, and what a name stands for: its number in its table.
+-- The tables of a program's names, and the meaning of a name: its number in its table.
 use Rattle.std.specs.Prelude.{ℕ, ◌+◌, Bool, false, if◌then◌else◌, List, [], ◌∷◌, ◌++◌, map, codes, bytes_eq}
 use Rattle.std.specs.Prelude.{slice_index_or, Option, Some, None, unwrap_or}
 use Rattle.std.specs.List.{filter, flat_map, position_or_len}
@@ -67,7 +67,7 @@ attributes_of declared c = names_where (is_attribute_of c) declared.kinds
 abbrev pub attribute_names : Names → Name → List Name
 attribute_names v c = slice_index_or v.attributes (number c v.classes) []
 
--- the names of facts of so many sections, each with the section's number
+-- the names of facts of sections from number i on, each with the section's number
 abbrev pub section_numbers : {A : Type 0} → ℕ → List (List A) → (A → Name) → List (Fact ℕ)
 section_numbers i [] name = []
 section_numbers i (fs ∷ rest) name = map (λ f. fact (name f) i) fs ++ section_numbers (i + 1) rest name
@@ -105,14 +105,14 @@ abbrev pub locals_of : Declared → Section → List Name
 locals_of declared section =
     each_once (parameters section.head ++ flat_map (undeclared_name declared) (variables_used section))
 
--- ---- what a name stands for
+-- ---- the thing that a name denotes
 
 -- the subscript of a set that the system owns; no program without a breach writes one
 abbrev pub system_subscript : Option Expr → Subscript
 system_subscript None = of_system
 system_subscript (Some e) = at e
 
--- d: what the whole program says; v: its tables; locals: those of the section
+-- d: the declarations of the whole program; v: its tables; locals: those of the section
 module _ (d : Declared) (v : Names) (locals : List Name) where
   -- the number of a class
   abbrev pub class_number : Name → ℕ
@@ -148,18 +148,18 @@ module _ (d : Declared) (v : Names) (locals : List Name) where
   variable_of (Some kinds.Clock) n = Clock
   variable_of (Some j) n = Global (number n v.globals)
 
-  -- a variable, by what its name is declared as
+  -- a variable, by the kind as which its name is declared
   abbrev pub resolved_variable : Name → Variable
   resolved_variable n = variable_of (kind_of d n) n
 
-  -- ---- subscripts; without one the variable of the class's name stands for it
+  -- ---- subscripts; if there is none, the variable of the class's name is the subscript
 
-  -- of a class
+  -- the subscript for a class
   abbrev pub class_subscript : Name → Option Expr → Subscript
   class_subscript c None = implied (class_variable c)
   class_subscript c (Some e) = at e
 
-  -- by the owner of a set, a class or the system
+  -- the subscript by the owner of a set, a class or the system
   abbrev pub subscript_of_owner : Option Name → Option Expr → Subscript
   subscript_of_owner None e = system_subscript e
   subscript_of_owner (Some c) e = class_subscript c e
@@ -172,17 +172,17 @@ module _ (d : Declared) (v : Names) (locals : List Name) where
   abbrev pub member_class : Name → Name
   member_class s = unwrap_or (fact_of d.members s) []
 
-  -- of the owner of a set
+  -- the subscript for the owner of a set
   abbrev pub owner_subscript : Name → Option Expr → Subscript
   owner_subscript s e = subscript_of_owner (owner_of s) e
 
-  -- of a member of a set
+  -- the subscript for a member of a set
   abbrev pub member_subscript : Name → Option Expr → Subscript
   member_subscript s e = class_subscript (member_class s) e
 
   -- ---- values and targets
 
-  -- a name with a subscript or none, by what it is declared as
+  -- a name with a subscript or none, by the kind as which it is declared
   abbrev pub factor_of : Option NameKind → Name → Option Expr → Factor
   factor_of (Some (kinds.Attribute c)) n e = attribute (class_number c) (attribute_number c n) (class_subscript c e)
   factor_of (Some (kinds.OwnerKept a s)) n e = owner_kept a (set_number s) (owner_subscript s e)
@@ -202,7 +202,7 @@ module _ (d : Declared) (v : Names) (locals : List Name) where
   function_factor Quotient x xs = factor_of_two quotient x xs
   function_factor Remainder x xs = factor_of_two remainder x xs
 
-  -- a name with arguments: a function of them, or what takes the first as its subscript
+  -- a name with arguments: a function of them, or a name that takes the first as its subscript
   abbrev pub applied_factor : Option NameKind → Name → Expr → Exprs → Factor
   applied_factor (Some (kinds.Function f)) n x xs = function_factor f x xs
   applied_factor j n x xs = factor_of j n (Some x)

@@ -12,7 +12,7 @@ pub record Statement : Type 0 where
   -- the rules that it breaks, the lowest number first
   pub breaks : List CheckRule
 
--- a rule, where it is broken
+-- a rule, if it is broken
 abbrev pub rule_where : CheckRule → Bool → List CheckRule
 rule_where rule b = if b then rule ∷ [] else []
 
@@ -30,7 +30,7 @@ abbrev pub first_breach : List Statement → Option (CheckRule × ℕ)
 first_breach [] = None
 first_breach (s ∷ ss) = option_or (breach_of s) (first_breach ss)
 
--- a fault tells the first breach, unless memory was refused
+-- a fault gives the first breach, unless memory was refused
 abbrev pub IsBreach : CheckFault → Option (CheckRule × ℕ) → Type 0
 IsBreach (Broken r l) b = b ≡ Some (r, l)
 IsBreach Memory b = Unit {0}

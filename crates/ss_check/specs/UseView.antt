@@ -1,4 +1,4 @@
--- Private: the pure data that uses of the code stand for.
+-- Private: the pure data for uses of the code.
 use Rattle.ss_check.specs.declared.uses.use_list.Use.{Use as CodeUse}
 use Rattle.ss_check.specs.declared.uses.use_list.Use.TheVariants as code
 use Rattle.ss_check.specs.KindView.{need_view}

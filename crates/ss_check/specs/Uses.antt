@@ -20,9 +20,9 @@ use Rattle.ss_routines.specs.Places.{Branch, If, Loop, For, Gather, Compute, Pla
 use Rattle.ss_check.specs.ClassNeed.{ClassNeed}
 use Rattle.ss_check.specs.ClassNeed.{Permanent, Ending, Event}
 
--- a value, with how many arguments, if there are parentheses; a target, and a set, with whether there is a subscript; a
--- loop's variable; a class of the kind needed; an event class with so many values; a routine with so many values and
--- targets
+-- a value, with how many arguments, if there are parentheses; a target, and a set, with whether
+-- there is a subscript; a loop's variable; a class of the kind needed; an event class with a number
+-- of values; a routine with numbers of values and targets
 pub data Use : Type 0 where
   Value : Name → Option ℕ → Use
   Target InSet : Name → Bool → Use
@@ -44,7 +44,7 @@ abbrev mutual
   pub uses_expr : Expr → List Use
   uses_expr (expr sign t ss) = uses_term t ++ uses_sums ss
 
-  -- in the terms behind the first
+  -- in the terms after the first
   pub uses_sums : Sums → List Use
   uses_sums no_sums = []
   uses_sums (sum sign t ss) = uses_term t ++ uses_sums ss
@@ -53,7 +53,7 @@ abbrev mutual
   pub uses_term : Term → List Use
   uses_term (term f ps) = uses_factor f ++ uses_products ps
 
-  -- in the factors behind the first
+  -- in the factors after the first
   pub uses_products : Products → List Use
   uses_products no_products = []
   uses_products (product f ps) = uses_factor f ++ uses_products ps
@@ -65,7 +65,7 @@ abbrev mutual
   uses_factor (applied n e es) = Value n (Some (1 + count es)) ∷ (uses_expr e ++ uses_exprs es)
   uses_factor (within e) = uses_expr e
 
-  -- in the arguments behind the first
+  -- in the arguments after the first
   pub uses_exprs : Exprs → List Use
   uses_exprs no_exprs = []
   uses_exprs (exprs e es) = uses_expr e ++ uses_exprs es
@@ -90,12 +90,12 @@ abbrev pub uses_value : Name → Option Expr → List Use
 uses_value name None = Value name None ∷ []
 uses_value name (Some e) = Value name (Some 1) ∷ uses_expr e
 
--- behind CALLED, as a target
+-- after CALLED, as a target
 abbrev pub uses_called_target : Option Reference → List Use
 uses_called_target None = []
 uses_called_target (Some v) = uses_target v
 
--- behind CALLED, as a value
+-- after CALLED, as a value
 abbrev pub uses_called_value : Option Reference → List Use
 uses_called_value None = []
 uses_called_value (Some v) = uses_value v.name v.subscript
@@ -108,7 +108,7 @@ abbrev mutual
   pub uses_condition : Condition → List Use
   uses_condition (condition c cs) = uses_conjunction c ++ uses_alternatives cs
 
-  -- in the alternatives behind the first
+  -- in the alternatives after the first
   pub uses_alternatives : Alternatives → List Use
   uses_alternatives no_alternatives = []
   uses_alternatives (alternative c cs) = uses_conjunction c ++ uses_alternatives cs
@@ -117,7 +117,7 @@ abbrev mutual
   pub uses_conjunction : Conjunction → List Use
   uses_conjunction (conjunction q qs) = uses_relation q ++ uses_additions qs
 
-  -- in the relations behind the first
+  -- in the relations after the first
   pub uses_additions : Additions → List Use
   uses_additions no_additions = []
   uses_additions (addition q qs) = uses_relation q ++ uses_additions qs
@@ -163,7 +163,7 @@ uses_transfer (Call r values targets) =
     (flat_map uses_expr (listing_names values) ++ flat_map uses_target targets)
 uses_transfer _ = []
 
--- what is CALLED: a target behind A, a value behind THE
+-- the reference after CALLED: a target after A, a value after THE
 abbrev pub uses_called : Article → Option Reference → List Use
 uses_called article.A v = uses_called_target v
 uses_called article.The v = uses_called_value v
@@ -173,7 +173,7 @@ abbrev pub values_of : Details → List Expr
 values_of (ValuesFirst values v) = all_of values
 values_of (CalledFirst v values) = values
 
--- the values of a notice and what it is CALLED, as written
+-- the values of a notice and its reference after CALLED, as written
 abbrev pub uses_details : Article → Details → List Use
 uses_details article (ValuesFirst values v) = flat_map uses_expr (all_of values) ++ uses_called article v
 uses_details article (CalledFirst v values) = uses_called article v ++ flat_map uses_expr values
@@ -214,12 +214,12 @@ uses_start (loops.From e) = uses_expr e
 uses_start (loops.After e) = uses_expr e
 uses_start _ = []
 
--- the loop variable behind CALLED
+-- the loop variable after CALLED
 abbrev pub uses_loop_variable : Option Name → List Use
 uses_loop_variable None = []
 uses_loop_variable (Some v) = LoopVariable v ∷ []
 
--- what a phrase goes through
+-- the range of a phrase
 abbrev pub uses_range : loops.Range → List Use
 uses_range (loops.Counting way v x y z) = LoopVariable v ∷ (uses_expr x ++ uses_expr y ++ uses_option z)
 uses_range (loops.Each c v) = OfClass Permanent c ∷ uses_loop_variable v
@@ -231,7 +231,7 @@ uses_phrase phrase = uses_range phrase.range ++ flat_map (λ q. uses_condition q
 
 -- ---- places
 
--- what an IF asks
+-- the question of an IF
 abbrev pub uses_question : loops.Question → List Use
 uses_question (loops.Holds c) = uses_condition c
 uses_question _ = []

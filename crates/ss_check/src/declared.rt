@@ -1,4 +1,5 @@
-//! What names are declared as: the tables of a whole text, filled item by item and head by head.
+//! The kinds as which names are declared: the tables of a whole text, filled item by item and head
+//! by head.
 pub mod class_need;
 pub mod fact;
 pub mod fact_table;

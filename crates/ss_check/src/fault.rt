@@ -1,3 +1,5 @@
+//! The refusals of the checker and the rules that they name.
+
 use std::alloc::{AllocError, AllocFailed};
 use thiserror::Error;
 
@@ -8,7 +10,7 @@ pub enum CheckRule {
     DeclaredTwice,
     /// C2: a class that does not exist or is of another kind.
     WrongClass,
-    /// C3: a name used as what it is not.
+    /// C3: a name used as another kind than its own.
     WrongUse,
     /// C4: a set with no owner, or a second.
     WrongOwner,
@@ -20,17 +22,17 @@ pub enum CheckRule {
     WrongCount,
     /// C8: an event without its section, or a section without its event.
     WrongEvent,
-    /// C9: an assignment to what cannot be assigned.
+    /// C9: an assignment to a name that cannot be assigned.
     FixedTarget,
     /// C10: a picture whose fields are not as many as the values, or a decimal field.
     WrongPicture,
     /// C11: no MAIN, or a second.
     WrongMain,
-    /// C12: a name that may not stand in the order of priority, or a second such order.
+    /// C12: a name that may not be in the order of priority, or a second such order.
     WrongPriority,
     /// C13: START SIMULATION outside MAIN.
     StartOutsideMain,
-    /// C14: IF FOUND or IF NONE not directly behind a FIND.
+    /// C14: IF FOUND or IF NONE not directly after a FIND.
     WithoutFind,
 }
 

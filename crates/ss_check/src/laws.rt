@@ -20,7 +20,7 @@ pub fn variables_are_declared_once()
     ensures { VariablesAreDeclaredOnce }
 {}
 
-/// A class stands under one kind of heading, and a permanent class c has N.c.
+/// A class is under one kind of heading, and a permanent class c has N.c.
 pub fn classes_have_one_kind()
     ensures { ClassesHaveOneKind }
 {}
@@ -35,7 +35,7 @@ pub fn routines_are_declared_once()
     ensures { RoutinesAreDeclaredOnce }
 {}
 
-/// EVERY stands under a heading, and BREAK and EXTERNAL name event classes.
+/// EVERY is under a heading, and BREAK and EXTERNAL name event classes.
 pub fn classes_are_named_under_headings()
     ensures { ClassesAreNamedUnderHeadings }
 {}
@@ -45,7 +45,7 @@ pub fn statements_need_classes()
     ensures { StatementsNeedClasses }
 {}
 
-/// A name is used as what it is declared as.
+/// A name is used as the kind as which it is declared.
 pub fn names_are_used_as_declared()
     ensures { NamesAreUsedAsDeclared }
 {}
@@ -91,7 +91,7 @@ pub fn fields_have_values()
     ensures { FieldsHaveValues }
 {}
 
-/// A program has one MAIN; the last END is refused where there is none, and the second MAIN.
+/// A program has one MAIN. The last END is refused if there is none, and so is the second MAIN.
 pub fn there_is_one_main()
     ensures { ThereIsOneMain }
 {}
@@ -101,23 +101,23 @@ pub fn priority_names_events_once()
     ensures { PriorityNamesEventsOnce }
 {}
 
-/// START SIMULATION stands in MAIN.
+/// START SIMULATION is in MAIN.
 pub fn simulation_starts_in_main()
     ensures { SimulationStartsInMain }
 {}
 
-/// IF FOUND and IF NONE stand directly behind a FIND.
+/// IF FOUND and IF NONE are directly after a FIND.
 pub fn found_is_asked_behind_find()
     ensures { FoundIsAskedBehindFind }
 {}
 
-/// Of two statements that break a rule the earlier one is refused, also where its rule has the
-/// higher number.
+/// If two statements break a rule, the earlier one is refused, even if its rule has the higher
+/// number.
 pub fn earlier_statement_counts()
     ensures { EarlierStatementCounts }
 {}
 
-/// Of two rules that one statement breaks the lower one is told.
+/// If one statement breaks two rules, the lower one is reported.
 pub fn lower_rule_counts()
     ensures { LowerRuleCounts }
 {}
@@ -132,12 +132,12 @@ pub fn orders_are_given_once()
     ensures { OrdersAreGivenOnce }
 {}
 
-/// A local DEFINE names what is not declared.
+/// A local DEFINE names only names that are not declared.
 pub fn locals_have_names_of_their_own()
     ensures { LocalsHaveNamesOfTheirOwn }
 {}
 
-/// EXTERNAL and PRIORITY name event classes, before or behind their headings.
+/// EXTERNAL and PRIORITY name event classes, before or after their headings.
 pub fn orders_name_events()
     ensures { OrdersNameEvents }
 {}
@@ -153,9 +153,9 @@ pub fn keys_are_of_their_class()
     ensures { KeysAreOfTheirClass }
 {}
 
-/// A name that is declared twice is refused at its second declaration, by C1: a key that its class
-/// has is right, and so is the CALL of what a section ROUTINE has as its name, whatever else the
-/// name was declared as before.
+/// A name that is declared twice is refused at its second declaration, by C1. A key that its class
+/// has is right. The CALL of a name that has a section ROUTINE is right too. Neither depends on
+/// other declarations of the name before.
 pub fn second_declarations_are_refused()
     ensures { SecondDeclarationsAreRefused }
 {}
@@ -170,7 +170,7 @@ pub fn yielded_are_counted()
     ensures { YieldedAreCounted }
 {}
 
-/// Of an event class without section the first item that names it is refused, whatever its kind.
+/// The first item that names an event class without section is refused, whatever its kind.
 pub fn first_naming_is_refused()
     ensures { FirstNamingIsRefused }
 {}
@@ -180,7 +180,7 @@ pub fn attributes_may_change()
     ensures { AttributesMayChange }
 {}
 
-/// START SIMULATION does not stand in an event.
+/// START SIMULATION is not in an event.
 pub fn events_start_no_simulation()
     ensures { EventsStartNoSimulation }
 {}
@@ -196,8 +196,8 @@ pub fn tables_give_the_text()
     ensures { TablesGiveTheText }
 {}
 
-/// The tables of a program without a breach, each number looked up in its table, say what the
-/// items of its preamble write: the variables, the classes with their kinds, attributes, ties and
+/// The tables of a program without a breach, each number looked up in its table, give the contents
+/// of the items of its preamble: the variables, the classes with their kinds, attributes, ties and
 /// sections, the sets with their owners, members and disciplines, and the order of priority.
 pub fn tables_give_the_items()
     ensures { TablesGiveTheItems }

@@ -1,11 +1,11 @@
 //! The checker: the first statement that breaks a rule of the language, or the program with the
 //! number of each name in its table (docs/LANGUAGE.md, "Rules of the checker").
 //!
-//! `declared` keeps what a text declares, `uses` tells how its places use names, `rules` finds the
-//! first breach, and `resolved` makes the program.
+//! `declared` keeps the declarations of a text, `uses` gives the uses of names at its places,
+//! `rules` finds the first breach, and `resolved` makes the program.
 //!
-//! Where a function ends early, it lets go by `drop(..)` of what it still owns: so the proof of that
-//! end speaks of no tree.
+//! If a function ends early, it lets go by `drop(..)` of the parts that it still owns: so the proof
+//! of that end speaks of no tree.
 #![tactic(auto)]
 
 mod declared;

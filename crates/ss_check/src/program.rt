@@ -1,3 +1,5 @@
+//! The whole check: the rules first, then the program with its numbers.
+
 ghost use Rattle.std.specs.Prelude.{◌≡◌, false, map, None, IfErr, IfOk};
 ghost use Rattle.std.specs.List.{list_any};
 ghost use Rattle.ss_preamble.specs.Limits.{IsWithin};
@@ -26,12 +28,12 @@ use ss_program::{Class, Program, Set};
 use ss_routines::{Section, Sections};
 use std::alloc::{AllocError, Global};
 
-/// The checked program of what a text declares and of its sections: each name is a number in its
-/// table, and each picture has its fields (docs/LANGUAGE.md, "Rules of the checker"). What is
-/// declared is within the limits, as `preamble` ensures.
+/// The checked program of a text's declarations and of its sections: each name is a number in its
+/// table, and each picture has its fields (docs/LANGUAGE.md, "Rules of the checker"). The
+/// declarations are within the limits, as `preamble` ensures.
 ///
-/// `Broken` tells the first statement that breaks a rule, by its line, and the lowest of the rules
-/// that it breaks; `Memory` that a growth was refused.
+/// `Broken` gives the first statement that breaks a rule, by its line, and the lowest of the rules
+/// that it breaks. `Memory` says that a growth was refused.
 pub fn check(alloc: Global, decls: Decls, sections: Sections) -> Result<Program, CheckFault>
     requires { IsWithin (items_of (preamble.decls_view decls)) }
     ensures sound { IfOk result (λ _. rules.breach (preamble.decls_view decls) sections ≡ None) }
@@ -56,7 +58,7 @@ pub fn check(alloc: Global, decls: Decls, sections: Sections) -> Result<Program,
     }
 }
 
-/// The program of these items and sections, which say `whole` and break no rule.
+/// The program of these items and sections, whose declarations are `whole`, without a breach.
 fn resolve_program(
     alloc: Global,
     whole: &Tables,
@@ -83,8 +85,8 @@ fn resolve_program(
     }
 }
 
-/// The program of these items and sections, whose names these are. Where it ends early, it lets go
-/// by calls: the proof of each end writes out what is still held there.
+/// The program of these items and sections, whose names these are. If it ends early, it lets go by
+/// calls: the proof of each end writes out the parts that are still held there.
 fn resolve_named(
     alloc: Global,
     whole: &Tables,
@@ -133,7 +135,7 @@ struct ClassesAndSets {
     priority: Vec<usize>,
 }
 
-/// What these items, which say `whole`, make of the classes and sets of these names.
+/// The classes and sets of these names, made from these items, whose declarations are in `whole`.
 fn classes_and_sets(
     alloc: Global,
     whole: &Tables,
@@ -155,7 +157,7 @@ fn classes_and_sets(
     made
 }
 
-/// What items that say `whole` and give these rankings make of the classes and sets of these names.
+/// The classes and sets of these names, made from the declarations in `whole` and these rankings.
 fn ranked_classes_and_sets(
     alloc: Global,
     whole: &Tables,
@@ -184,7 +186,7 @@ fn ranked_classes_and_sets(
     }
 }
 
-/// The sets, and the order of the event classes, of items that say `whole` and give these rankings.
+/// The sets, and the order of the event classes, by the declarations `whole` and these rankings.
 fn sets_and_priority(
     alloc: Global,
     whole: &Tables,
@@ -207,8 +209,8 @@ fn sets_and_priority(
     }
 }
 
-/// The sections of a program, with the numbers of their names. What the text says of a section is
-/// let go as soon as the section is made.
+/// The sections of a program, with the numbers of their names. The text of a section is let go as
+/// soon as the section is made.
 fn resolve_sections(
     alloc: Global,
     whole: &Tables,

@@ -1,4 +1,4 @@
-//! The names that a place uses, with what each is used as.
+//! The names that a place uses, each with its use.
 pub mod conditions;
 pub mod expressions;
 pub mod places;

@@ -6,7 +6,7 @@ use Rattle.ss_words.specs.declared.characters.TheConstants.{BLANK}
 use Rattle.ss_words.specs.TextLines.{with_blank_comments}
 use Rattle.ss_words.specs.TextScan.{begins_comment}
 
--- where a comment begins or ends
+-- a comment begins or ends here
 pub at_quotes : (inside : Bool) (rest done : List ℕ) → begins_comment rest ≡ true
     → done ++ with_blank_comments inside rest
     ≡ (done ++ BLANK ∷ BLANK ∷ []) ++ with_blank_comments (not inside) (drop 2 rest)
@@ -20,7 +20,7 @@ at_quotes inside (b ∷ c ∷ bs) done e =
       | false ↦ (if inside then BLANK else b) ∷ with_blank_comments inside (c ∷ bs)
     ]) ≡ (done ++ BLANK ∷ BLANK ∷ []) ++ behind) (sym e) (sym (append_assoc done (BLANK ∷ BLANK ∷ []) behind))
 
--- elsewhere
+-- no comment begins or ends here
 pub at_byte : (inside : Bool) (rest done : List ℕ) → begins_comment rest ≡ false → 0 < length rest
     → done ++ with_blank_comments inside rest
     ≡ (done ++ (if inside then BLANK else slice_index rest 0) ∷ []) ++ with_blank_comments inside (drop 1 rest)
@@ -35,13 +35,13 @@ at_byte inside (b ∷ c ∷ bs) done e n =
       | false ↦ here ∷ behind
     ]) ≡ (done ++ here ∷ []) ++ behind) (sym e) (sym (append_assoc done (here ∷ []) behind))
 
--- a step of a loop where a comment begins or ends
+-- a step of a loop at which a comment begins or ends
 pub quotes_step : (inside : Bool) (rest done new line more : List ℕ) → begins_comment rest ≡ true
     → done ++ with_blank_comments inside rest ≡ line → new ≡ done ++ BLANK ∷ BLANK ∷ [] → more ≡ drop 2 rest
     → new ++ with_blank_comments (not inside) more ≡ line
 quotes_step inside rest done new line more e h n m = rw (n, m) (sym (at_quotes inside rest done e) ∙ h)
 
--- elsewhere
+-- a step of a loop at which none begins or ends
 pub byte_step : (inside : Bool) (rest done new line more : List ℕ) (b : ℕ) → begins_comment rest ≡ false → 0 < length rest
     → done ++ with_blank_comments inside rest ≡ line → b ≡ (if inside then BLANK else slice_index rest 0)
     → new ≡ done ++ b ∷ [] → more ≡ drop 1 rest → new ++ with_blank_comments inside more ≡ line

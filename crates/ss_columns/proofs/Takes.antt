@@ -8,7 +8,7 @@ use Rattle.ss_words.specs.Words.{word_at}
 pub first_views : {X Y : Type 0} (f : X → Y) (n : ℕ) (xs : List X) → map f (take (min n (length xs)) xs) ≡ take n (map f xs)
 first_views f n xs = rw (take_min n xs, take-map f n xs)
 
--- what a slice of them is
+-- a slice of them
 pub ruleset takes = (first_views)
 
 -- the lines of words of the code
@@ -16,5 +16,5 @@ pub lines_in : (ws : List Word) → map (λ w. w.line) (map word_at ws) ≡ map 
 lines_in [] = refl
 lines_in (w ∷ ws) = ap (λ ls. w.line ∷ ls) (lines_in ws)
 
--- what their lines are
+-- their lines
 pub ruleset lines = (lines_in)

@@ -15,7 +15,7 @@ is_kind_among table (number n) = false
 is_kind_among table (sign s) = false
 is_kind_among table (picture ls) = false
 
--- the reserved words that are dropped, unless they stand directly behind these
+-- the reserved words that are dropped, unless they are directly after these
 unfoldable pub dropped_words : List (List ℕ)
 dropped_words = map (λ row. row.now) DROPPED
 

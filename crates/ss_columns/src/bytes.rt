@@ -1,4 +1,4 @@
-//! What the bytes of a line are.
+//! The kinds of a line's bytes: run, blank, sign and stray bytes; and whether a word begins at one.
 #![tactic(auto, unfolding(crate::specs::Columns::begins_run, crate::specs::Columns::begins_word))]
 
 ghost use Rattle.std.specs.Prelude.{◌≡◌, ◌≤◌, is_some, length, take_while};
@@ -26,7 +26,7 @@ pub fn run_len(rest: &[u8]) -> usize
     rest.iter().take_while(|byte| in_run(**byte)).count()
 }
 
-/// A byte that may stand in a line.
+/// A byte that a line may contain.
 #[tactic(auto, unfolding(ss_words::specs::TextBytes::is_allowed))]
 pub fn is_allowed(byte: u8) -> bool
     ensures { result ≡ is_allowed byte }
@@ -57,8 +57,8 @@ fn is_sign(byte: u8) -> bool
         || byte == GREATER_SIGN
 }
 
-/// A byte of a line that may not stand in it, or that is outside comments, where it is `plain`, no
-/// blank, run or sign.
+/// A byte that a line may not contain, or that is outside comments and no blank, run or sign.
+/// `plain` is the byte with comments made blank.
 #[tactic(auto, unfolding(ss_words::specs::TextBytes::is_stray))]
 pub fn is_stray(byte: u8, plain: u8) -> bool
     ensures { result ≡ is_stray byte plain }
@@ -66,7 +66,7 @@ pub fn is_stray(byte: u8, plain: u8) -> bool
     !(is_allowed(byte) && (in_run(plain) || is_blank(plain) || is_sign(plain)))
 }
 
-/// A byte goes on with what the byte before it belongs to.
+/// A byte belongs to the same run or sign as the byte before it.
 #[tactic(auto, unfolding(ss_words::specs::TextBytes::is_joined))]
 pub fn is_joined(last: u8, byte: u8) -> bool
     ensures { result ≡ is_joined last byte }
@@ -91,7 +91,7 @@ fn begins_run(mut rest: &[u8]) -> bool
     false
 }
 
-/// A word begins here, behind this byte.
+/// A word begins here, after the byte `last`.
 pub fn begins_word(last: u8, rest: &[u8]) -> bool
     ensures { result ≡ begins_word last rest.now }
 {

@@ -12,16 +12,16 @@ use ss_words::characters::{BLANK, CARRIAGE_RETURN, LINE_FEED, QUOTE};
 use ss_words::{Word, Words};
 use std::alloc::{AllocError, Global};
 
-/// Where a word of a text stands.
+/// The place of a word in a text.
 #[derive(Clone, Copy, Debug, PartialEq, Eq)]
 pub struct Place {
-    /// Its line, from 1; 0 where there is no such word.
+    /// Its line, from 1; 0 if there is no such word.
     pub line: usize,
-    /// Its column, from 1; `None` for a picture, and where there is no such word.
+    /// Its column, from 1; `None` for a picture, and if there is no such word.
     pub column: Option<usize>,
 }
 
-/// What stands behind the first line feed.
+/// The text after the first line feed.
 #[tactic(auto, unfolding(crate::specs::Columns::behind_feed))]
 pub fn behind_feed(mut text: &[u8]) -> &[u8]
     ensures { result.now ≡ spec.behind_feed text.entry.now }
@@ -35,7 +35,7 @@ pub fn behind_feed(mut text: &[u8]) -> &[u8]
     b""
 }
 
-/// What stands behind so many line feeds.
+/// The text after the first `feeds` line feeds.
 #[tactic(auto, unfolding(crate::specs::Columns::behind_feeds))]
 pub fn behind_feeds(mut feeds: usize, mut text: &[u8]) -> &[u8]
     ensures { result.now ≡ spec.behind_feeds feeds text.entry.now }
@@ -47,7 +47,7 @@ pub fn behind_feeds(mut feeds: usize, mut text: &[u8]) -> &[u8]
     text
 }
 
-/// How many bytes stand before the end of the line at the front.
+/// How many bytes are before the end of the line at the front.
 #[tactic(auto, unfolding(crate::specs::Columns::line_len))]
 fn line_len(text: &[u8]) -> usize
     ensures len { result ≡ spec.line_len text.now }
@@ -65,8 +65,8 @@ fn line_len(text: &[u8]) -> usize
     len
 }
 
-/// Line `number` of a text, from 1, up to its carriage return or line feed; empty where there is
-/// none.
+/// Line `number` of a text, from 1, up to its carriage return or line feed; empty if there is no
+/// such line.
 #[tactic(auto, unfolding(crate::specs::Columns::line_of))]
 pub fn line_of(text: &[u8], number: usize) -> &[u8]
     ensures { result.now ≡ spec.line_of text.now number }
@@ -75,7 +75,7 @@ pub fn line_of(text: &[u8], number: usize) -> &[u8]
     &text[..line_len(text)]
 }
 
-/// Two quotes stand at the front.
+/// Two quotes are at the front.
 #[tactic(auto, unfolding(ss_words::specs::TextScan::begins_comment))]
 fn begins_comment(rest: &[u8]) -> bool
     ensures exact { result ≡ begins_comment rest.now }
@@ -111,7 +111,7 @@ pub fn with_blank_comments(alloc: Global, line: &[u8]) -> Result<Vec<u8>, AllocE
     Ok(plain)
 }
 
-/// The column of the word before which so many stand in a line without comments.
+/// The column of the word that is after `words` words in a line without comments.
 #[tactic(auto, unfolding(crate::specs::Columns::columns_from))]
 fn column_behind(mut words: usize, plain: &[u8]) -> Option<usize>
     ensures { result ≡ slice_get (spec.columns_from 1 BLANK plain.now) words }
@@ -133,7 +133,7 @@ fn column_behind(mut words: usize, plain: &[u8]) -> Option<usize>
     None
 }
 
-/// How many of the words stand on this line.
+/// How many of the words are on this line.
 #[tactic(auto, unfolding(crate::specs::Columns::count_on))]
 fn count_on(line: usize, mut words: &[Word]) -> usize
     ensures { result ≡ spec.count_on line (map word_at words.entry.now) }
@@ -158,7 +158,7 @@ fn line_in(words: &[Word], number: usize) -> usize
     }
 }
 
-/// The line of word `number`, from 0; 0 where there is none.
+/// The line of word `number`, from 0; 0 if there is no such word.
 #[tactic(auto, using(crate::proofs::Takes::lines))]
 pub fn line_at(words: &Words, number: usize) -> usize
     ensures { result ≡ spec.line_at words.now number }
@@ -166,7 +166,7 @@ pub fn line_at(words: &Words, number: usize) -> usize
     line_in(&words.list, number)
 }
 
-/// How many of the words before word `number` stand on this line.
+/// How many of the words before word `number` are on this line.
 #[tactic(auto, using(crate::proofs::Takes::takes))]
 fn count_before(line: usize, words: &Words, number: usize) -> usize
     ensures { result ≡ spec.count_on line (take number words.now) }
@@ -174,8 +174,8 @@ fn count_before(line: usize, words: &Words, number: usize) -> usize
     count_on(line, &words.list[..number.min(words.list.len())])
 }
 
-/// Where word `number`, from 0, of a text stands, whose words these are. It reads the line of the
-/// word, and the words before it.
+/// The place of word `number`, from 0, of a text; `words` are the text's words. It reads the line
+/// of the word, and the words before it.
 #[tactic(auto, unfolding(crate::specs::Columns::column_at, crate::specs::Columns::columns))]
 pub fn place_of(
     alloc: Global,

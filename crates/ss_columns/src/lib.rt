@@ -1,4 +1,4 @@
-//! Where the words of a text stand: their numbers, and the columns at which they begin; and which
+//! The places of the words of a text: their numbers, and the columns at which they begin; and which
 //! reserved words are dropped.
 #![tactic(auto)]
 

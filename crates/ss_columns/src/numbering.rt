@@ -1,4 +1,4 @@
-//! Words with their numbers in the places of their lines.
+//! Copies of words, each with its number in place of its line.
 ghost use Rattle.std.specs.Prelude.{◌≡◌, IfOk, map, take};
 ghost use Rattle.ss_words.specs.Words.{kind_of, word_at};
 ghost use Rattle.ss_columns.specs.Numbers.{words_by_number};
@@ -18,7 +18,7 @@ fn copied(alloc: Global, lines: &[Vec<u8>]) -> Result<Vec<Vec<u8>>, AllocError>
     Ok(copy)
 }
 
-/// A copy of what a word is; names share their bytes.
+/// A copy of a word's kind; names share their bytes.
 pub fn copied_kind(alloc: Global, kind: &WordKind) -> Result<WordKind, AllocError>
     ensures { IfOk result (λ copy. kind_of copy ≡ kind_of kind.now) }
 {
@@ -30,7 +30,7 @@ pub fn copied_kind(alloc: Global, kind: &WordKind) -> Result<WordKind, AllocErro
     })
 }
 
-/// The words, each with its number, from 0, for its line.
+/// The words, each with its number, from 0, in place of its line.
 fn numbered(alloc: Global, words: &[Word]) -> Result<Vec<Word>, AllocError>
     ensures { IfOk result (λ copy. map word_at copy.items ≡ words_by_number (map word_at words.now)) }
 {
@@ -42,7 +42,7 @@ fn numbered(alloc: Global, words: &[Word]) -> Result<Vec<Word>, AllocError>
     Ok(list)
 }
 
-/// The first words of a list, so many of them, each with its number, from 0, for its line.
+/// The first `count` words of a list, each with its number, from 0, in place of its line.
 #[tactic(auto, using(crate::proofs::Takes::takes))]
 pub fn numbered_words(alloc: Global, words: &Words, count: usize) -> Result<Words, AllocError>
     ensures { IfOk result (λ copy. copy ≡ words_by_number (take count words.now)) }

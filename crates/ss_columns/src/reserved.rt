@@ -5,11 +5,11 @@ ghost use Rattle.ss_columns.specs.Reserved as spec;
 
 use ss_words::WordKind;
 
-/// The reserved words that are dropped, where they do not stand directly behind SCHEDULE or CAUSE.
-/// The definitions read these tables too.
+/// The reserved words that are dropped, unless they are directly after SCHEDULE or CAUSE. The
+/// definitions read these tables too.
 pub const DROPPED: [&[u8]; 6] = [b"A", b"AN", b"THE", b"THIS", b"MAY", b"OUTPUT"];
 
-/// The words that keep an article directly behind them.
+/// The words that keep an article directly after them.
 pub const SCHEDULING: [&[u8]; 2] = [b"SCHEDULE", b"CAUSE"];
 
 /// Whether a name is in a table.

@@ -1,4 +1,4 @@
--- What a dialogue writes is what the batch writes.
+-- The text that a dialogue writes is the text that the batch writes.
 use Rattle.std.proofs.Common.{◌≡◌, ℕ, Bool, true, false, ◌&&◌, List, [], ◌∷◌, ◌++◌, map, refl, ◌∙◌, sym, ap}
 use Rattle.std.proofs.Common.{append_assoc, append-nil, Option, Some, None}
 use Rattle.std.proofs.lemmas.List.{map-append}
@@ -27,7 +27,7 @@ and_parts true false e = absurd (cc)
 and_parts false true e = absurd (cc)
 and_parts false false e = absurd (cc)
 
--- the answers to the lines of some turns, and to those behind them
+-- the answers to the lines of some turns, and to the lines after them
 answers-turns : (m : Meaning) (s : m.State) (turns : List (Turn m.State)) (rest : List (List ℕ)) →
     list_all is_answered turns ≡ true → has_last m turns ≡ false →
     answers m s (map line_of turns ++ rest)

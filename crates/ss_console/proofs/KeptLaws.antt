@@ -1,4 +1,4 @@
--- What is kept of a line tells enough.
+-- The kept part of a line says enough.
 use Rattle.std.proofs.Common.{◌≡◌, ℕ, zero, suc, ◌+◌, ◌<◌, ◌≤◌, Bool, true, false, cond, not, ◌||◌, nat_le, List, []}
 use Rattle.std.proofs.Common.{◌∷◌, ◌++◌, length, refl, ◌∙◌, sym, ap, append_assoc, append-nil, arith, length-append}
 use Rattle.std.specs.Prelude.{fold, slice_index, slice_set}

@@ -14,7 +14,7 @@ use Rattle.ss_console.specs.Faults.{lines_read}
 use Rattle.ss_console.specs.declared.lines.TheConstants.{LONGEST_LINE, LINE_FEED}
 use Rattle.ss_console.proofs.KnownBytes.{consumes_then}
 
--- ---- what is kept of a line
+-- ---- the kept part of a line
 
 length-keep : (line : List ℕ) (b : ℕ) → length line ≤ length (keep line b)
 length-keep line b =
@@ -39,7 +39,7 @@ kept_part-cons b bs = let h : 1 ≤ length (kept_part (b ∷ bs)) = length-fold 
 
 -- ---- the lines of a text
 
--- whether a line feed stands in some bytes
+-- whether a line feed is in some bytes
 abbrev pub has_feed : List ℕ → Bool
 has_feed [] = false
 has_feed (b ∷ bs) = if b == LINE_FEED then true else has_feed bs
@@ -146,7 +146,7 @@ line_given old mid new line w c =
         let split : xs ≡ done ++ LINE_FEED ∷ ys = c ∙ append_assoc done (LINE_FEED ∷ []) ys in
         rw (split, lines_behind done ys one, e) refl
 
--- the end came, behind a line or behind the last line feed
+-- the end came, after a line or after the last line feed
 pub end_given : (old mid new : Option (List ℕ)) (line : List ℕ) → IsWithin old mid line →
     Consumes mid new [] → IsAtEndOfBytes new → (n : ℕ) → n ≡ length line → (empty : Bool) → empty ≡ (n == 0) →
     Gives (known_lines old) (known_lines new) (lines_read (not empty) line) × IsAtEnd (known_lines new)

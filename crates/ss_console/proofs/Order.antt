@@ -1,4 +1,4 @@
--- Before each line stand whole turns.
+-- Before each line come whole turns.
 use Rattle.std.proofs.Common.{◌≡◌, ℕ, Bool, List, [], ◌∷◌, ◌++◌, refl, ◌∙◌, sym, ap, append_assoc, append-nil}
 use Rattle.ss_console.specs.Event.{Event, read, wrote, write_events}
 use Rattle.ss_console.specs.Meaning.{Meaning}
@@ -17,7 +17,7 @@ split_written (b ∷ p) rest (x ∷ before) after line e =
     let s = split_written p rest before after line tail in
     (s.0, ap (λ v. x ∷ v) s.1 ∙ ap (λ v. v ∷ (write_events p ++ s.0)) (sym head), s.2)
 
--- whole turns, and the prompt behind them
+-- whole turns, and the prompt after them
 abbrev IsWhole : (m : Meaning) → Bool → m.State → List (Turn m.State) → List Event → Type 0
 IsWhole m terminal s turns before =
     (done : List (Turn m.State)) × (left : List (Turn m.State)) × (turns ≡ done ++ left)

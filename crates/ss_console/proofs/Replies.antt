@@ -1,4 +1,4 @@
--- Whether a dialogue goes on behind a reply.
+-- Whether a dialogue goes on after a reply.
 use Rattle.std.proofs.Common.{◌≡◌, Bool, true, false, refl}
 use Rattle.ss_console.specs.Going.{go_of}
 use Rattle.ss_console.specs.Reply.{reply_ends}

@@ -14,7 +14,7 @@ use Rattle.ss_console.specs.declared.reply.Reply.{Reply}
 use Rattle.ss_console.specs.Reply.{IsReply, reply_text, reply_ends}
 use Rattle.ss_console.proofs.Parts.{adds_then, adds_none, adds_no_more}
 
--- ---- lines that are told
+-- ---- lines that are shown
 
 pub gives_none : (a : Option (List (List ℕ))) → Gives a a []
 gives_none None = tt
@@ -106,7 +106,7 @@ done_none m terminal s before old = record {
   told = adds_none old;
 }
 
--- behind the prompt and a line
+-- after the prompt and a line
 pub record HasRead (m : Meaning) (terminal : Bool) (from to : m.State) (before after : Option (List (List ℕ)))
     (old new : Option (List Event)) (line : List ℕ) (n : ℕ) : Type 0 where
   pub turns : List (Turn m.State)

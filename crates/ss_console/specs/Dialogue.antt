@@ -17,12 +17,12 @@ abbrev pub line_of : {S : Type 0} → Turn S → List ℕ
 line_of (answered line) = line
 line_of (refused line after) = line
 
--- what is written behind the line
+-- the text that is written after the line
 abbrev pub answer_of : (m : Meaning) → m.State → Turn m.State → List ℕ
 answer_of m state (answered line) = m.said state line
 answer_of m state (refused line after) = m.refusal after
 
--- the state behind a turn
+-- the state after a turn
 abbrev pub state_after : (m : Meaning) → m.State → Turn m.State → m.State
 state_after m state (answered line) = m.next state line
 state_after m state (refused line after) = after
@@ -37,7 +37,7 @@ abbrev pub IsAllowed : (m : Meaning) → m.State → Turn m.State → Type 0
 IsAllowed m state (answered line) = Unit {0}
 IsAllowed m state (refused line after) = m.MayBeLeft state line after × (m.ends line ≡ false)
 
--- what is written before a line is read: at a terminal the position in parentheses
+-- the text that is written before a line is read: at a terminal the position in parentheses
 abbrev pub prompt : Bool → ℕ → List ℕ
 prompt terminal position = if terminal then codes "(" ++ decimal position ++ codes ") " else []
 
@@ -52,12 +52,12 @@ events m terminal state [] = []
 events m terminal state (turn ∷ turns) =
     turn_events m terminal state turn ++ events m terminal (state_after m state turn) turns
 
--- the state behind some turns
+-- the state after some turns
 unfoldable pub state_after_all : (m : Meaning) → m.State → List (Turn m.State) → m.State
 state_after_all m state [] = state
 state_after_all m state (turn ∷ turns) = state_after_all m (state_after m state turn) turns
 
--- each of some turns is allowed where it is made
+-- each of some turns is allowed in the state in which it is made
 unfoldable pub AreAllowed : (m : Meaning) → m.State → List (Turn m.State) → Type 0
 AreAllowed m state [] = Unit {0}
 AreAllowed m state (turn ∷ turns) = IsAllowed m state turn × AreAllowed m (state_after m state turn) turns
@@ -69,14 +69,14 @@ has_last m turns = list_any (is_last m) turns
 -- the turns lead from state to state, over the lines that were read, in order
 pub record Lead (m : Meaning) (from to : m.State) (before after : Option (List (List ℕ)))
     (turns : List (Turn m.State)) : Type 0 where
-  -- each was allowed where it was made
+  -- each was allowed in the state in which it was made
   pub allowed : AreAllowed m from turns
   -- they lead to the last state
   pub state : to ≡ state_after_all m from turns
   -- their lines are those that were given, in order
   pub lines : Gives before after (map line_of turns)
 
--- the input ended: all turns, and the prompt behind them
+-- the input ended: all turns, and the prompt after them
 pub record EndsByInput (m : Meaning) (terminal : Bool) (from to : m.State) (before after : Option (List (List ℕ)))
     (old new : Option (List Event)) : Type 0 where
   -- the turns
@@ -87,7 +87,7 @@ pub record EndsByInput (m : Meaning) (terminal : Bool) (from to : m.State) (befo
   pub goes_on : has_last m turns ≡ false
   -- the input is at its end
   pub input : IsAtEnd after
-  -- the events are theirs, with what is said above
+  -- the events are those of the turns and of this prompt
   pub told : Adds old new (events m terminal from turns ++ write_events (prompt terminal (m.position to)))
 
 -- a line ended it: all turns, the last with that line
@@ -103,10 +103,10 @@ pub record EndsByLine (m : Meaning) (terminal : Bool) (from to : m.State) (befor
   pub goes_on : has_last m turns ≡ false
   -- it ends the dialogue
   pub ends : m.ends line ≡ true
-  -- the events are theirs, with what is said above
+  -- the events are those of the turns, the last with this line
   pub told : Adds old new (events m terminal from (turns ++ answered line ∷ []))
 
--- a reading failed: all turns, and the prompt behind them; nothing is said of the lines that are left
+-- a reading failed: all turns, and the prompt after them; it says nothing of the lines left
 pub record EndsByRead (m : Meaning) (terminal : Bool) (from to : m.State) (before : Option (List (List ℕ)))
     (old new : Option (List Event)) : Type 0 where
   -- the turns
@@ -117,7 +117,7 @@ pub record EndsByRead (m : Meaning) (terminal : Bool) (from to : m.State) (befor
   pub led : Lead m from to before left turns
   -- none of them ends the dialogue
   pub goes_on : has_last m turns ≡ false
-  -- the events are theirs, with what is said above
+  -- the events are those of the turns and of this prompt
   pub told : Adds old new (events m terminal from turns ++ write_events (prompt terminal (m.position to)))
 
 -- a put of the prompt failed: all turns, and a prefix of the prompt
@@ -133,7 +133,7 @@ pub record EndsInPrompt (m : Meaning) (terminal : Bool) (from to : m.State) (bef
   pub goes_on : has_last m turns ≡ false
   -- no more than there are
   pub within : count ≤ length (prompt terminal (m.position to))
-  -- the events are theirs, with what is said above
+  -- the events are those of the turns and of this prefix of the prompt
   pub told :
       Adds old new (events m terminal from turns ++ write_events (take count (prompt terminal (m.position to))))
 
@@ -144,7 +144,7 @@ pub record EndsInAnswer (m : Meaning) (terminal : Bool) (from to : m.State) (bef
   pub turns : List (Turn m.State)
   -- the last turn
   pub last : Turn m.State
-  -- they lead to the last state
+  -- they lead to this state, before the last turn
   pub state : m.State
   -- how many bytes were taken
   pub count : ℕ
@@ -156,7 +156,7 @@ pub record EndsInAnswer (m : Meaning) (terminal : Bool) (from to : m.State) (bef
   pub reached : state ≡ state_after_all m from turns
   -- no more than there are
   pub within : count ≤ length (answer_of m state last)
-  -- the events are theirs, with what is said above
+  -- the events are those of the turns, then the last turn's prompt, line and prefix of the answer
   pub told :
       Adds old new
       (events m terminal from turns
@@ -174,5 +174,5 @@ pub record EndsByCount (m : Meaning) (terminal : Bool) (from to : m.State) (befo
   pub goes_on : has_last m turns ≡ false
   -- they are that many
   pub many : length turns ≡ 2 ^ 64 - 1
-  -- the events are theirs, with what is said above
+  -- the events are those of the turns
   pub told : Adds old new (events m terminal from turns)

@@ -1,4 +1,4 @@
--- What the calls of a console did, by what they returned.
+-- The effects of a console's calls, by their results: failures counted, lines and events.
 use Rattle.std.specs.Prelude.{ℕ, ◌+◌, ◌==◌, Bool, true, false, List, [], ◌∷◌, if◌then◌else◌, Result, Ok, Err}
 use Rattle.ss_console.specs.Event.{Event, read}
 
@@ -9,7 +9,7 @@ pub record Faults : Type 0 where
   -- how many puts failed
   pub puts : ℕ
 
--- so many of each
+-- this number of failed readings, and this number of failed puts
 abbrev pub faults_of : ℕ → ℕ → Faults
 faults_of reads puts = record { reads = reads; puts = puts }
 
@@ -32,7 +32,7 @@ read_events (Ok true) line = read line ∷ []
 read_events (Ok false) line = []
 read_events (Err e) line = []
 
--- the failures behind a reading
+-- the failures after a reading
 abbrev pub faults_after_read : {E : Type 0} → Result Bool E → Faults → Faults
 faults_after_read (Ok some) faults = faults
 faults_after_read (Err e) faults = one_more_read faults
@@ -42,7 +42,7 @@ abbrev pub count_taken : {E : Type 0} → Result ℕ E → ℕ
 count_taken (Ok n) = n
 count_taken (Err e) = 0
 
--- the failures behind a put, which fails too where it takes nothing
+-- the failures after a put, which fails too if it takes nothing
 abbrev pub faults_after_put : {E : Type 0} → Result ℕ E → Faults → Faults
 faults_after_put (Ok n) faults = if n == 0 then one_more_put faults else faults
 faults_after_put (Err e) faults = one_more_put faults

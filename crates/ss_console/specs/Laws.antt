@@ -12,8 +12,8 @@ use Rattle.ss_console.specs.declared.lines.TheConstants.{LONGEST_LINE}
 
 -- ---- the batch
 
--- the answers to the lines of a batch, each in the state behind the lines before; behind a line that ends it none
--- counts
+-- the answers to the lines of a batch, each in the state after the lines before it; after a line
+-- that ends the batch no line counts
 unfoldable pub answers : (m : Meaning) → m.State → List (List ℕ) → List ℕ
 answers m state [] = []
 answers m state (line ∷ lines) = m.said state line ++ (if m.ends line then [] else answers m (m.next state line) lines)
@@ -29,14 +29,14 @@ abbrev pub is_answered : {S : Type 0} → Turn S → Bool
 is_answered (answered line) = true
 is_answered (refused line after) = false
 
--- what a log gained is the answers to all lines that were there
+-- the bytes that a log gained are the answers to all lines that were there
 abbrev pub GainsAnswers : (m : Meaning) → m.State → Option (List (List ℕ)) → Option (List Event) → Option (List Event) →
     Type 0
 GainsAnswers m state before old new =
     (lines : List (List ℕ)) (first last : List Event) → before ≡ Some lines → old ≡ Some first →
     new ≡ Some last → bytes_of last ≡ bytes_of first ++ answers m state lines
 
--- away from a terminal and with memory for each answer, a dialogue up to the end of input writes what the batch writes
+-- without a terminal, with memory for each answer, a dialogue to the input's end writes the batch
 abbrev pub BatchByInput : Meaning → Type 0
 BatchByInput m =
     (from to : m.State) (before after : Option (List (List ℕ))) (old new : Option (List Event))
@@ -52,7 +52,7 @@ BatchByLine m =
 
 -- ---- answers come before the next line
 
--- wherever a line is read, whole turns stand before it, and the prompt
+-- before each line that is read there are whole turns, and the prompt
 abbrev pub AnswersComeFirst : Meaning → Type 0
 AnswersComeFirst m =
     (terminal : Bool) (s : m.State) (turns : List (Turn m.State)) (before after : List Event) (line : List ℕ) →
@@ -60,16 +60,16 @@ AnswersComeFirst m =
     (done left : List (Turn m.State)) × (turns ≡ done ++ left)
     × (before ≡ events m terminal s done ++ write_events (prompt terminal (m.position (state_after_all m s done))))
 
--- ---- what is kept of a line
+-- ---- the kept part of a line
 
 -- a line within the limit is kept whole
 abbrev pub ShortLinesAreKept : Type 0
 ShortLinesAreKept = (line : List ℕ) → length line ≤ LONGEST_LINE → kept_part line ≡ line
 
--- of a longer one a byte more than the limit is kept
+-- a longer line is kept up to one byte more than the limit
 abbrev pub LongLinesAreCut : Type 0
 LongLinesAreCut = (line : List ℕ) → LONGEST_LINE < length line → length (kept_part line) ≡ LONGEST_LINE + 1
 
--- what is kept has a word where the line has one
+-- the kept part has a word if the line has one
 abbrev pub WordsAreKept : Type 0
 WordsAreKept = (line : List ℕ) → list_any (λ b. not (is_stop b)) (kept_part line) ≡ list_any (λ b. not (is_stop b)) line

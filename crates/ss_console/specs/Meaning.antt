@@ -1,4 +1,4 @@
--- What an answerer means.
+-- The meaning of an answerer: its states, its answers, and the state after each line.
 use Rattle.std.specs.Prelude.{ℕ, Bool, List}
 
 -- a machine that lines lead from state to state
@@ -9,11 +9,11 @@ pub record Meaning : Type 1 where
   pub position : State → ℕ
   -- the answer to a line
   pub said : State → List ℕ → List ℕ
-  -- the state behind a line
+  -- the state after a line
   pub next : State → List ℕ → State
   -- whether a line ends the dialogue
   pub ends : List ℕ → Bool
-  -- the answer where memory was refused, by the state in which it was left
+  -- the answer if memory was refused, by the state in which the answerer was left
   pub refusal : State → List ℕ
-  -- the states in which it may be left where memory for an answer was refused
+  -- the states in which it may be left if memory for an answer was refused
   pub MayBeLeft : State → List ℕ → State → Type 0

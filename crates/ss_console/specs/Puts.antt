@@ -1,4 +1,4 @@
--- What was written of a text.
+-- The written part of a text.
 use Rattle.std.specs.Prelude.{ℕ, ◌≤◌, List, [], ◌∷◌, ◌++◌, length, take, Option}
 use Rattle.ss_console.specs.Event.{Event, Adds, write_events}
 
@@ -8,7 +8,7 @@ pub record AddsPart (text : List ℕ) (old new : Option (List Event)) : Type 0 w
   pub count : ℕ
   -- the text is as long
   pub within : count ≤ length text
-  -- it stands behind what was told
+  -- the writing of its bytes comes in the log after the earlier events
   pub told : Adds old new (write_events (take count text))
 
 -- some texts, one after the other

@@ -1,4 +1,4 @@
--- What an answerer gave for a line.
+-- The reply of an answerer to a line.
 use Rattle.std.specs.Prelude.{ℕ, ◌≡◌, Bool, true, false, List}
 use Rattle.ss_console.specs.Meaning.{Meaning}
 use Rattle.ss_console.specs.Dialogue.{Turn, line_of, answer_of, state_after, is_last, IsAllowed}
@@ -6,7 +6,7 @@ use Rattle.ss_console.specs.declared.answerer.Go.TheVariants.{On, Quit}
 use Rattle.ss_console.specs.declared.reply.Reply.{Reply}
 use Rattle.ss_console.specs.declared.reply.Reply.TheVariants.{Said, Refused}
 
--- what is to be written
+-- the text that is to be written
 abbrev pub reply_text : (m : Meaning) → m.State → Reply → List ℕ → List ℕ
 reply_text m to (Said go) answer = answer
 reply_text m to Refused answer = m.refusal to
@@ -27,7 +27,7 @@ pub record IsReply (m : Meaning) (from to : m.State) (line answer : List ℕ) (r
   pub allowed : IsAllowed m from turn
   -- it leads to the state
   pub state : to ≡ state_after m from turn
-  -- what is to be written is its answer
+  -- the text that is to be written is its answer
   pub text : reply_text m to reply answer ≡ answer_of m from turn
-  -- it ends the dialogue where the reply does
+  -- it ends the dialogue exactly if the reply does
   pub ends : reply_ends reply ≡ is_last m turn

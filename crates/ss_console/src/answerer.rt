@@ -1,3 +1,4 @@
+//! The interface of an answerer: the machine that answers the lines of a dialogue.
 ghost use Rattle.std.specs.Prelude.{◌≡◌, ◌-◌, ◌^◌, ◌<◌, ◌++◌, true, IsOk, OnOk, OnErr, IfOk};
 ghost use Rattle.ss_console.specs.Event.{Adds, write_events};
 ghost use Rattle.ss_console.specs.Faults.{one_more_put};
@@ -8,7 +9,7 @@ ghost use Rattle.ss_console.specs.Going.{go_of};
 use crate::console::{Console, PutFault};
 use std::alloc::AllocError;
 
-/// Whether a dialogue goes on behind a line.
+/// Whether a dialogue goes on after a line.
 #[derive(Clone, Copy, Debug, PartialEq, Eq)]
 pub enum Go {
     /// The next line is read.
@@ -17,9 +18,9 @@ pub enum Go {
     Quit,
 }
 
-/// What answers the lines of a dialogue: a machine that each line leads from state to state.
+/// An answerer of the lines of a dialogue: a machine that each line leads from state to state.
 pub trait Answerer {
-    // its states, what each line is answered with and where it leads
+    // its states, the answer to each line, and the state to which the line leads
     ghost meaning: { Meaning };
 
     // the state in which it is
@@ -29,8 +30,10 @@ pub trait Answerer {
     fn position(&self) -> u64
         ensures { result ≡ meaning.position (state self.now) };
 
-    /// Does what a line says, and appends its whole answer. `AllocError` where memory was refused:
-    /// then nothing of the answer counts. A line that ends the dialogue wants no memory.
+    /// Does the work of a line, and appends its whole answer.
+    ///
+    /// The result is `AllocError` if memory was refused: then nothing of the answer counts. A line
+    /// that ends the dialogue needs no memory.
     fn answer(&mut self, line: &[u8], answer: &mut Vec<u8>) -> Result<Go, AllocError>
         ensures place { OnOk result (state self.new ≡ meaning.next (state self.old) line.now) }
         ensures said { OnOk result (answer.new.items
@@ -40,7 +43,7 @@ pub trait Answerer {
             (meaning.MayBeLeft (state self.old) line.now (state self.new)) }
         ensures quit { meaning.ends line.now ≡ true → IsOk result };
 
-    /// Writes what answers a line where memory was refused; it wants no memory itself.
+    /// Writes the answer to a line for which memory was refused; this needs no memory itself.
     fn put_refusal<C: Console>(&self, console: &mut C) -> Result<(), PutFault>
         requires { (C.faults console.old).puts < 2 ^ 64 - 1 }
         ensures ok { OnOk result (Adds (C.log console.old) (C.log console.new)

@@ -1,3 +1,4 @@
+//! The interface of a console: the source of a dialogue's lines, the destination of its bytes.
 ghost use Rattle.std.specs.Prelude.{◌≡◌, ◌-◌, ◌^◌, ◌<◌, ◌≤◌, ℕ, Bool, false, Ok, List, Option, length, take, IfOk};
 ghost use Rattle.std.specs.Vec.{vec_capacity};
 ghost use Rattle.ss_console.specs.Event.{Event, Adds, write_events};
@@ -18,12 +19,12 @@ pub struct ReadFault;
 #[error("cannot write")]
 pub struct PutFault;
 
-/// Where a dialogue is held: lines come from it, and bytes go to it.
+/// A console, at which a dialogue is held: lines come from it, and bytes go to it.
 pub trait Console {
-    // what happened so far, in order, where the console tells it
+    // the events so far, in order, if the console shows them
     ghost log: { Self → Option (List Event) };
 
-    // the lines that are still to be read, each as it will be kept, where the console tells them
+    // the lines that are still to be read, each as it will be kept, if the console shows them
     ghost left: { Self → Option (List (List ℕ)) };
 
     // how many readings and how many puts failed

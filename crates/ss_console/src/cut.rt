@@ -1,3 +1,4 @@
+//! The reasons for which a dialogue is cut short, from the faults of its console.
 use crate::console::{PutFault, ReadFault};
 use thiserror::Error;
 

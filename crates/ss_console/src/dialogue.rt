@@ -1,3 +1,4 @@
+//! The dialogue itself: the loop of prompt, line and answer.
 ghost use Rattle.std.specs.Prelude.{◌≡◌, ◌⊎◌, ◌-◌, ◌^◌, ◌<◌, Err, OnOk};
 ghost use Rattle.std.specs.Vec.{vec_capacity};
 ghost use Rattle.ss_console.specs.Dialogue.{EndsByInput, EndsByLine, EndsByRead, EndsInPrompt, EndsInAnswer};
@@ -12,7 +13,7 @@ use crate::cut::Cut;
 use crate::puts::put_prompt;
 use crate::reply::{Reply, put_reply};
 
-/// Lets the answerer do what a line says; its answer is left in `answer`.
+/// Lets the answerer do the work of a line; its answer is left in `answer`.
 fn reply<A: Answerer>(answerer: &mut A, line: &[u8], answer: &mut Vec<u8>) -> Reply
     ensures { IsReply A.meaning (A.state answerer.old) (A.state answerer.new) line.now
         answer.new.items result }
@@ -24,10 +25,12 @@ fn reply<A: Answerer>(answerer: &mut A, line: &[u8], answer: &mut Vec<u8>) -> Re
     }
 }
 
-/// Reads lines from a console and answers them there: each answer is written whole before the next
-/// line is read, and nothing is written beside but the prompts of a terminal. It ends with the line
-/// that ends it, or with the input. `line` has its room before; an answer that wants memory and
-/// gets none is told as the answerer tells it, and the dialogue goes on.
+/// Reads lines from a console and answers them there.
+///
+/// Each answer is written whole before the next line is read. Nothing else is written, except the
+/// prompts of a terminal. The dialogue ends with the line that ends it, or with the input. `line`
+/// has its room before the call. If an answer needs memory and gets none, the answerer writes its
+/// refusal, and the dialogue goes on.
 pub fn converse<A: Answerer, C: Console>(
     answerer: &mut A,
     console: &mut C,

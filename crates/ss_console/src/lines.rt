@@ -1,3 +1,4 @@
+//! The lines of a reader or of a text, cut at the limit of a line.
 ghost use Rattle.std.specs.Prelude.{◌≡◌, ◌<◌, IfOk, Ok, false, option_map};
 ghost use Rattle.std.specs.Vec.{vec_capacity};
 ghost use Rattle.ss_console.specs.Lines.{Gives, IsAtEnd, is_stop, keep, known_lines, ByteGiven, IsTaken};
@@ -9,7 +10,7 @@ use std::io::{ErrorKind, Read};
 /// The most bytes of a line that is obeyed.
 pub const LONGEST_LINE: usize = 200;
 
-/// What ends a line.
+/// The byte that ends a line.
 const LINE_FEED: u8 = b'\n';
 
 /// Whether a byte separates the words of a line.
@@ -19,7 +20,7 @@ fn is_stop(byte: u8) -> bool
     byte == b' ' || byte == b'\t' || byte == b'\r'
 }
 
-/// Keeps one more byte of a line. Past the limit one byte is kept, a stop only where no other came.
+/// Keeps one more byte of a line. Past the limit one byte is kept, a stop only if no other came.
 fn keep(line: &mut Vec<u8>, byte: u8)
     requires { LONGEST_LINE < vec_capacity line.old }
     ensures kept { line.new.items ≡ keep line.old.items byte }
@@ -72,8 +73,8 @@ pub(crate) fn next_line<R: Read>(reader: &mut R, line: &mut Vec<u8>) -> Result<b
     Err(ReadFault)
 }
 
-/// The next line of a text, and what stands after its line feed; a last line needs none. What is
-/// kept of it is left in `line`. `None` at the end.
+/// The next line of a text, and the text after its line feed; a last line needs none. The kept part
+/// of the line is left in `line`. `None` at the end.
 pub(crate) fn take_line<'a>(text: &'a [u8], line: &mut Vec<u8>) -> Option<(&'a [u8], &'a [u8])>
     requires { LONGEST_LINE < vec_capacity line.old }
     ensures taken { IsTaken text.now

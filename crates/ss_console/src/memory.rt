@@ -1,3 +1,4 @@
+//! A console over memory: the lines of a text in, and the entries of the events out.
 ghost use Rattle.std.specs.Prelude.{◌≡◌, ◌⊎◌, ◌+◌, ◌-◌, ◌^◌, ◌<◌, ◌≤◌, [], length, take, min, Ok, false, Some};
 ghost use Rattle.std.specs.Prelude.{IfOk, OnErr};
 ghost use Rattle.std.specs.Vec.{vec_capacity};
@@ -13,9 +14,9 @@ use crate::entry::{Entry, note_written};
 use crate::lines::take_line;
 use std::alloc::Global;
 
-/// A console over memory, which tells what happened. Its lines are those of a text; it takes as
-/// many bytes as it has room for, and then none. A call fails only where there is no room, or where
-/// what it tells of the call has none and cannot grow.
+/// A console over memory, which shows its events. Its lines are those of a text. It takes as many
+/// bytes as it has room for, and then none. A call fails only if there is no room, or if its entry
+/// has none and the memory for entries cannot grow.
 #[derive(Drop)]
 pub struct MemoryConsole<'a> {
     text: &'a [u8],
@@ -46,7 +47,7 @@ impl<'a> MemoryConsole<'a> {
         }
     }
 
-    /// What happened, in order.
+    /// The entries so far, in order.
     pub fn entries(&self) -> &[Entry<'a>]
         ensures { result.now ≡ self.now.entries.items }
     {

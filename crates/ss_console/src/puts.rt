@@ -1,3 +1,4 @@
+//! Writes whole texts and prompts at a console, which takes them in pieces.
 ghost use Rattle.std.specs.Prelude.{◌≡◌, ◌+◌, ◌-◌, ◌^◌, ◌<◌, ◌≤◌, ◌++◌, [], length, take, drop, map, codes, decimal};
 ghost use Rattle.std.specs.Prelude.{OnOk, OnErr, IfOk};
 ghost use Rattle.ss_console.specs.Event.{Adds, write_events};
@@ -82,7 +83,7 @@ fn put_position<C: Console>(console: &mut C, position: u64) -> Result<(), PutFau
     put_texts(console, &[b"(", buffer.format(position).as_bytes(), b") "])
 }
 
-/// Writes the prompt, where the console is a terminal.
+/// Writes the prompt, if the console is a terminal.
 #[tactic(auto, using(crate::proofs::Parts::no_prompt))]
 pub(crate) fn put_prompt<C: Console>(console: &mut C, position: u64) -> Result<(), PutFault>
     requires { (C.faults console.old).puts < 2 ^ 64 - 1 }

@@ -1,3 +1,4 @@
+//! The reply to a line, and its writing at the console.
 ghost use Rattle.std.specs.Prelude.{◌≡◌, ◌-◌, ◌^◌, ◌<◌, OnOk, OnErr};
 ghost use Rattle.ss_console.specs.Event.{Adds, write_events};
 ghost use Rattle.ss_console.specs.Faults.{one_more_put};
@@ -8,7 +9,7 @@ use crate::answerer::{Answerer, Go};
 use crate::console::{Console, PutFault};
 use crate::puts::put_all;
 
-/// What an answerer gave for a line.
+/// The reply of an answerer to a line.
 #[derive(Clone, Copy)]
 pub(crate) enum Reply {
     /// Its answer.
@@ -26,7 +27,7 @@ impl Reply {
     }
 }
 
-/// Writes what answers a line: its answer, or that memory was refused.
+/// Writes the reply to a line: its answer, or that memory was refused.
 pub(crate) fn put_reply<A: Answerer, C: Console>(
     answerer: &A,
     console: &mut C,

@@ -1,3 +1,4 @@
+//! A console over streams, for a program with standard input and output.
 ghost use Rattle.std.specs.Prelude.{◌≡◌, ◌-◌, ◌^◌, ◌<◌, ◌≤◌, None, length, take};
 ghost use Rattle.std.specs.Io.KnownBytes.{Appends};
 ghost use Rattle.ss_console.specs.Event.{Adds, write_events};
@@ -8,8 +9,8 @@ use crate::console::{Console, PutFault, ReadFault};
 use crate::lines::next_line;
 use std::io::{Read, Write};
 
-/// A console over a reader and a writer, such as standard input and output. It tells the lines that
-/// are left where its reader tells its bytes, and no events.
+/// A console over a reader and a writer, such as standard input and output. It shows the lines that
+/// are left if its reader shows its bytes, and it shows no events.
 #[derive(Drop)]
 pub struct StreamConsole<R: Read + Drop, W: Write + Drop> {
     reader: R,
@@ -20,7 +21,7 @@ pub struct StreamConsole<R: Read + Drop, W: Write + Drop> {
 }
 
 impl<R: Read + Drop, W: Write + Drop> StreamConsole<R, W> {
-    /// A console at which nothing happened yet; a terminal, if so it is said.
+    /// A console at which nothing happened yet. It is a terminal if `terminal` says so.
     pub fn new(reader: R, writer: W, terminal: bool) -> Self
         ensures reader { result.reader ≡ reader }
         ensures writer { result.writer ≡ writer }
@@ -57,7 +58,7 @@ impl<R: Read + Drop, W: Write + Drop> Console for StreamConsole<R, W> {
         }
     }
 
-    // The trait's clauses, and what the writer holds.
+    // The trait's clauses, and the contents of the writer.
     #[tactic(auto, using(crate::proofs::KnownBytes::keeps_appends_none))]
     fn put(&mut self, bytes: &[u8]) -> Result<usize, PutFault>
         requires some { 0 < length bytes.now }

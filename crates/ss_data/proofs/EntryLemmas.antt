@@ -1,4 +1,4 @@
--- The place behind the next mark, found by a walk from item to item.
+-- The place after the next mark, found by a walk from item to item.
 use Rattle.std.proofs.Common.{◌≡◌, ℕ, ◌+◌, Bool, true, false, cond, nat_lt, List, [], ◌∷◌, map, drop, length, Option}
 use Rattle.std.proofs.Common.{Some, None, refl, ap, ◌∙◌, arith, zero, suc}
 use Rattle.std.proofs.lemmas.Grind.{common_steps}
@@ -44,7 +44,7 @@ item-at : (pieces : List (List ℕ)) (i : ℕ) (piece : List ℕ) → slice_get 
 item-at pieces i piece next =
     drop-at (map item pieces) i (item piece) (slice_get-map item pieces i ∙ ap (option_map item) next)
 
--- a mark there: the place is the one behind it
+-- a mark there: the place is the one after it
 pub place-here : (pieces : List (List ℕ)) (i : ℕ) (piece : List ℕ) → slice_get pieces i ≡ Some piece
     → is_mark piece ≡ true → behind_mark (map item pieces) i ≡ Some (i + 1)
 place-here pieces i piece next mark =

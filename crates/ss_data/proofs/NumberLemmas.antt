@@ -1,4 +1,4 @@
--- What std's parsing of an integer gives, in this crate's words.
+-- The results of std's parsing of an integer, in this crate's words.
 use Rattle.std.proofs.Common.{◌≡◌, ◌≢◌, ℕ, ℤ, pos, neg_ℤ, ◌+◌, ◌-◌, ◌*◌, ◌^◌, ◌<◌, ◌≤◌, ◌⊎◌, inl, inr, true, false}
 use Rattle.std.proofs.Common.{List, [], ◌∷◌, length, rules, refl, arith, Option, Some, None, Result, Ok, Err, w64, eqb}
 use Rattle.std.proofs.Common.{fold, subst, zero, suc}
@@ -85,7 +85,7 @@ pub none-from_utf8 : {S E : Type 0} (bs : List ℕ) (r : Result S E) (P : S → 
 none-from_utf8 bs (Ok s) P Q none h = cc
 none-from_utf8 bs (Err e) P Q none h = none_unless_text bs (number bs) refl h.0
 
--- the text that std reads has what it promises of one
+-- the text that std reads has the property that std promises of a text
 pub text-from_utf8 : {S E : Type 0} (r : Result S E) (text : S) (P : S → Type 0) (Q : E → Type 0)
     → Some text ≡ result_ok r → MatchResult r P Q → P text
 text-from_utf8 (Ok s) text P Q is h = let e : s ≡ text = cc in subst P e h

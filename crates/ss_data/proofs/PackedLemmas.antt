@@ -20,7 +20,7 @@ AreEnds-push start (e ∷ es) size more h = (h.0, AreEnds-push e es size more h.
 pub range-append : (xs ys : List ℕ) (a b : ℕ) → a ≤ b → b ≤ length xs → slice_range (xs ++ ys) a b ≡ slice_range xs a b
 range-append xs ys a b h k = grind (arith, common_steps)
 
--- the range behind the first list of two is the second
+-- the range after the first list of two is the second
 pub range-behind : (xs ys : List ℕ) (a : ℕ) → a ≡ length xs → slice_range (xs ++ ys) a (length xs + length ys) ≡ ys
 range-behind xs ys a h = grind (arith, common_steps)
 
@@ -40,7 +40,7 @@ pub length-cut : (start : ℕ) (ends bytes : List ℕ) → length (pieces_by_end
 length-cut start [] bytes = refl
 length-cut start (e ∷ es) bytes = grind (arith, common_steps, length-cut e es bytes)
 
--- where piece i is
+-- the range of piece i
 pub cut-get : (start : ℕ) (ends bytes : List ℕ) (i : ℕ) → i < length ends
     → slice_get (pieces_by_ends start ends bytes) i
     ≡ Some (slice_range bytes (get_or (start ∷ ends) i 0) (get_or ends i 0))
@@ -48,14 +48,14 @@ cut-get start [] bytes i h = absurd (omega arith)
 cut-get start (e ∷ es) bytes zero h = refl
 cut-get start (e ∷ es) bytes (suc i) h = cut-get e es bytes i (omega arith)
 
--- which is within the bytes
+-- this range is within the bytes
 pub AreEnds-at : (start : ℕ) (ends : List ℕ) (size i : ℕ) → AreEnds start ends size → i < length ends
     → (get_or (start ∷ ends) i 0 ≤ get_or ends i 0) × (get_or ends i 0 ≤ size)
 AreEnds-at start [] size i h k = absurd (omega arith)
 AreEnds-at start (e ∷ es) size zero h k = (h.0, AreEnds-le e es size h.1)
 AreEnds-at start (e ∷ es) size (suc i) h k = AreEnds-at e es size i h.1 (omega arith)
 
--- what a look-up by index finds: nothing past the end, else the piece from its start to its end
+-- the result of a look-up by index: nothing past the end, else the piece from its start to its end
 pub get-past : (view : List (List ℕ)) (ends got bytes : List ℕ) (i : ℕ) → pieces_by_ends 0 ends bytes ≡ view → got
     ≡ ends
     → length got ≤ i → slice_get view i ≡ None

@@ -1,4 +1,4 @@
--- What a loop over the parts of a slice has seen when it ends.
+-- The parts of a slice that a loop over them has seen when it ends.
 use Rattle.std.proofs.Common.{◌≡◌, List, map, Option, None, Bool, false, Bor}
 use denote.Param.Members.{Mut}
 use Rattle.std.specs.Fn.{CalledAt}
@@ -9,7 +9,7 @@ use Rattle.std.specs.List.{slice_split}
 use Rattle.std.proofs.lemmas.Iterator.Splits.{YieldsList-from_slice_split}
 use Rattle.std.proofs.lemmas.Iterator.Consumers.{YieldsList-end}
 
--- all its parts, where the closure computes the test p
+-- all its parts, if the closure computes the test p
 pub parts-end : {A F : Type 0} (p : A → Bool) (xs : List A) (g : Mut F (Bor A × Unit {0}) Bool) (s t u : Split A F)
     (f : F) (seen : List (Bor (List A))) (r : Option (Bor (List A))) → Yields (split_steps g) s seen t → r ≡ None
     → split_steps g t r u → split_rest s ≡ xs → split_done s ≡ false → split_callee s ≡ f

@@ -1,4 +1,5 @@
--- What stands next in the data: its end, a number, a mark, a name; and where an entry of an external event ends.
+-- The next item of the data (its end, a number, a mark, a name), and the place at which an entry of
+-- an external event ends.
 use Rattle.std.specs.Prelude.{ℕ, ◌+◌, Bool, false, ◌&&◌, nat_le, if◌then◌else◌, List, length, drop, position, codes}
 use Rattle.std.specs.Prelude.{bytes_eq, Option, Some, None, option_map, is_some, slice_get}
 use Rattle.std.specs.List.{list_all}
@@ -14,16 +15,16 @@ use Rattle.ss_data.specs.Items.{Item, DataRead}
 abbrev pub is_mark : List ℕ → Bool
 is_mark piece = bytes_eq piece (codes "*")
 
--- what an item is
+-- the kind of an item
 abbrev pub kind_of_item : Item → PieceKind
 kind_of_item item = if is_some item.value then Number else (if is_mark item.bytes then Mark else Other)
 
--- what an item is, or the end
+-- the kind of an item, or the end
 abbrev pub kind_or_end : Option Item → PieceKind
 kind_or_end None = End
 kind_or_end (Some i) = kind_of_item i
 
--- what the first item is that is not taken
+-- the kind of the first item that is not taken
 abbrev pub next_kind : DataRead → PieceKind
 next_kind read = kind_or_end (slice_get read.items read.taken)
 
@@ -44,10 +45,10 @@ item_writes name (Some i) = writes_name name i.bytes
 abbrev pub next_writes : List ℕ → DataRead → Bool
 next_writes name read = item_writes name (slice_get read.items read.taken)
 
--- the place behind the next mark, from a place on
+-- the place after the next mark, from a place on
 abbrev pub behind_mark : List Item → ℕ → Option ℕ
 behind_mark items from = option_map (λ n. from + n + 1) (position (λ i. is_mark i.bytes) (drop from items))
 
--- the place behind the next mark among the items that are not taken
+-- the place after the next mark among the items that are not taken
 abbrev pub place_behind_mark : DataRead → Option ℕ
 place_behind_mark read = behind_mark read.items read.taken

@@ -1,4 +1,4 @@
--- The items of the data, and what is taken next.
+-- The items of the data, and the value that is taken next.
 use Rattle.std.specs.Prelude.{ℕ, ℤ, List, map, Option, Some, None, Result, Ok, Err, slice_get}
 use Rattle.ss_words.specs.declared.fault.RunFault.{RunFault}
 use Rattle.ss_words.specs.declared.fault.RunFault.TheVariants.{NoMoreData, NotANumber}
@@ -31,7 +31,7 @@ pub record DataRead : Type 0 where
 abbrev pub data_at_start : List ℕ → DataRead
 data_at_start text = record { items = items text; taken = 0 }
 
--- the same data with so many taken
+-- the data with n items taken
 abbrev pub with_taken : DataRead → ℕ → DataRead
 with_taken read n = record read { taken = n }
 

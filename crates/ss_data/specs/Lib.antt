@@ -1,3 +1,5 @@
+-- The definitions of the data: pieces, the numbers that they write, items, entries, and the packed
+-- form.
 pub mod Pieces
 pub mod Numbers
 pub mod Items

@@ -1,3 +1,4 @@
+//! The kinds of the data's pieces, and the test whether a piece is a name.
 ghost use Rattle.std.specs.Prelude.{◌≡◌};
 ghost use Rattle.std.specs.List.{list_all};
 ghost use Rattle.ss_words.specs.TextBytes.{in_run};
@@ -10,7 +11,7 @@ use ss_words::characters::STOP;
 use ss_words::limits::LONGEST_RUN;
 use ss_words::without_stops;
 
-/// What the next piece of the data is (docs/LANGUAGE.md, "READ and the data").
+/// The kind of the next piece of the data (docs/LANGUAGE.md, "READ and the data").
 #[derive(Clone, Copy, Debug, PartialEq, Eq)]
 pub enum PieceKind {
     /// No piece is left.
@@ -23,7 +24,7 @@ pub enum PieceKind {
     Other,
 }
 
-/// What a piece is.
+/// The kind of a piece.
 pub(crate) fn kind_of(piece: &[u8]) -> PieceKind
     ensures { result ≡ kind_of_item (item piece.now) }
 {

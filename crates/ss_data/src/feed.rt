@@ -1,3 +1,5 @@
+//! The feed of a run's data: READ and external events take its pieces, and a step back gives them
+//! back.
 use crate::entry::{PieceKind, is_mark, kind_of, writes_name};
 use crate::number::parse_number;
 use crate::pieces::Pieces;
@@ -8,8 +10,8 @@ use std::marker::Model;
 
 /// The data of a run, from which READ takes numbers (docs/LANGUAGE.md, "READ and the data").
 ///
-/// Blanks, tabs, carriage returns and line feeds separate its pieces. All pieces are kept, so what
-/// is taken can be given back.
+/// Blanks, tabs, carriage returns and line feeds separate its pieces. All pieces are kept, so taken
+/// pieces can be given back.
 #[derive(Drop)]
 pub struct Feed {
     pieces: Pieces,
@@ -37,7 +39,7 @@ impl Feed {
     ///
     /// # Errors
     ///
-    /// `AllocError` where memory is refused.
+    /// `AllocError` if memory is refused.
     pub fn new(alloc: Global, text: &[u8]) -> Result<Feed, AllocError>
         ensures { IfOk result (λ feed. feed ≡ data_at_start text.now) }
     {
@@ -45,11 +47,11 @@ impl Feed {
         Ok(Feed { pieces, taken: 0 })
     }
 
-    /// Tells its caller that each item is that of its bytes.
+    /// Shows its caller that each item is that of its bytes.
     pub fn known(&self)
         ensures { self.now.items ≡ map (λ i. item i.bytes) self.now.items }
     {
-        // What is seen of a feed is known where a field is read.
+        // The view of a feed is known at the places that read a field.
         let _ = &self.pieces;
     }
 
@@ -57,8 +59,8 @@ impl Feed {
     ///
     /// # Errors
     ///
-    /// `NoMoreData` where no piece is left, and `NotANumber` where the next piece writes no number
-    /// from -2^63 to 2^63 - 1. Then nothing is taken.
+    /// `NoMoreData` if no piece is left, and `NotANumber` if the next piece writes no number from
+    /// -2^63 to 2^63 - 1. Then nothing is taken.
     pub fn take(&mut self) -> Result<i64, RunFault>
         ensures value { result ≡ next_value self.old }
         ensures ok { OnOk result (self.new ≡ with_taken self.old (self.old.taken + 1)) }
@@ -70,7 +72,7 @@ impl Feed {
         Ok(value)
     }
 
-    /// What the next piece is.
+    /// The kind of the next piece.
     pub fn kind(&self) -> PieceKind
         ensures kind { result ≡ next_kind self.now }
         ensures left { result ≢ PieceKind.End → self.now.taken < length self.now.items }
@@ -107,7 +109,7 @@ impl Feed {
     ///
     /// # Errors
     ///
-    /// `OutsideEntry` (F22) where no mark is left. Then nothing is taken.
+    /// `OutsideEntry` (F22) if no mark is left. Then nothing is taken.
     pub fn pass_entry(&mut self) -> Result<(), RunFault>
         ensures { MatchOption (place_behind_mark self.old)
             ((result ≡ Err RunFault.OutsideEntry) × (self.new ≡ self.old))
@@ -159,7 +161,7 @@ fn is_separator(byte: &u8) -> bool
     matches!(*byte, BLANK | TAB | CARRIAGE_RETURN | LINE_FEED)
 }
 
-/// The place behind the next mark, from a place on.
+/// The place after the next mark, from a place on.
 fn behind_mark(pieces: &Pieces, from: usize) -> Option<usize>
     ensures place { result ≡ behind_mark (map item pieces.now) from }
     ensures within { IfSome result (λ place. place ≤ length pieces.now) }

@@ -1,4 +1,4 @@
-//! What the definitions of the data give on small data: each function is a law, proved by
+//! The results of the definitions of the data on small data: each function is a law, proved by
 //! computing.
 #![tactic(auto, unfolding(ss_words::specs::TextBytes::in_run, ss_words::specs::TextRuns::without_stops))]
 

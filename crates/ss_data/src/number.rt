@@ -1,3 +1,4 @@
+//! The parsing of numbers in the data, with std's parser.
 ghost use Rattle.std.specs.Prelude.{◌≡◌};
 ghost use Rattle.ss_data.specs.Numbers.{number};
 

@@ -1,7 +1,8 @@
+//! The pieces of the data in two vectors, so that many short pieces take few blocks of memory.
 use std::alloc::{AllocError, Global};
 use std::marker::Model;
 
-/// Pieces of text in order, one behind another, with the place where each one ends.
+/// Adjacent pieces of text in order, with the place at which each one ends.
 #[derive(Drop)]
 pub(crate) struct Pieces {
     bytes: Vec<u8>,
@@ -32,7 +33,7 @@ impl Pieces {
         }
     }
 
-    /// Adds a piece behind the others. Where memory is refused, the pieces stay as they are.
+    /// Adds a piece after the others. If memory is refused, the pieces stay as they are.
     pub(crate) fn push(&mut self, piece: &[u8]) -> Result<(), AllocError>
         ensures { self.new ≡ (if is_ok result then self.old ++ piece.now ∷ [] else self.old) }
     {
@@ -63,7 +64,7 @@ impl Pieces {
 
 ghost use Rattle.std.specs.Prelude.{◌≡◌, ◌<◌, ◌∷◌, length, slice_index};
 
-/// Where the piece at an index starts: where the one before it ends.
+/// The place at which the piece at an index starts: the end of the one before it.
 fn start_of(ends: &[usize], index: usize) -> usize
     requires { index < length ends.now }
     ensures { result ≡ slice_index (0 ∷ ends.now) index }

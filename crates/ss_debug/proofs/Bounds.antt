@@ -1,4 +1,4 @@
--- The bounds of movements, and what FORGET leaves.
+-- Each movement ends within its bound, and FORGET leaves the newest steps.
 use Rattle.std.proofs.Common.{ℕ, ◌≤◌, refl, arith}
 use Rattle.ss_state.specs.declared.limits.TheConstants.{LAST_POSITION}
 use Rattle.ss_state.specs.Run.{Input}
@@ -33,7 +33,7 @@ movement_within t d (search_back test word) kept last =
       not_past_the_last = let h = e.no_later in omega (arith, h, last);
     }
 
--- what FORGET leaves
+-- the state that FORGET leaves
 pub forget_leaves : ForgetLeavesTheNewestSteps
 forget_leaves d n kept = record {
   position = refl;

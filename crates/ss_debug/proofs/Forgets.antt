@@ -1,10 +1,10 @@
--- What is left where old steps are forgotten.
+-- The steps that are left after old steps are forgotten.
 use Rattle.std.proofs.Common.{◌≡◌, ℕ, ◌-◌, min, length, ap, arith, ◌∙◌}
 use Rattle.std.proofs.lemmas.List.{length-take}
 use Rattle.ss_machine.specs.Moment.{Moment, position, steps_kept, HasForgotten}
 use Rattle.ss_debug.specs.Move.{back_end}
 
--- the earliest kept position is that to which so many steps back lead
+-- the earliest kept position is the one to which n steps back lead
 pub earliest_after : (n : ℕ) (old new : Moment) → HasForgotten n old new →
     new.forgotten ≡ back_end old.forgotten (position old) n
 earliest_after n old new h =

@@ -120,7 +120,7 @@ others_from (true ∷ bs) k (suc l) m e =
     rw (eq_no_up k m (omega arith)) (let f = others_from bs (suc k) l m (omega arith) in omega arith)
 others_from (false ∷ bs) k (suc l) m e = others_from bs (suc k) l m (omega arith)
 
--- how many lines there are, by those that are another
+-- the number of lines, from the number of the other lines
 pub others : (bs : List Bool) (l : ℕ) →
     length (without_line l (lines_of bs)) + one_if (unwrap_or (slice_get bs l) false) ≡ length (lines_of bs)
 others bs l = others_from bs 0 l l (omega arith)
@@ -134,7 +134,7 @@ counted_from (false ∷ bs) k zero h = omega arith
 counted_from (true ∷ bs) k (suc l) h = let e = counted_from bs (suc k) l (omega arith) in omega arith
 counted_from (false ∷ bs) k (suc l) h = counted_from bs (suc k) l (omega arith)
 
--- how many lines there are where one is set
+-- the number of lines after one is set
 pub counted : (bs : List Bool) (l : ℕ) → l < length bs →
     length (lines_of (slice_set bs l true)) + one_if (unwrap_or (slice_get bs l) false) ≡ length (lines_of bs) + 1
 counted bs l h = counted_from bs 0 l h
@@ -176,7 +176,7 @@ set_again (b ∷ bs) (suc l) e = rw (set_again bs l e) refl
 pub line_within : (bs : List Bool) (l : ℕ) → is_break_line (lines_of bs) l ≡ true → l < length bs
 line_within bs l e = value_within bs l (rw (sym (is_line bs l)) e)
 
--- a line is there where its place holds true
+-- a line is there if its place holds true
 pub line_at : (bs : List Bool) (l : ℕ) (d : Bool) → l < length bs →
     is_break_line (lines_of bs) l ≡ slice_index_or bs l d
 line_at bs l d h = rw (is_line bs l) (value_at bs l d h)
@@ -192,7 +192,7 @@ line_set_again bs l e =
     let there = set_again bs l (rw (sym (is_line bs l)) e) in
     rw (sym (line_set bs l (line_within bs l e)), there) refl
 
--- one line more, where it was not there
+-- there is one line more, if it was not there
 pub count_set : (bs : List Bool) (l : ℕ) → l < length bs → is_break_line (lines_of bs) l ≡ false →
     length (lines_of (slice_set bs l true)) ≡ length (lines_of bs) + 1
 count_set bs l h e =
@@ -202,7 +202,7 @@ count_set bs l h e =
     (counted bs l h) in
     omega (arith, f)
 
--- one other line less, where it is there
+-- there is one other line less, if the line is there
 pub count_others : (bs : List Bool) (l : ℕ) → is_break_line (lines_of bs) l ≡ true →
     length (without_line l (lines_of bs)) + 1 ≡ length (lines_of bs)
 count_others bs l e =
@@ -211,7 +211,7 @@ count_others bs l e =
     subst (λ b. length (without_line l (lines_of bs)) + one_if b ≡ length (lines_of bs)) there (others bs l) in
     omega (arith, f)
 
--- one line less, where it was there
+-- there is one line less, if it was there
 pub count_cleared : (bs : List Bool) (l : ℕ) → is_break_line (lines_of bs) l ≡ true →
     length (lines_of (slice_set bs l false)) + 1 ≡ length (lines_of bs)
 count_cleared bs l e = rw (line_cleared bs l (line_within bs l e)) (count_others bs l e)

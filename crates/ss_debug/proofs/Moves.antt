@@ -58,7 +58,7 @@ least_or true test m k n e h w none found =
     absurd (cc)
 least_or false test m k n e h w none found = omega (arith, ltb-false _ _ e)
 
--- where none of the first k passes, it is at least k
+-- if none of the first k passes, it is at least k
 pub least_at_least : (test : ℕ → Bool) (n k : ℕ) → k ≤ n → ((j : ℕ) → j < k → test j ≡ false) → k ≤ least test n
 least_at_least test n k h none =
     least_or _ test (least test n) k n refl h (least_within test n) none (least_passes test n)
@@ -133,7 +133,7 @@ reason_at true t condition p n k e h found =
     (condition.test (p + k)) stopped))
 reason_at false t condition p n k e h found = inl (omega (arith, ltb-false _ _ e))
 
--- where a movement has made as many steps as it may, it has made n, or it is at the last position
+-- if a movement has made as many steps as it may, it has made n, or it is at the last position
 bound_at : (b : Bool) (p n q : ℕ) → nat_le n (LAST_POSITION - p) ≡ b → p ≤ LAST_POSITION →
     q ≡ p + min n (LAST_POSITION - p) → (q ≡ p + n) ⊎ (q ≡ LAST_POSITION)
 bound_at true p n q e h f = inl (omega (arith, leb-true _ _ e, f))
@@ -150,7 +150,7 @@ reason_of t condition p n q h (inl e) = at_bound (bound_at _ p n q refl h e)
     at_bound (inr f) = inr (inl f)
 reason_of t condition p n q h (inr s) = inr (inr s)
 
--- a movement ends where the one fact says
+-- the computed end of a movement is an end in the sense of the one fact
 pub forward_ends : (t : Input) (condition : StopCondition) (p n : ℕ) → p ≤ LAST_POSITION →
     EndsAt t condition p n (forward_end t condition p n)
 forward_ends t condition p m before =
@@ -201,25 +201,25 @@ end_by_order t condition p n q r false true e f a b =
     sym (no_end_before t condition p n r q b a (omega (arith, ltb-true _ _ f)) b.for_a_reason)
 end_by_order t condition p n q r false false e f a b = omega (arith, ltb-false _ _ e, ltb-false _ _ f)
 
--- and nowhere else
+-- and there is no other end
 pub one_end : (t : Input) (condition : StopCondition) (p n q r : ℕ) →
     EndsAt t condition p n q → EndsAt t condition p n r → q ≡ r
 one_end t condition p n q r a b = end_by_order t condition p n q r _ _ refl refl a b
 
--- what stops a forward movement at q, k positions on
+-- whether a forward movement stops at q, k positions on
 pub stops_here : (t u : Input) (breaks : List ℕ) (choice : StopChoice) (p q k from : ℕ) → u ≡ t → q ≡ p + k →
     from ≡ p → stops t (condition_of t breaks choice) p k ≡ is_stop u (condition_of u breaks choice) from q
 stops_here t u breaks choice p q k from e f g = rw (e, f, g) refl
 
--- ---- forward where only the status stops
+-- ---- forward, when only the status stops
 
--- tests that say the same have the same least
+-- tests that agree on each number have the same least number
 least_same : (f g : ℕ → Bool) (n : ℕ) → ((k : ℕ) → f k ≡ g k) → least f n ≡ least g n
 unfolding least
 least_same f g zero same = refl
 least_same f g (suc n) same = rw (least_same f g n same, same n) refl
 
--- a movement ends where STEP does, if it stops where STEP does
+-- a movement ends at the end of STEP, if it stops at the states at which STEP stops
 pub end_of_step : (t : Input) (condition : StopCondition) (p n : ℕ)
     → ((q : ℕ) → is_stop t condition p q ≡ is_stop t step_condition p q)
     → forward_end t condition p n ≡ forward_end t step_condition p n
@@ -232,16 +232,16 @@ not_or_never true true = refl
 not_or_never true false = refl
 not_or_never false b = refl
 
--- STEP stops where the status isn't ready
+-- STEP stops if the status isn't ready
 step_stops : (t : Input) (p k : ℕ) → stops t step_condition p k ≡ not (is_ready_at t (p + k))
 step_stops t p k = not_or_never (is_ready_at t (p + k)) (nat_lt p (p + k))
 
--- seen from the machine that stands there
+-- a stop of STEP, seen from the machine at that position
 pub stops_as_seen : (t u : Input) (p q k : ℕ) (ready : Bool) → u ≡ t → q ≡ p + k → ready ≡ is_ready_at u q
     → stops t step_condition p k ≡ not ready
 stops_as_seen t u p q k ready e f seen = rw (seen, e, f) (step_stops t p k)
 
--- ---- back to where a test holds
+-- ---- back to a state at which a test holds
 
 and_false : (a b : Bool) → (a && b) ≡ false → a ≡ true → b ≡ false
 and_false true b e f = e
@@ -269,7 +269,7 @@ back_reason true test a p n k o e h found =
 back_reason false test a p n k o e h found =
     back_at_bound _ test a p n k o refl (omega (arith, ltb-false _ _ e)) h
 
--- a search back ends where the one fact says
+-- the computed end of a search back is an end in the sense of the one fact
 pub search_back_ends : (test : ℕ → Bool) (a p n : ℕ) → a ≤ p → EndsBackAt test a p n (search_back_end test a p n)
 search_back_ends test a p n o =
     let stop : ℕ → Bool = stops_back test p in
@@ -287,13 +287,14 @@ search_back_ends test a p n o =
           back_reason _ test a p n (least stop (min n (p - a))) o refl w (least_passes stop (min n (p - a)));
     }
 
--- what stops BACK BREAK at q, k positions back
+-- whether BACK BREAK stops at q, k positions back
 pub stops_back_here : (t u : Input) (breaks : List ℕ) (p q k : ℕ) → u ≡ t → p ≡ q + k →
     stops_back (is_on_break t breaks) p k ≡ (nat_lt 0 k && is_on_break u breaks q)
 stops_back_here t u breaks p q k e f = let g : p - k ≡ q = omega arith in rw (e, g) refl
 
--- where a search back that has come from p to q, k positions back, ends there: it went on from all between, and it is
--- at its bound, where the test holds, or at the earliest kept position
+-- a search back that has come from p to q, k positions back, ends there, if two things hold: it
+-- went on from all positions between; and it is at its bound, or the test holds, or it is at the
+-- earliest kept position
 pub search_back_is : (test : ℕ → Bool) (a p n k q : ℕ) → p ≡ q + k → k ≤ n → a ≤ q →
     ((j : ℕ) → j < k → stops_back test p j ≡ false) →
     (k < n → a < q → stops_back test p k ≡ true) → search_back_end test a p n ≡ q
@@ -317,7 +318,7 @@ back_end_by_order test o p n q r false true e f a b =
     sym (no_back_end_before test o p n r q b a (omega (arith, ltb-true _ _ f)) a.for_a_reason)
 back_end_by_order test o p n q r false false e f a b = omega (arith, ltb-false _ _ e, ltb-false _ _ f)
 
--- and nowhere else
+-- and there is no other end
 pub one_search_back_end : (test : ℕ → Bool) (o p n q r : ℕ) →
     EndsBackAt test o p n q → EndsBackAt test o p n r → q ≡ r
 one_search_back_end test o p n q r a b = back_end_by_order test o p n q r _ _ refl refl a b

@@ -1,4 +1,4 @@
--- The pending notices in order: what is known of each, and their lines.
+-- The pending notices in order: their properties, and their lines.
 use Rattle.std.proofs.Common.{◌≡◌, ℕ, zero, suc, ◌+◌, ◌<◌, ◌≤◌, Bool, true, false, cond, eqb, List, [], ◌∷◌, ◌++◌}
 use Rattle.std.proofs.Common.{length, drop, refl, sym, ap, ◌∙◌, arith, rules, Option, Some, None, slice_get, subst}
 use Rattle.std.specs.Prelude.{codes}
@@ -19,7 +19,7 @@ use Rattle.ss_state.specs.State.{State}
 use Rattle.ss_state.specs.Run.{Input, run}
 use Rattle.ss_debug.specs.Answer.{notice_line, notice_lines, pending_text, events_text}
 
--- ---- what holds of each pending notice holds of each in order
+-- ---- a property of each pending notice holds of each in order
 
 each_chosen : (P : Pending → Type 0) (b : Bool) (m n : Pending) → P m → P n → P (cond b m n)
 each_chosen P true m n h k = h
@@ -45,7 +45,7 @@ each_at P [] i e h k = absurd (cc)
 each_at P (f ∷ es) zero e h k = let same : f ≡ e = cc in subst P same h.0
 each_at P (f ∷ es) (suc i) e h k = each_at P es i e h.1 k
 
--- ---- what is known of a pending notice
+-- ---- properties of a pending notice
 
 above : (n : ℕ) (es : List Pending) → IsRising n es → Each (λ f. n < f.notice) es
 above n [] h = tt
@@ -100,7 +100,7 @@ known_of rules a i notice (Some x) w k e =
       pending = rw same here;
     }
 
--- what is known of the notice that a listing lists
+-- properties of the notice that a listing lists
 pub listed : (rules : List Rule) (a : Agenda) (i notice : ℕ) → IsWellAgenda rules a →
     Some notice ≡ option_map (λ e. e.notice) (slice_get (in_order rules a) i) →
     IsListed a (in_order rules a) i notice
@@ -113,7 +113,7 @@ slot_is o q e slot a b d = sym (some_eq (ap (option_map slot_of) (sym b) ∙ sym
 
 -- ---- the lines
 
--- the notices from one on are that one and those behind it
+-- the notices from one on are that one and those after it
 pub dropped : (es : List Pending) (i : ℕ) (e : Pending) → slice_get es i ≡ Some e → drop i es ≡ e ∷ drop (suc i) es
 dropped [] i e h = absurd (cc)
 dropped (f ∷ es) zero e h = let same : f ≡ e = cc in rw same refl
@@ -129,7 +129,7 @@ line_more p es i j e text new all h n k l =
     rw (l, next)
     (append_assoc text _ _ ∙ ap (λ (l : List Pending). text ++ notice_lines p l) (sym (dropped es i e h)) ∙ k)
 
--- behind the last there are none
+-- after the last there are none
 pub dropped_none : (es : List Pending) (i : ℕ) → slice_get es i ≡ None → drop i es ≡ []
 dropped_none [] zero h = refl
 dropped_none [] (suc i) h = refl
@@ -141,7 +141,7 @@ pub none_of : (o : Option Pending) → None ≡ option_map (λ (e : Pending). e.
 none_of None h = refl
 none_of (Some e) h = absurd (cc)
 
--- all lines, where the listing has ended
+-- all lines, when the listing has ended
 pub all_lines : (p : ProgramTable) (es : List Pending) (i : ℕ) (text all : List ℕ) →
     None ≡ option_map (λ (e : Pending). e.notice) (slice_get es i) →
     text ++ notice_lines p (drop i es) ≡ all → text ≡ all
@@ -149,7 +149,7 @@ all_lines p es i text all h k =
     sym (append-nil text) ∙ ap (λ (l : List Pending). text ++ notice_lines p l)
     (sym (dropped_none es i (none_of (slice_get es i) h))) ∙ k
 
--- where the listing has ended at its start, nothing is pending
+-- if the listing has ended at its start, nothing is pending
 pub nothing_pending : (p : ProgramTable) (es : List Pending) (i : ℕ) → i ≡ 0 →
     None ≡ option_map (λ (e : Pending). e.notice) (slice_get es i) → pending_text p es ≡ codes "NO EVENTS\n"
 nothing_pending p [] i z h = refl
@@ -157,7 +157,7 @@ nothing_pending p (e ∷ es) i z h =
     let first : None ≡ option_map (λ (e : Pending). e.notice) (slice_get (e ∷ es) 0) =
     subst (λ j. None ≡ option_map (λ (e : Pending). e.notice) (slice_get (e ∷ es) j)) z h in absurd (cc)
 
--- where it has listed some, the answer is their lines
+-- if it has listed some, the answer is their lines
 pub some_pending : (p : ProgramTable) (es : List Pending) (i : ℕ) → 0 < i → i ≤ length es →
     pending_text p es ≡ notice_lines p es
 some_pending p [] i z h = absurd (omega arith)

@@ -22,7 +22,7 @@ pub words_none : command_words [] ≡ []
 unfolding command_words
 words_none = refl
 
--- the first word, and those behind it
+-- the first word, and those after it
 pub words_first : (rest word more : List ℕ) → word ≡ before_first (separates word_separators) rest →
     more ≡ after_first (separates word_separators) rest →
     command_words rest ≡ cond (is_written word) (word ∷ command_words more) (command_words more)

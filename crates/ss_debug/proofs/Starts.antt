@@ -1,4 +1,4 @@
--- Event starts, seen from the states beside them.
+-- Event starts, seen from the states next to them.
 use Rattle.std.proofs.Common.{◌≡◌, ℕ, ◌+◌, ◌-◌, ◌<◌, Bool, true, ◌&&◌, nat_lt, length, refl, ap, arith, rules}
 use Rattle.ss_state.specs.State.{State}
 use Rattle.ss_state.specs.Run.{Input, run}
@@ -59,7 +59,7 @@ started_by here m n some before now =
 lt_from : (p q k : ℕ) → p ≡ q + k → nat_lt q p ≡ nat_lt 0 k
 lt_from p q k e = rw e (search rules)
 
--- what a movement back tells where it stands at q, k positions back
+-- the result of a movement back that is at q, k positions back
 pub told_back : (t : Input) (p q k : ℕ) (b : Bool) → p ≡ q + k → b ≡ stops_back (starts_event t) p k →
     b ≡ (nat_lt q p && starts_event t q)
 told_back t p q k b e f =

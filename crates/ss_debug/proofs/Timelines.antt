@@ -1,4 +1,4 @@
--- Movements over a run: where they are after so many steps, and where they end.
+-- Movements over a run: their positions after some steps, and their ends.
 use Rattle.std.proofs.Common.{◌≡◌, ℕ, ◌+◌, ◌-◌, ◌<◌, ◌≤◌, min, Bool, true, false, not, ◌&&◌, nat_lt, refl, sym, ap}
 use Rattle.std.proofs.Common.{◌∙◌, List, arith}
 use borrow.Author.Count.{below_more}
@@ -19,7 +19,7 @@ use Rattle.ss_debug.specs.Move.{StopCondition, step_condition, is_stop, is_ready
 use Rattle.ss_debug.specs.Move.{is_on_break, stops_back}
 use Rattle.ss_debug.proofs.Moves.{least_is, least_at_least, stops_as_seen, stops_here, search_back_is}
 
--- ---- the position after so many steps
+-- ---- the position after n steps
 
 input_of : (start here : Moment) (n : ℕ) → here ≡ with_kept start n → here.input ≡ start.input
 input_of start here n e = ap (λ (m : Moment). m.input) e
@@ -57,14 +57,14 @@ back_again start here new k same moved =
 
 -- ---- forward
 
--- whether STEP stops, as seen from where it is
+-- whether STEP stops, as seen from its present position
 pub step_stops_here : (start here : Moment) (k : ℕ) (ready : Bool) → here ≡ with_kept start (start.kept + k) →
     ready ≡ is_ready_at here.input (position here) → stops start.input step_condition (position start) k ≡ not ready
 step_stops_here start here k ready same seen =
     stops_as_seen start.input here.input (position start) (position here) k ready
     (input_of start here (start.kept + k) same) (position_on start here k same) seen
 
--- whether a movement stops, as seen from where it is
+-- whether a movement stops, as seen from its present position
 pub stops_seen : (start here : Moment) (breaks : List ℕ) (choice : StopChoice) (k from : ℕ) (b : Bool) →
     here ≡ with_kept start (start.kept + k) → from ≡ position start →
     b ≡ is_stop here.input (condition_of here.input breaks choice) from (position here) →
@@ -133,7 +133,7 @@ refused_here start here condition n k held h =
 pub record HasSearched (test : ℕ → Bool) (start : Moment) (k : ℕ) (here : Moment) : Type 0 where
   -- it is there
   pub same : here ≡ with_kept start (start.kept - k)
-  -- so many steps were kept
+  -- at least k steps were kept
   pub some : k ≤ start.kept
   -- the test holds in none of the states before it
   pub went_on : (j : ℕ) → j < k → stops_back test (position start) j ≡ false
@@ -169,7 +169,7 @@ search_ends_here test start here n k held h found =
       position = sym end;
     }
 
--- whether a search to a break line stops, as seen from where it is
+-- whether a search to a break line stops, as seen from its present position
 pub break_here : (start here : Moment) (breaks : List ℕ) (k : ℕ) (b : Bool) →
     HasSearched (is_on_break start.input breaks) start k here →
     b ≡ (nat_lt 0 k && is_on_break here.input breaks (position here)) →
@@ -180,7 +180,7 @@ break_here start here breaks k b held seen =
     let place : position start - k ≡ position here = omega (arith, gone) in
     rw (seen, input, place) refl
 
--- where BACK ends
+-- the end of BACK
 pub back_ends_here : (start here : Moment) (n k : ℕ) → here ≡ with_kept start (start.kept - k) → k ≤ start.kept → k ≤ n →
     (k < n → here.kept ≡ 0) → IsAt start (back_end start.low (position start) n) here
 back_ends_here start here n k same some h none =

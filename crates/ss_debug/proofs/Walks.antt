@@ -117,7 +117,7 @@ member_once s st o w k = times_by s st o (is_owner s st o) refl w k
 
 -- ---- the next member
 
--- the member behind k that a walk comes to
+-- the member after k to which a walk comes
 pub next_found : (s : SetShape) (st : Store) (o k : ℕ) (x : ℤ) → AreMembers st s → has (members_of s st o) k ≡ true →
     x ≡ pos k → result_unwrap_or (walk_next s st o (number_of x)) None ≡ next_in (members_of s st o) k
 next_found s st o k x w h e = rw (e, has_owner (list_by s.owner s.list st o) k h, member_exists s st o k w h, h) refl
@@ -127,7 +127,7 @@ pub next_there : (s : SetShape) (st : Store) (o k n : ℕ) → next_in (members_
     has (members_of s st o) n ≡ true
 next_there s st o k n e = has-seat_behind (members_of s st o) k n e
 
--- ---- the members behind one
+-- ---- the members after one
 
 behind_first : (ks : List ℕ) (n : ℕ) → first_of ks ≡ Some n → ks ≡ n ∷ members_behind ks n
 behind_first [] n e = absurd (cc)
@@ -163,7 +163,7 @@ behind_next (y ∷ ks) k n once e =
     tail_once : (y : ℕ) (l : List ℕ) → ((x : ℕ) → times_in (y ∷ l) x ≤ 1) → (x : ℕ) → times_in l x ≤ 1
     tail_once y l o x = let h = o x in omega (arith, h)
 
--- none is behind the last
+-- there is none after the last
 pub behind_last : (ks : List ℕ) (k : ℕ) → next_in ks k ≡ None → members_behind ks k ≡ []
 behind_last [] k e = refl
 behind_last (y ∷ ks) k e =

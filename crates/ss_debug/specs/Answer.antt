@@ -28,12 +28,12 @@ status_text Stopped = codes "STOPPED"
 status_text Finished = codes "FINISHED"
 status_text (Faulted f) = codes "FAULT F" ++ decimal (run_fault_number f)
 
--- a section's name; an empty one, which is never met, where there is none
+-- a section's name; if there is none, an empty name, which is never met
 abbrev pub section_name : Option SectionTable → List ℕ
 section_name (Some s) = s.name
 section_name None = []
 
--- the name of the section in which state p stands
+-- the name of the section in which state p is
 abbrev pub section_at : Input → ℕ → List ℕ
 section_at input p = section_name (slice_get input.program.sections (run input p).frame.section)
 
@@ -55,15 +55,16 @@ state_line input p = moment_text input p ++ place_text input p ++ 10 ∷ []
 unfoldable pub movement_text : List ℕ → Input → ℕ → List ℕ
 movement_text word input p = word ++ codes ": " ++ state_line input p
 
--- the word of a movement from p by at most n steps to a state q that is ready: TIME where the time has come, that of
--- the condition where it is met later than p, that of its bound where all steps were made, else BOUND
+-- the word of a movement from p by at most n steps to a state q that is ready: TIME if the time has
+-- come, the condition's word if it is met later than p, its word for the bound if all steps were
+-- made, else BOUND
 abbrev pub ready_word : Input → StopCondition → ℕ → ℕ → ℕ → List ℕ
 ready_word input condition p n q =
     if has_come input condition.time q then codes "TIME" else
     if nat_lt p q && condition.test q then condition.word else
     if nat_eq q (p + n) then condition.bound_word else codes "BOUND"
 
--- the word of a movement from p by at most n steps to q: HALTED where the status isn't ready
+-- the word of a movement from p by at most n steps to q: HALTED if the status isn't ready
 abbrev pub forward_word : Input → StopCondition → ℕ → ℕ → ℕ → List ℕ
 forward_word input condition p n q =
     if is_ready_at input q then ready_word input condition p n q else codes "HALTED"
@@ -76,7 +77,7 @@ earliest_word earliest = if nat_eq earliest 0 then codes "START" else codes "NOT
 abbrev pub back_word : ℕ → ℕ → ℕ → List ℕ
 back_word earliest p n = if nat_lt (p - earliest) n then earliest_word earliest else codes "DONE"
 
--- the word of a search back from p that ended at q, where the word for a state at which the test holds is given
+-- the word of a search back from p that ended at q; the word for a test that holds is given
 abbrev pub search_back_word : (ℕ → Bool) → List ℕ → ℕ → ℕ → ℕ → List ℕ
 search_back_word test word earliest p q =
     if nat_lt q p && test q then word else
@@ -101,8 +102,8 @@ clear_text breaks line =
 unfoldable pub clock_text : Input → ℕ → List ℕ
 clock_text input p = codes "CLOCK " ++ signed_decimal (run input p).clock ++ 10 ∷ []
 
--- the variable that a name stands for in state p: TIME.V, else a global variable, else a local of the section of the
--- last frame
+-- the variable that a name means in state p: TIME.V, else a global variable, else a local of the
+-- section of the last frame
 abbrev pub variable_named : Input → ℕ → List ℕ → Option Variable
 variable_named input p name =
     if bytes_eq name (codes "TIME.V") then Some Clock

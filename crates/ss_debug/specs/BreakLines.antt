@@ -7,7 +7,7 @@ use Rattle.ss_debug.specs.declared.limits.TheConstants.{MOST_BREAK_LINES}
 abbrev pub is_break_line : List ℕ → ℕ → Bool
 is_break_line breaks line = list_any (λ l. nat_eq l line) breaks
 
--- with one more: those before it, the line, and those behind it
+-- with one more: the lines before it, the line, and the lines after it
 unfoldable pub with_line : ℕ → List ℕ → List ℕ
 with_line line breaks = filter (λ l. nat_lt l line) breaks ++ line ∷ filter (λ l. nat_lt line l) breaks
 

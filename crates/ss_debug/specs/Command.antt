@@ -1,4 +1,4 @@
--- What a command line says.
+-- The command that a command line says.
 use Rattle.std.specs.Prelude.{ℕ, ℤ, pos, List, [], ◌∷◌, length, map, Option, Some, None, option_map, if◌then◌else◌}
 use Rattle.std.specs.Prelude.{nat_lt, codes}
 use Rattle.std.specs.Char.{to_ascii_uppercase}
@@ -13,7 +13,7 @@ use Rattle.ss_debug.specs.declared.commands.Movement.TheVariants.{Step, Run, Run
 use Rattle.ss_debug.specs.declared.commands.Question.TheVariants.{Clock, Where, Variable, Entity, Set, Events, Taken}
 use Rattle.ss_debug.specs.declared.commands.Question.TheVariants.{Entry, Report}
 
--- the command that is made of what was read, or a bad one
+-- the command that is made of a value that was read, or a bad one if there is none
 abbrev pub or_bad : {A : Type 0} → (A → Command) → Option A → Command
 or_bad make None = Bad
 or_bad make (Some x) = make x
@@ -24,7 +24,7 @@ only_number_of low high [] = None
 only_number_of low high (word ∷ []) = number_within low high word
 only_number_of low high (word ∷ next ∷ more) = None
 
--- the bound of a movement: what the only word behind it says, or another where no word is there
+-- the bound of a movement: the number in the only word after it, or another if there is no word
 abbrev pub bound_of : ℕ → List (List ℕ) → Option ℕ
 bound_of otherwise [] = Some otherwise
 bound_of otherwise (word ∷ more) = only_number_of 1 GREATEST_BOUND (word ∷ more)
@@ -37,19 +37,19 @@ only_line_of words = only_number_of 1 GREATEST_LINE words
 abbrev pub movement_of : {A : Type 0} → (A → Movement) → Option A → Command
 movement_of make x = or_bad (λ y. Move (make y)) x
 
--- a command behind which no word may stand
+-- a command that no word may follow
 abbrev pub command_alone : Command → List (List ℕ) → Command
 command_alone command [] = command
 command_alone command (word ∷ more) = Bad
 
--- what stands behind RUN: TO and a time, or a bound
+-- the command of the words after RUN: TO and a time, or a bound
 abbrev pub run_command : List (List ℕ) → Command
 run_command [] = Move (Run GREATEST_BOUND)
 run_command (word ∷ rest) =
     if bytes_eq word (codes "TO") then movement_of RunTo (only_number_of 0 GREATEST_TIME rest)
     else movement_of Run (bound_of GREATEST_BOUND (word ∷ rest))
 
--- what stands behind BACK: EVENT, BREAK, or a bound
+-- the command of the words after BACK: EVENT, BREAK, or a bound
 abbrev pub back_command : List (List ℕ) → Command
 back_command [] = Move (Back 1)
 back_command (word ∷ rest) =
@@ -90,7 +90,7 @@ abbrev pub question_of_three : List ℕ → List ℕ → List ℕ → Command
 question_of_three what word last =
     if bytes_eq what (codes "SET") then question_of_owner (name_of word) (entity_number last) else Bad
 
--- what stands behind SHOW
+-- the command of the words after SHOW
 abbrev pub show_command : List (List ℕ) → Command
 show_command [] = Bad
 show_command (what ∷ []) = question_alone what
@@ -98,7 +98,7 @@ show_command (what ∷ word ∷ []) = question_of_two what word (entity_number w
 show_command (what ∷ word ∷ last ∷ []) = question_of_three what word last
 show_command (what ∷ word ∷ last ∷ more ∷ rest) = Bad
 
--- what the words of a line say, in upper case
+-- the command that the words of a line say, in upper case
 unfoldable pub command_in_words : List (List ℕ) → Command
 command_in_words [] = Blank
 command_in_words (verb ∷ rest) =
@@ -112,12 +112,12 @@ command_in_words (verb ∷ rest) =
     if bytes_eq verb (codes "SHOW") then show_command rest else
     if bytes_eq verb (codes "QUIT") then command_alone Quit rest else Bad
 
--- what the words of a line say that is too long for a command
+-- the command of a line that is too long for a command, by its words
 abbrev pub command_of_long_line : List (List ℕ) → Command
 command_of_long_line [] = Blank
 command_of_long_line (word ∷ more) = Bad
 
--- what a line says; one that is too long is bad, unless it has no words
+-- the command that a line says; a line that is too long is bad, unless it has no words
 unfoldable pub command_of : List ℕ → Command
 command_of line =
     if nat_lt LONGEST_LINE (length line) then command_of_long_line (command_words line)

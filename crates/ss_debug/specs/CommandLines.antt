@@ -12,11 +12,11 @@ use Rattle.ss_debug.specs.declared.limits.TheConstants.{LONGEST_NAME}
 abbrev pub separates : List ℕ → ℕ → Bool
 separates separators b = list_any (λ s. nat_eq s b) separators
 
--- what separates words: a blank, a tab or a carriage return
+-- the separators of words: a blank, a tab or a carriage return
 abbrev pub word_separators : List ℕ
 word_separators = codes " \t\r"
 
--- what separates lines: a line feed
+-- the separator of lines: a line feed
 abbrev pub line_separators : List ℕ
 line_separators = codes "\n"
 
@@ -29,12 +29,12 @@ is_written (b ∷ bs) = true
 unfoldable pub command_words : List ℕ → List (List ℕ)
 command_words line = filter is_written (slice_split (separates word_separators) line)
 
--- the lines of the commands: the pieces between line feeds, each with its carriage return; behind a last line feed
--- stands none
+-- the lines of the commands: the pieces between line feeds, each with its carriage return; there is
+-- no line after a last line feed
 unfoldable pub command_lines : List ℕ → List (List ℕ)
 command_lines commands = without_empty_last (slice_split (separates line_separators) commands)
 
--- what the digits of a word say, where that is from low to high
+-- the number that the digits of a word say, if it is from low to high
 unfoldable pub number_within : ℕ → ℕ → List ℕ → Option ℕ
 number_within low high word =
     if is_written word && list_all is_ascii_digit word && nat_le low (number_of word) && nat_le (number_of word) high

@@ -1,4 +1,4 @@
--- The texts that tell of entities and of the lists of sets.
+-- The texts that show entities and the lists of sets.
 use Rattle.std.specs.Prelude.{ℕ, zero, suc, ◌==◌, ℤ, pos, false, List, [], ◌∷◌, ◌++◌, length, codes, decimal}
 use Rattle.std.specs.Prelude.{Option, Some, None, unwrap_or, Result, if◌then◌else◌, slice_index_or}
 use Rattle.std.specs.Option.{option_and_then}
@@ -35,9 +35,9 @@ no_entity_text class x = codes "NO ENTITY " ++ class ++ codes " " ++ signed_deci
 
 -- ---- an entity
 
--- What is read of an entity that exists is no fault; nothing is said of others.
+-- A reading of an entity that exists gives no fault; nothing is said of other entities.
 
--- the number of a member, 0 standing for none
+-- the number of a member, 0 if there is none
 abbrev pub member_read : Result (Option ℕ) RunFault → ℕ
 member_read r = unwrap_or (result_unwrap_or r None) 0
 
@@ -52,7 +52,7 @@ attribute_line program store class k attribute =
     slice_index_or (class_of program class).attributes attribute [] ++ codes " = "
     ++ signed_decimal (result_unwrap_or (attribute_of store class attribute k) (pos 0)) ++ 10 ∷ []
 
--- a kept attribute: what stands before the set's name, that name, and the value
+-- a kept attribute: the text before the set's name, that name, and the value
 abbrev pub kept_line : List ℕ → List ℕ → ℕ → List ℕ
 kept_line kept set value = kept ++ set ++ codes " = " ++ decimal value ++ 10 ∷ []
 
@@ -70,13 +70,13 @@ member_lines name shape store k =
     ++ kept_line (codes "S.") name (member_read (successor shape store k))
     ++ kept_line (codes "M.") name (if result_unwrap_or (membership shape store k) false then 1 else 0)
 
--- what a set tells of its owner number k, where the class owns it
+-- the lines of a set for its owner number k, if the class owns it
 abbrev pub owned_set_lines : ProgramTable → Store → ℕ → ℕ → ℕ → List ℕ
 owned_set_lines program store class k set =
     if is_same_owner (OwnedBy class) (set_of program set).owner
     then owner_lines (set_of program set).name (shape_of program set) store k else []
 
--- what it tells of entity number k, where the entities of the class may be in it
+-- the lines of a set for entity number k, if the entities of the class may be in it
 abbrev pub joined_set_lines : ProgramTable → Store → ℕ → ℕ → ℕ → List ℕ
 joined_set_lines program store class k set =
     if (set_of program set).member == class
@@ -104,7 +104,7 @@ entity_text name x input p = class_text name x input.program (run input p).store
 
 -- ---- a list
 
--- further members, each behind a blank
+-- further members, each after a blank
 abbrev pub further_members : List ℕ → List ℕ
 further_members [] = []
 further_members (k ∷ ks) = codes " " ++ decimal k ++ further_members ks
@@ -114,7 +114,7 @@ abbrev pub members_text : List ℕ → List ℕ
 members_text [] = codes "EMPTY"
 members_text (k ∷ ks) = decimal k ++ further_members ks
 
--- the members behind one
+-- the members after one
 abbrev pub members_behind : List ℕ → ℕ → List ℕ
 members_behind [] k = []
 members_behind (j ∷ ks) k = if j == k then ks else members_behind ks k

@@ -1,4 +1,4 @@
--- Command lines, small programs and states of examples, and what they say.
+-- Command lines, small programs and states of examples, and the texts that they give.
 use Rattle.std.specs.Prelude.{ℕ, ℤ, ◌≡◌, pos, neg_ℤ, false, List, [], ◌∷◌, map, codes, Option, Some, None}
 use Rattle.ss_program.specs.declared.kinds.ClassKind.TheVariants.{Event, Permanent, Temporary}
 use Rattle.ss_program.specs.declared.kinds.Discipline.TheVariants.{Fifo}
@@ -22,16 +22,16 @@ EachSays command lines = map command_of lines ≡ map (λ _. command) lines
 
 -- ---- steps that are forgotten
 
--- the debugger at a position, where nothing before another one is kept
+-- the debugger at a position, with nothing kept before the earliest one
 abbrev pub debugger_at : ℕ → ℕ → DebuggerState
 debugger_at earliest p = record { position = p; earliest = earliest; breaks = [] }
 
--- FORGET leads there, and says so, whatever the run is
+-- FORGET leads to this state and gives this text, whatever the run is
 abbrev pub Keeps : DebuggerState → Command → DebuggerState → List ℕ → Type 0
 Keeps old command new text =
     (t : Input) → (debugger_state_after t old command ≡ new) × (answer t old command ≡ text)
 
--- a movement leads there, and says this word, whatever the run is
+-- a movement leads to this state and gives this word, whatever the run is
 abbrev pub Moves : DebuggerState → Command → DebuggerState → List ℕ → Type 0
 Moves old command new word =
     (t : Input) → (debugger_state_after t old command ≡ new)
@@ -121,6 +121,6 @@ shop_at d = record {
 abbrev pub shop_entity_text : List ℕ → ℤ → List ℕ
 shop_entity_text name x = class_text name x shop two_desks (class_named shop name)
 
--- the answer to SHOW SET in the shop, where the variable DESK has this value
+-- the answer to SHOW SET in the shop, if the variable DESK has this value
 abbrev pub shop_list_text : ℤ → List ℕ → Option ℤ → List ℕ
 shop_list_text d name owner = named_list_text name owner shop (shop_at d) (set_named shop name)

@@ -1,4 +1,5 @@
--- Laws on movements: each ends at exactly one position, within its bound; and on what FORGET leaves.
+-- Laws on movements, which end at exactly one position, within their bound; and laws on the steps
+-- that FORGET leaves.
 use Rattle.std.specs.Prelude.{ℕ, ◌+◌, ◌-◌, min, Bool, ◌≡◌, ◌≤◌}
 use Rattle.ss_state.specs.declared.limits.TheConstants.{LAST_POSITION}
 use Rattle.ss_state.specs.Run.{Input}
@@ -13,7 +14,7 @@ MovementEnds =
     (t : Input) (condition : StopCondition) (p n : ℕ) → p ≤ LAST_POSITION →
     EndsAt t condition p n (forward_end t condition p n)
 
--- and there is no second
+-- and there is no second end
 abbrev pub EndIsUnique : Type 0
 EndIsUnique =
     (t : Input) (condition : StopCondition) (p n q r : ℕ) → EndsAt t condition p n q → EndsAt t condition p n r → q ≡ r
@@ -24,7 +25,7 @@ SearchBackEnds =
     (test : ℕ → Bool) (earliest p n : ℕ) → earliest ≤ p →
     EndsBackAt test earliest p n (search_back_end test earliest p n)
 
--- and there is no second
+-- and there is no second end
 abbrev pub SearchBackEndIsUnique : Type 0
 SearchBackEndIsUnique =
     (test : ℕ → Bool) (earliest p n q r : ℕ) → EndsBackAt test earliest p n q → EndsBackAt test earliest p n r → q ≡ r
@@ -35,11 +36,11 @@ bound_of_shape (forward condition n) = n
 bound_of_shape (back n) = n
 bound_of_shape (search_back test word) = GREATEST_BOUND
 
--- a movement ends at q, at most n steps from where it began, at a position that is kept and not past the last one
+-- a movement ends at q, at most n steps from its start, at a kept position not past the last one
 pub record IsWithinBound (debugger : DebuggerState) (n q : ℕ) : Type 0 where
-  -- so many steps on at most
+  -- at most n steps on
   pub no_further_on : q ≤ debugger.position + n
-  -- so many steps back at most
+  -- at most n steps back
   pub no_further_back : debugger.position ≤ q + n
   -- not before the earliest kept position
   pub not_before_the_kept : debugger.earliest ≤ q
@@ -52,15 +53,15 @@ MovementEndsWithinBound =
     (t : Input) (d : DebuggerState) (shape : MovementShape) → d.earliest ≤ d.position → d.position ≤ LAST_POSITION →
     IsWithinBound d (bound_of_shape shape) (end_of t d shape)
 
--- what FORGET n leaves
+-- the state that FORGET n leaves
 pub record IsLeftByForget (n : ℕ) (old new : DebuggerState) : Type 0 where
   -- the position
   pub position : new.position ≡ old.position
   -- the break lines
   pub breaks : new.breaks ≡ old.breaks
-  -- the newest n steps, or all where there were fewer
+  -- the newest n steps, or all if there were fewer
   pub kept : new.position - new.earliest ≡ min n (old.position - old.earliest)
-  -- BACK by so many steps leads to where it led
+  -- BACK by at most n steps leads to the same position as before
   pub back : (k : ℕ) → k ≤ n → back_end new.earliest new.position k ≡ back_end old.earliest old.position k
   -- BACK by more leads to the earliest kept position
   pub no_further : (k : ℕ) → n ≤ k → back_end new.earliest new.position k ≡ new.earliest

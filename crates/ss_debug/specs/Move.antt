@@ -1,4 +1,4 @@
--- What each movement does, and where it ends.
+-- The effect of each movement, and the position at which it ends.
 use Rattle.std.specs.Prelude.{ℕ, zero, suc, ◌+◌, ◌-◌, min, max, pos, int_le, ◌≡◌, ◌<◌, ◌≤◌}
 use Rattle.std.specs.Prelude.{Bool, true, false, not, ◌&&◌, ◌||◌, ◌⊎◌, if◌then◌else◌, nat_lt}
 use Rattle.std.specs.Prelude.{List, length, codes, Option, Some, None}
@@ -21,7 +21,7 @@ least test (suc n) = if nat_lt (least test n) n then least test n else (if test 
 abbrev pub is_ready_at : Input → ℕ → Bool
 is_ready_at input p = is_ready (run input p).status
 
--- the line of a place; 0, which is never met, where there is none
+-- the line of a place; if there is no place, 0, which is never met
 abbrev pub spot_line : Option Spot → ℕ
 spot_line None = 0
 spot_line (Some spot) = spot.line
@@ -56,18 +56,18 @@ starts_event input p =
 abbrev pub is_behind_start : Input → ℕ → Bool
 is_behind_start input p = nat_lt 0 p && starts_event input (p - 1)
 
--- where a forward movement may stop before its bound, and what it says
+-- the states at which a forward movement may stop before its bound, and its words
 pub record StopCondition : Type 0 where
-  -- where the clock is at or past this time, if one is named, also where the movement begins
+  -- a state whose clock is at or past this time, if one is named, the first state included
   pub time : Option ℕ
-  -- where this test holds, later than where it begins
+  -- a state at which this test holds, later than the first one
   pub test : ℕ → Bool
-  -- the word for that
+  -- the word for a state at which the test holds
   pub word : List ℕ
-  -- the word where all steps were made and nothing else is to be said
+  -- the word if all steps were made and there is nothing else to say
   pub bound_word : List ℕ
 
--- STEP stops nowhere: it is told how many steps to make
+-- STEP stops nowhere: its command says how many steps to make
 abbrev pub step_condition : StopCondition
 step_condition = record { time = None; test = λ p. false; word = codes "DONE"; bound_word = codes "DONE" }
 
@@ -76,7 +76,7 @@ abbrev pub run_condition : Input → List ℕ → StopCondition
 run_condition input breaks =
     record { time = None; test = is_on_break input breaks; word = codes "BREAK"; bound_word = codes "BOUND" }
 
--- RUN TO stops there, and at a state whose clock is at or past a time
+-- RUN TO stops at the states of RUN, and at a state whose clock is at or past a time
 abbrev pub run_to_condition : Input → List ℕ → ℕ → StopCondition
 run_to_condition input breaks time = record (run_condition input breaks) { time = Some time }
 
@@ -85,14 +85,14 @@ abbrev pub next_condition : Input → StopCondition
 next_condition input =
     record { time = None; test = is_behind_start input; word = codes "EVENT"; bound_word = codes "BOUND" }
 
--- what a movement does: it goes forward to where it stops, so many steps at most; so many steps back; or back to where
--- a test holds, for which it has a word
+-- the effect of a movement: it goes forward to a stop, by at most a number of steps; or back by a
+-- number of steps; or back to a state at which a test holds, for which it has a word
 pub data MovementShape : Type 0 where
   forward : StopCondition → ℕ → MovementShape
   back : ℕ → MovementShape
   search_back : (ℕ → Bool) → List ℕ → MovementShape
 
--- what each movement does
+-- the effect of each movement
 abbrev pub shape_of : Input → List ℕ → Movement → MovementShape
 shape_of input breaks (Step n) = forward step_condition n
 shape_of input breaks (Run n) = forward (run_condition input breaks) n
@@ -114,12 +114,12 @@ is_stop input condition p q =
 abbrev pub stops : Input → StopCondition → ℕ → ℕ → Bool
 stops input condition p k = is_stop input condition p (p + k)
 
--- where a movement from p ends: at the least such position, at most n positions on, and not past the last one
+-- the end of a movement from p: the least such position, at most n on, and not past the last one
 abbrev pub forward_end : Input → StopCondition → ℕ → ℕ → ℕ
 forward_end input condition p n = p + least (stops input condition p) (min n (LAST_POSITION - p))
 
--- the same as one fact: q is the least later position that meets the condition, within the bound, never past a state
--- that isn't ready nor past the last position
+-- that end as one fact: q is the least later position that meets the condition, within the bound,
+-- never past a state that isn't ready nor past the last position
 pub record EndsAt (input : Input) (condition : StopCondition) (p n q : ℕ) : Type 0 where
   -- it is not before the start
   pub no_earlier : p ≤ q
@@ -131,7 +131,7 @@ pub record EndsAt (input : Input) (condition : StopCondition) (p n q : ℕ) : Ty
   pub not_past_an_end : (k : ℕ) → p ≤ k → k < q → is_ready_at input k ≡ true
   -- before it the time has not come
   pub not_past_the_time : (k : ℕ) → p ≤ k → k < q → has_come input condition.time k ≡ false
-  -- between the two the test holds nowhere
+  -- the test holds at no position between the two
   pub not_past_a_met : (k : ℕ) → p < k → k < q → condition.test k ≡ false
   -- it is at one of the bounds, or meets the condition
   pub for_a_reason :
@@ -140,29 +140,29 @@ pub record EndsAt (input : Input) (condition : StopCondition) (p n q : ℕ) : Ty
 
 -- ---- back
 
--- n positions before p, or the earliest kept position where that is later
+-- n positions before p, or the earliest kept position if that is later
 abbrev pub back_end : ℕ → ℕ → ℕ → ℕ
 back_end earliest p n = max earliest (p - n)
 
--- whether a search back from p ends k positions back: earlier than at its beginning, where the test holds
+-- whether a search back from p ends k positions back: earlier than p, at a state that passes
 abbrev pub stops_back : (ℕ → Bool) → ℕ → ℕ → Bool
 stops_back test p k = nat_lt 0 k && test (p - k)
 
--- where a search back from p to a state at which the test holds ends: at the greatest earlier such position, at most n
--- positions back, and not before the earliest kept one
+-- the end of a search back from p to a state at which the test holds: the greatest earlier such
+-- position, at most n positions back, and not before the earliest kept one
 abbrev pub search_back_end : (ℕ → Bool) → ℕ → ℕ → ℕ → ℕ
 search_back_end test earliest p n = p - least (stops_back test p) (min n (p - earliest))
 
--- the same as one fact: q is the greatest earlier position at which the test holds, within the bound, not before the
--- earliest kept one
+-- that end as one fact: q is the greatest earlier position at which the test holds, within the
+-- bound, not before the earliest kept one
 pub record EndsBackAt (test : ℕ → Bool) (earliest p n q : ℕ) : Type 0 where
-  -- it is not behind the start
+  -- it is not past the start
   pub no_later : q ≤ p
   -- it is kept
   pub not_before_the_kept : earliest ≤ q
   -- it is within the bound
   pub within : p ≤ q + n
-  -- between the two the test holds nowhere
+  -- the test holds at no position between the two
   pub not_past_a_met : (k : ℕ) → q < k → k < p → test k ≡ false
   -- it is at one of the bounds, or the test holds there
   pub for_a_reason : (q ≡ earliest) ⊎ ((p ≡ q + n) ⊎ ((q < p) × (test q ≡ true)))

@@ -1,4 +1,4 @@
--- Where a movement leads, for the private functions that move over a run.
+-- The position to which a movement leads, for the private functions that move over a run.
 use Rattle.std.specs.Prelude.{ℕ, ◌≡◌, ◌+◌, ◌-◌, ◌≤◌, length}
 use Rattle.ss_state.specs.Run.{run}
 use Rattle.ss_timeline.specs.Moment.{Moment, position}

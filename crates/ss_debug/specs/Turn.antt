@@ -31,7 +31,7 @@ pub record DebuggerState : Type 0 where
 abbrev pub initial_debugger_state : DebuggerState
 initial_debugger_state = record { position = 0; earliest = 0; breaks = [] }
 
--- the same, at another position
+-- the same debugger, at another position
 abbrev pub debugger_state_at : DebuggerState → ℕ → DebuggerState
 debugger_state_at debugger p = record { position = p; earliest = debugger.earliest; breaks = debugger.breaks }
 
@@ -41,7 +41,7 @@ end_of input debugger (forward condition n) = forward_end input condition debugg
 end_of input debugger (back n) = back_end debugger.earliest debugger.position n
 end_of input debugger (search_back test word) = search_back_end test debugger.earliest debugger.position GREATEST_BOUND
 
--- its word, where it leads to q
+-- the word of such a movement, if it leads to q
 abbrev pub word_of : Input → DebuggerState → MovementShape → ℕ → List ℕ
 word_of input debugger (forward condition n) q = forward_word input condition debugger.position n q
 word_of input debugger (back n) q = back_word debugger.earliest debugger.position n
@@ -51,17 +51,17 @@ word_of input debugger (search_back test word) q = search_back_word test word de
 abbrev pub debugger_state_after_movement : Input → DebuggerState → MovementShape → DebuggerState
 debugger_state_after_movement input debugger shape = debugger_state_at debugger (end_of input debugger shape)
 
--- what it answers
+-- the answer to a movement
 abbrev pub movement_answer : Input → DebuggerState → MovementShape → List ℕ
 movement_answer input debugger shape =
     let q = end_of input debugger shape in movement_text (word_of input debugger shape q) input q
 
--- the same, with other break lines
+-- the same debugger, with other break lines
 abbrev pub debugger_state_with : DebuggerState → List ℕ → DebuggerState
 debugger_state_with debugger breaks =
     record { position = debugger.position; earliest = debugger.earliest; breaks = breaks }
 
--- the same, where nothing before the position to which BACK n goes is kept
+-- the same debugger, with nothing kept before the position to which BACK n goes
 abbrev pub debugger_state_after_forget : DebuggerState → ℕ → DebuggerState
 debugger_state_after_forget debugger n =
     record {
@@ -79,11 +79,11 @@ debugger_state_after input debugger (Clear line) = debugger_state_with debugger 
 debugger_state_after input debugger (Forget n) = debugger_state_after_forget debugger n
 debugger_state_after input debugger _ = debugger
 
--- what FORGET answers
+-- the answer to FORGET
 abbrev pub forget_answer : DebuggerState → ℕ → List ℕ
 forget_answer debugger n = kept_text (debugger.position - (debugger_state_after_forget debugger n).earliest)
 
--- what SHOW answers in state p
+-- the answer to SHOW in state p
 abbrev pub show_answer : Input → ℕ → Question → List ℕ
 show_answer input p Clock = clock_text input p
 show_answer input p Where = state_line input p
@@ -95,7 +95,7 @@ show_answer input p Taken = taken_text input p
 show_answer input p Entry = entry_text input p
 show_answer input p Report = report_text input p
 
--- what a command answers
+-- the answer to a command
 unfoldable pub answer : Input → DebuggerState → Command → List ℕ
 answer input debugger Blank = []
 answer input debugger Bad = codes "BAD COMMAND\n"
@@ -117,7 +117,7 @@ abbrev pub is_quit : Command → Bool
 is_quit Quit = true
 is_quit _ = false
 
--- whether the session goes on behind a command: QUIT alone ends it
+-- whether the session goes on after a command: only QUIT ends it
 abbrev pub go_of : Command → Go
 go_of Quit = go.Quit
 go_of _ = go.On

@@ -1,4 +1,4 @@
--- What the types of the code stand for.
+-- The meaning of the code's types in the definitions.
 use Rattle.std.specs.Prelude.{ℕ, Bool, false, List, codes}
 use Rattle.ss_machine.specs.Moment.{Moment, position}
 use Rattle.ss_timeline.specs.Moment as timelines
@@ -10,19 +10,19 @@ use Rattle.ss_debug.specs.Move.{StopCondition, step_condition, is_on_break, is_b
 use Rattle.ss_debug.specs.Move.{forward_end, search_back_end}
 use Rattle.ss_debug.specs.Turn.{DebuggerState}
 
--- whether a state is what a movement looks for
+-- whether a state is one that a movement looks for
 abbrev pub target_test : Input → List ℕ → Target → ℕ → Bool
 target_test input breaks Nothing = λ p. false
 target_test input breaks BreakLine = is_on_break input breaks
 target_test input breaks EventStart = is_behind_start input
 
--- the word where it is found
+-- the word if such a state is found
 abbrev pub target_word : Target → List ℕ
 target_word Nothing = codes "DONE"
 target_word BreakLine = codes "BREAK"
 target_word EventStart = codes "EVENT"
 
--- the word where all steps were made
+-- the word if all steps were made
 abbrev pub target_bound_word : Target → List ℕ
 target_bound_word Nothing = codes "DONE"
 target_bound_word BreakLine = codes "BOUND"
@@ -37,16 +37,16 @@ condition_of input breaks choice = record {
   bound_word = target_bound_word choice.target;
 }
 
--- where so many steps from a moment end
+-- the end of a number of steps from a moment
 abbrev pub step_end : timelines.Moment → ℕ → ℕ
 step_end moment bound = forward_end moment.input step_condition (timelines.position moment) bound
 
--- where a movement forward from a moment ends
+-- the end of a movement forward from a moment
 abbrev pub stop_end : timelines.Moment → List ℕ → StopChoice → ℕ → ℕ
 stop_end moment breaks choice bound =
     forward_end moment.input (condition_of moment.input breaks choice) (timelines.position moment) bound
 
--- where a search back from a moment ends
+-- the end of a search back from a moment
 abbrev pub search_end : (ℕ → Bool) → timelines.Moment → ℕ → ℕ
 search_end test moment bound = search_back_end test moment.low (timelines.position moment) bound
 

@@ -26,7 +26,7 @@ impl Model for BreakLines {
     ghost invariant = { λ a. a.count ≡ length (lines_of a.is_set.items) };
 }
 
-/// Makes a table long enough for a line. Where memory is refused, the table is as before.
+/// Makes a table long enough for a line. If memory is refused, the table is as before.
 #[tactic(auto, using(crate::proofs::LineTables::longer))]
 fn make_room(is_set: &mut Vec<bool>, line: usize) -> Result<(), AllocError>
     requires { line < 2 ^ 32 }
@@ -106,7 +106,7 @@ impl BreakLines {
         MOST_BREAK_LINES <= self.others(line as usize)
     }
 
-    /// Makes a line a break line. Where memory is refused, the break lines are as before.
+    /// Makes a line a break line. If memory is refused, the break lines are as before.
     #[tactic(auto, using(crate::proofs::LineTables::setting))]
     pub fn set(&mut self, line: u32) -> Result<(), AllocError>
         ensures ok { OnOk result (self.new ≡ with_line line self.old) }

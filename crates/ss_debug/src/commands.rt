@@ -1,4 +1,4 @@
-//! What a command line says.
+//! The commands that command lines say.
 use crate::name::Name;
 
 /// A command (docs/DEBUGGER.md); limits.rt has the limits of the numbers.
@@ -14,7 +14,8 @@ pub enum Command {
     Break(u32),
     /// CLEAR: this line is no break line any more.
     Clear(u32),
-    /// FORGET: all steps but so many newest ones, at most `GREATEST_KEPT` where a line was read.
+    /// FORGET: all steps but this number of newest ones. The number is at most `GREATEST_KEPT` if
+    /// a line was read.
     Forget(u64),
     /// SHOW: a question.
     Show(Question),
@@ -22,18 +23,18 @@ pub enum Command {
     Quit,
 }
 
-/// A movement. Bounds are numbers of steps, from 1 to `GREATEST_BOUND` where a line was read.
+/// A movement. Bounds are numbers of steps, from 1 to `GREATEST_BOUND` if a line was read.
 #[derive(Clone, Copy, Debug, PartialEq, Eq)]
 pub enum Movement {
-    /// STEP: so many steps forward.
+    /// STEP: this number of steps forward.
     Step(u64),
-    /// RUN: forward to a break line, at most so many steps.
+    /// RUN: forward to a break line, at most this number of steps.
     Run(u64),
     /// RUN TO: forward to this time or a break line.
     RunTo(u64),
     /// NEXT: forward to the state to which the next event start leads.
     Next,
-    /// BACK: so many steps back.
+    /// BACK: this number of steps back.
     Back(u64),
     /// BACK EVENT: back to a state whose next step is an event start.
     BackEvent,
@@ -52,8 +53,8 @@ pub enum Question {
     Variable(Name),
     /// SHOW c k: the entity of this class with this number, and its attributes.
     Entity(Name, i64),
-    /// SHOW SET: the members of the set of this name, for the owner with this number or that which
-    /// the variable of its class names.
+    /// SHOW SET: the members of the set of this name, for the owner with this number or the owner
+    /// that the variable of its class names.
     Set(Name, Option<i64>),
     /// SHOW EVENTS: the pending notices, the next first.
     Events,

@@ -1,4 +1,4 @@
-//! The debugger, and what each command does.
+//! The debugger, and the effect of each command.
 mod single;
 
 ghost use Rattle.std.specs.Prelude.{◌≡◌, ◌++◌, [], codes, true, OnOk, OnErr, IfOk, IsOk};
@@ -267,12 +267,12 @@ impl<S: SetBoard> Debugger<S> {
     }
 }
 
-/// One turn: does what a command says, and appends its whole answer to `bytes` (docs/DEBUGGER.md).
-/// `Quit` is answered for QUIT alone.
+/// One turn: obeys a command, and appends its whole answer to `bytes` (docs/DEBUGGER.md). Only QUIT
+/// gives `Quit`.
 ///
-/// `AllocError` where a growth was refused: `bytes`, the break lines and the earliest kept position
-/// are as before, and the machine stands where the steps that were made led. A command that gives
-/// no answer, a blank line or QUIT, succeeds.
+/// `AllocError` if a growth was refused: `bytes`, the break lines and the earliest kept position
+/// are as before, and the machine is at the position to which the steps that were made led. A
+/// command that gives no answer, a blank line or QUIT, succeeds.
 #[tactic(auto, unfolding(crate::proofs::Unfoldings::turns))]
 pub fn obey<S: SetBoard>(
     debugger: &mut Debugger<S>,

@@ -30,7 +30,7 @@ fn push_kept(text: &mut Vec<u8>, kept: &[u8], set: &[u8], value: usize) -> Resul
     text.extend_from_slice(b"\n")
 }
 
-/// The number of a member, 0 standing for none.
+/// The number of a member, 0 if there is none.
 fn member_number(member: Result<Option<u32>, RunFault>) -> usize
     ensures { result ≡ member_read member }
 {
@@ -119,7 +119,7 @@ fn is_owned_by(owner: Owner, class: usize) -> bool
     }
 }
 
-/// Appends what a set tells of an entity of this class, where the class owns it.
+/// Appends the lines of a set for an entity of this class, if the class owns the set.
 #[tactic(auto, using(crate::proofs::Tables::sets_kept, crate::proofs::Tables::nothing_more))]
 fn push_owned_set<S: SetBoard>(
     text: &mut Vec<u8>,
@@ -140,7 +140,7 @@ fn push_owned_set<S: SetBoard>(
     Ok(())
 }
 
-/// Appends what a set tells of an entity of this class, where the class is that of its members.
+/// Appends the lines of a set for an entity of this class, if the class is that of its members.
 #[tactic(auto, using(crate::proofs::Tables::sets_kept, crate::proofs::Tables::nothing_more))]
 fn push_joined_set<S: SetBoard>(
     text: &mut Vec<u8>,
@@ -161,7 +161,7 @@ fn push_joined_set<S: SetBoard>(
     Ok(())
 }
 
-/// Appends what the sets that the class owns tell of one of its entities.
+/// Appends the lines of the sets that the class owns, for one of its entities.
 fn push_owned_sets<S: SetBoard>(
     text: &mut Vec<u8>,
     machine: &Machine<S>,
@@ -179,7 +179,7 @@ fn push_owned_sets<S: SetBoard>(
     Ok(())
 }
 
-/// Appends what the sets in which entities of the class may be tell of one of them.
+/// Appends the lines of the sets in which entities of the class may be, for one of them.
 fn push_joined_sets<S: SetBoard>(
     text: &mut Vec<u8>,
     machine: &Machine<S>,

@@ -11,7 +11,7 @@ use ss_program::Program;
 use ss_state::Entry;
 use std::alloc::{AllocError, Global};
 
-/// The line of an entry of this class with this notice, and what is said of it.
+/// The line of an entry of this class with this notice, and the text that says its state.
 fn entry_line(
     alloc: Global,
     program: &Program,

@@ -1,5 +1,5 @@
-//! Laws on the definitions. Each function does nothing, and its contract says the law: that a
-//! movement has one end, and, proved by computing, what small command lines say.
+//! Laws on the definitions. Each function does nothing, and its contract says the law: a movement
+//! has one end; and, proved by computing, the commands that small command lines say.
 #![tactic(auto, unfolding(crate::proofs::Unfoldings::command_lines_together))]
 
 ghost use Rattle.std.specs.Prelude.{◌≡◌, [], ◌∷◌, ◌++◌, ◌-◌, codes, replicate, pos, neg_ℤ, Some, None, ℕ, Bool, false};
@@ -39,19 +39,19 @@ pub fn a_movement_back_has_one_end()
     ensures unique { SearchBackEndIsUnique }
 {}
 
-/// Every movement ends within its bound: so many steps from where it began at most, at a position
+/// Every movement ends within its bound: at most that number of steps from its start, at a position
 /// that is kept and not past the last one.
 pub fn every_movement_ends_within_its_bound()
     ensures { MovementEndsWithinBound }
 {}
 
-/// FORGET n leaves the newest n steps, or all where there were fewer: BACK leads to where it led,
-/// but not before them.
+/// FORGET n leaves the newest n steps, or all if there were fewer: BACK leads to the position to
+/// which it led, but not before those steps.
 pub fn forget_leaves_the_newest_steps()
     ensures { ForgetLeavesTheNewestSteps }
 {}
 
-/// Behind the last line feed stands no line; a carriage return stays in its line.
+/// No line follows the last line feed; a carriage return stays in its line.
 fn lines_are_pieces_between_line_feeds()
     ensures none { command_lines [] ≡ [] }
     ensures ended { command_lines (codes "step\nback\n") ≡ codes "step" ∷ codes "back" ∷ [] }
@@ -67,7 +67,7 @@ fn a_line_without_words_is_blank()
         ∷ replicate 201 13 ∷ []) }
 {}
 
-/// Words stand in either case, between blanks, tabs and carriage returns.
+/// Words are in either case, between blanks, tabs and carriage returns.
 fn words_are_in_either_case()
     ensures step { EachSays (Move (Step 1)) (codes "STEP" ∷ codes "step" ∷ codes " sTeP\r"
         ∷ codes "\tstep \t 1\r " ∷ codes "STEP\r1" ∷ []) }
@@ -110,7 +110,7 @@ fn bounds_are_digits()
         ∷ []) }
 {}
 
-/// A line is from 1 to 1,000,000, a time from 0 to 2^63 - 1, and both stand alone.
+/// A line is from 1 to 1,000,000, a time from 0 to 2^63 - 1, and no word follows either.
 fn lines_and_times_have_limits()
     ensures kept { EachSays (Forget 1000000) (codes "FORGET 1000000" ∷ []) }
     ensures line { EachSays (Break 1000000) (codes "BREAK 1000000" ∷ []) }
@@ -125,7 +125,7 @@ fn lines_and_times_have_limits()
         ∷ codes "SHOW WHERE X" ∷ []) }
 {}
 
-/// A name has a letter beside digits and stops, and loses the stops at its end.
+/// A name has a letter, not only digits and stops, and loses the stops at its end.
 fn names_are_those_of_the_language()
     ensures stops { EachSays (Show (Variable (codes "A.B"))) (codes "SHOW VAR A.B"
         ∷ codes "SHOW VAR a.b." ∷ codes "SHOW VAR a.b..." ∷ []) }
@@ -165,7 +165,7 @@ fn other_lines_are_bad()
     ensures quit { EachSays Bad (codes "QUIT X" ∷ codes "QUIT 1" ∷ codes "QUIT QUIT" ∷ []) }
 {}
 
-/// Two words behind SHOW of which the second is a number ask for an entity, whatever the first is.
+/// SHOW and two words, the second a number, ask for an entity, whatever the first word is.
 fn numbers_ask_for_entities()
     ensures class { EachSays (Show (Entity (codes "JOB") (pos 7))) (codes "SHOW JOB 7"
         ∷ codes "show job.. 007\r" ∷ []) }
@@ -215,8 +215,9 @@ fn back_ends_at_the_earliest_kept_position()
         (codes "NOTHING KEPT") }
 {}
 
-/// Where BACK EVENT and BACK BREAK end, from position 5 with nothing kept before position 3, by
-/// where their test holds; what they look for is told before NOTHING KEPT, and that before BOUND.
+/// The ends of BACK EVENT and BACK BREAK from position 5, with nothing kept before position 3, by
+/// the positions at which their test holds. The word of the test goes before NOTHING KEPT, and that
+/// before BOUND.
 fn a_search_back_ends_at_the_earliest_kept_position()
     ensures found { search_back_end (λ q. nat_eq q 4) 3 5 GREATEST_BOUND ≡ 4 }
     ensures there { search_back_end (λ q. nat_eq q 3) 3 5 GREATEST_BOUND ≡ 3 }
@@ -230,8 +231,8 @@ fn a_search_back_ends_at_the_earliest_kept_position()
     ensures at_start { search_back_word (λ q. false) (codes "BREAK") 0 5 0 ≡ codes "START" }
 {}
 
-/// At the last position no movement goes on, and its word is BOUND; STEP says DONE there where it
-/// has made all its steps.
+/// No movement goes on at the last position, and its word is BOUND. STEP says DONE there if it has
+/// made all its steps.
 fn no_movement_passes_the_last_position()
     ensures step { (t : Input) → forward_end t step_condition LAST_POSITION 5 ≡ LAST_POSITION }
     ensures step_said { (t : Input) → ready_word t step_condition LAST_POSITION 5 LAST_POSITION
@@ -246,8 +247,8 @@ fn no_movement_passes_the_last_position()
         (run_condition t []) LAST_POSITION GREATEST_BOUND LAST_POSITION ≡ codes "BOUND" }
 {}
 
-/// SHOW EVENTS tells the next notice first, whatever its reference, and those of one time by the
-/// order of the classes; where none is pending it says so.
+/// SHOW EVENTS shows the next notice first, whatever its reference, and those of one time in the
+/// order of the classes; if none is pending it says so.
 fn events_are_shown_in_order()
     ensures some { pending_text two_events (in_order (rules_of two_events) three_notices)
         ≡ codes "TICK 3 AT 5\nTICK 1 AT 20\nARRIVAL 2 AT 20\n" }
@@ -255,16 +256,16 @@ fn events_are_shown_in_order()
         ≡ codes "NO EVENTS\n" }
 {}
 
-/// SHOW ENTRY tells the class of the entry, the reference of its notice, and whether it waits or
-/// runs; where there is none it says so.
+/// SHOW ENTRY shows the class of the entry, the reference of its notice, and whether it waits or
+/// runs; if there is no entry it says so.
 fn an_entry_is_shown_by_its_notice()
     ensures none { entry_line two_events Absent ≡ codes "ENTRY NONE\n" }
     ensures waits { entry_line two_events (Waiting 0 2) ≡ codes "ENTRY ARRIVAL 2 WAITING\n" }
     ensures runs { entry_line two_events (Running 1 30) ≡ codes "ENTRY TICK 30 RUNNING\n" }
 {}
 
-/// SHOW c k tells the attributes, then what the sets that the class owns say, then those in which
-/// it may be.
+/// SHOW c k shows the attributes, then the lines of the sets that the class owns, then those of the
+/// sets in which it may be.
 fn entities_are_shown_in_order_of_declaration()
     ensures member { shop_entity_text (codes "JOB") (pos 1)
         ≡ codes "JOB 1\nPAY = 5\nAGE = -3\nP.LINE = 2\nS.LINE = 0\nM.LINE = 1\nP.POOL = 0\nS.POOL = 0\nM.POOL = 0\n" }
@@ -278,7 +279,7 @@ fn entities_are_shown_in_order_of_declaration()
     ensures clock { shop_entity_text (codes "TIME.V") (pos 1) ≡ codes "NO CLASS TIME.V\n" }
 {}
 
-/// SHOW SET tells the first member first; without an owner it takes the variable of the class.
+/// SHOW SET shows the first member first; without an owner it takes the variable of the class.
 fn members_are_shown_first_to_last()
     ensures owner { shop_list_text (pos 0) (codes "LINE") (Some (pos 1)) ≡ codes "LINE 1: 2 1\n" }
     ensures variable { shop_list_text (pos 1) (codes "LINE") None ≡ codes "LINE 1: 2 1\n" }

@@ -1,4 +1,4 @@
-//! The debugger: what a command line says, and what each command does and answers.
+//! The debugger: it reads command lines, and gives the effect and the answer of each command.
 #![tactic(auto)]
 
 mod break_lines;

@@ -6,10 +6,10 @@ pub const LONGEST_LINE: usize = 200;
 /// The most bytes of a name, the stops at its end counted.
 pub const LONGEST_NAME: usize = 80;
 
-/// The greatest bound of a movement, and the bound of RUN where none is given.
+/// The greatest bound of a movement, and the bound of RUN if none is given.
 pub const GREATEST_BOUND: u64 = 1_000_000;
 
-/// The most steps that FORGET is told to keep.
+/// The most steps that FORGET can be asked to keep.
 pub const GREATEST_KEPT: u64 = 1_000_000;
 
 /// The greatest line that BREAK and CLEAR take.

@@ -1,4 +1,4 @@
-//! Movements over a run: forward, step by step, to where a condition is met, and back.
+//! Movements over a run: forward, step by step, until a condition is met, and back.
 ghost use Rattle.std.specs.Prelude.{◌≡◌, ℕ, ◌+◌, ◌<◌, true, OnOk, OnErr, IfOk, IsTrue, MatchOption, ◌&&◌, nat_lt};
 ghost use Rattle.ss_state.specs.declared.limits.TheConstants.{LAST_POSITION};
 ghost use Rattle.ss_state.specs.Run.{Input};
@@ -25,7 +25,7 @@ pub fn is_ready_now<T: Timeline>(timeline: &T) -> bool
     matches!(timeline.status(), Status::Ready)
 }
 
-/// The section of the last frame, and the number of the place where it is; the program has both.
+/// The section of the last frame, and the number of the frame's place; the program has both.
 #[inline(always)]
 pub fn place<T: Timeline>(timeline: &T) -> (usize, usize)
     ensures place { result ≡ (
@@ -47,7 +47,7 @@ pub fn present_line<T: Timeline>(timeline: &T) -> usize
     timeline.program().spot(section, place).line
 }
 
-/// Whether the present place is on a break line. Where there are none, no place is looked up.
+/// Whether the present place is on a break line. Without break lines, no place is looked up.
 #[inline]
 pub fn stands_on_break<T: Timeline>(timeline: &T, breaks: &BreakLines) -> bool
     ensures { result ≡ is_on_break (T.moment timeline.now).input breaks.now
@@ -76,7 +76,7 @@ fn runs_event<T: Timeline>(timeline: &T) -> bool
     matches!(timeline.program().section(section).kind, SectionKind::Event)
 }
 
-/// Whether the last step was an event start, by how many frames there were before it.
+/// Whether the last step was an event start, by the number of frames before it.
 #[tactic(auto, using(crate::proofs::Starts::started_by))]
 fn is_behind_start<T: Timeline>(timeline: &T, before: usize) -> bool
     requires some { 0 < position (T.moment timeline.now) }
@@ -87,9 +87,9 @@ fn is_behind_start<T: Timeline>(timeline: &T, before: usize) -> bool
     runs_event(timeline) && before < timeline.frames()
 }
 
-/// Whether the position is later than `from`, and is what a movement looks for: on a break line, or
-/// after an event start; `before` is how many frames there were before the last step, if there was
-/// one.
+/// Whether the position is later than `from`, and is one that the movement looks for: on a break
+/// line, or after an event start. `before` is the number of frames before the last step, if there
+/// was one.
 pub fn has_met<T: Timeline>(
     timeline: &T,
     breaks: &BreakLines,
@@ -129,8 +129,7 @@ fn is_at_stop<T: Timeline>(
         || has_met(timeline, breaks, condition.target, from, before)
 }
 
-/// One step from a state that is ready and not the last. Tells how many frames there were before
-/// it.
+/// One step from a state that is ready and not the last. Gives the number of frames before it.
 #[tactic(auto, using(crate::proofs::Starts::before_step))]
 #[inline(always)]
 fn step_once<T: StepReady>(timeline: &mut T) -> Result<usize, AllocError>
@@ -148,10 +147,10 @@ fn step_once<T: StepReady>(timeline: &mut T) -> Result<usize, AllocError>
 }
 
 /// Steps to the least later position at which the condition is met or the status isn't ready,
-/// within the bound and not past the last position. Tells how many frames there were before the
-/// last step, if there was one.
+/// within the bound and not past the last position. Gives the number of frames before the last
+/// step, if there was one.
 ///
-/// `AllocError` where a step was refused memory: the position is that to which the steps before it
+/// `AllocError` if a step was refused memory: the position is that to which the steps before it
 /// led.
 #[tactic(auto, using(crate::proofs::Moves::end_of_step))]
 pub fn forward<T: StepReady>(
@@ -174,8 +173,8 @@ pub fn forward<T: StepReady>(
     forward_to_stop(timeline, breaks, condition, bound)
 }
 
-/// Whether nothing but its bound and the status ends a movement: it names no time, and looks for
-/// nothing, or for break lines where there are none.
+/// Whether only its bound and the status end a movement: it names no time, and looks for nothing,
+/// or for break lines when there are none.
 fn stops_nowhere(breaks: &BreakLines, condition: StopCondition) -> bool
     ensures { IsTrue result → (input : Input) → (p q : ℕ) →
         is_stop input (condition_of input breaks.now condition) p q
@@ -190,7 +189,7 @@ fn stops_nowhere(breaks: &BreakLines, condition: StopCondition) -> bool
 }
 
 /// Steps until the status isn't ready, within the bound and not past the last position: as
-/// [`forward`] where its condition stops nowhere.
+/// [`forward`] with a condition that stops nowhere.
 #[tactic(auto, using(crate::proofs::Moves::least_steps))]
 fn forward_on<T: StepReady>(timeline: &mut T, bound: u64) -> Result<usize, AllocError>
     ensures ok { OnOk result (IsAt (T.moment timeline.old)
@@ -212,7 +211,7 @@ fn forward_on<T: StepReady>(timeline: &mut T, bound: u64) -> Result<usize, Alloc
     Ok(before)
 }
 
-/// The same with a test of the condition before each step.
+/// Steps as [`forward_on`] does, with a test of the condition before each step.
 #[tactic(auto, using(crate::proofs::Moves::least_steps))]
 fn forward_to_stop<T: StepReady>(
     timeline: &mut T,
@@ -278,7 +277,7 @@ pub fn back_break<T: Timeline>(timeline: &mut T, breaks: &BreakLines, bound: u64
     }
 }
 
-/// One step back, if one is kept. Tells whether the step that was taken back was an event start.
+/// One step back, if one is kept. Says whether the step that was taken back was an event start.
 #[tactic(auto, using(crate::proofs::Starts::taken_back))]
 fn back_once<T: Timeline>(timeline: &mut T) -> Option<bool>
     ensures { MatchOption result
@@ -296,7 +295,7 @@ fn back_once<T: Timeline>(timeline: &mut T) -> Option<bool>
 }
 
 /// BACK EVENT: steps back to the greatest earlier position whose next step is an event start, or to
-/// the earliest kept position, within the bound. Tells whether the next step is an event start
+/// the earliest kept position, within the bound. Says whether the next step is an event start
 /// there.
 #[tactic(auto, using(crate::proofs::Moves::search_back_is))]
 pub fn back_event<T: Timeline>(timeline: &mut T, bound: u64) -> bool

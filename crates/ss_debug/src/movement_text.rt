@@ -1,4 +1,4 @@
-//! The answers of movements, and the state line: what is said of where a run is.
+//! The answers of movements, and the state line, which describes the present state of a run.
 ghost use Rattle.std.specs.Prelude.{◌≡◌, ◌++◌, ◌<◌, ◌≤◌, ◌&&◌, codes, nat_lt, nat_eq, if◌then◌else◌, OnOk, IfOk};
 ghost use Rattle.ss_timeline.specs.Moment.{position};
 ghost use Rattle.ss_debug.specs.Answer.{status_text, moment_text, place_text, state_line, movement_text};
@@ -84,7 +84,7 @@ pub fn movement_text<T: Timeline>(
     Ok(text)
 }
 
-/// The word where what a movement looks for is found.
+/// The word if the state that a movement looks for is found.
 fn target_word(target: Target) -> &'static [u8]
     ensures { result.now ≡ target_word target }
 {
@@ -95,7 +95,7 @@ fn target_word(target: Target) -> &'static [u8]
     }
 }
 
-/// The word where all steps were made.
+/// The word if all steps were made.
 fn target_bound_word(target: Target) -> &'static [u8]
     ensures { result.now ≡ target_bound_word target }
 {
@@ -106,7 +106,7 @@ fn target_bound_word(target: Target) -> &'static [u8]
 }
 
 /// The word of a forward movement of at most `bound` steps that began at `from` and ended at the
-/// present position; `before` is how many frames there were before the last step, if there was one.
+/// present position; `before` is the number of frames before the last step, if there was one.
 pub fn forward_word<T: Timeline>(
     timeline: &T,
     breaks: &BreakLines,
@@ -183,8 +183,8 @@ pub fn back_break_word<T: Timeline>(timeline: &T, breaks: &BreakLines, from: u64
     earliest_or_bound(timeline)
 }
 
-/// The word of BACK EVENT, which began at `from` and ended at the present position; whether that is
-/// earlier and the next step is an event start is told.
+/// The word of BACK EVENT, which began at `from` and ended at the present position. `is_met` says
+/// whether that is earlier and the next step is an event start.
 pub fn back_event_word<T: Timeline>(timeline: &T, from: u64, is_met: bool) -> &'static [u8]
     requires { is_met ≡ (nat_lt (position (T.moment timeline.now)) from
         && starts_event (T.moment timeline.now).input (position (T.moment timeline.now))) }

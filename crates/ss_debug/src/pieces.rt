@@ -1,4 +1,4 @@
-//! The lines of the commands, the words of a line, and what digits say.
+//! The lines of the commands, the words of a line, and the numbers that digits say.
 ghost use Rattle.std.specs.Prelude.{◌≡◌, ◌<◌, ◌≤◌, ◌≢◌, length, ◌-◌, ◌^◌, ◌∷◌, [], MatchOption, IfSome, SomeIff};
 ghost use Rattle.std.specs.List.{list_all, before_first, after_first, position_or_len};
 ghost use Rattle.std.specs.Char.{is_ascii_digit};
@@ -20,8 +20,8 @@ fn separator_at(text: &[u8], separators: &[u8]) -> usize
     text.len()
 }
 
-/// What stands before the first of these separators, and behind it; all and nothing where there is
-/// none.
+/// The text before the first of these separators, and the text after it; all and nothing if there
+/// is none.
 fn split_at_separator<'a>(text: &'a [u8], separators: &[u8]) -> (&'a [u8], &'a [u8])
     ensures before { result.0.now ≡ before_first (separates separators.now) text.now }
     ensures after { result.1.now ≡ after_first (separates separators.now) text.now }
@@ -34,8 +34,7 @@ fn split_at_separator<'a>(text: &'a [u8], separators: &[u8]) -> (&'a [u8], &'a [
     (&text[..n], &text[n + 1..])
 }
 
-/// The first line of the commands, and what stands behind its line feed (docs/DEBUGGER.md,
-/// "Lines").
+/// The first line of the commands, and the text after its line feed (docs/DEBUGGER.md, "Lines").
 pub fn split_line(commands: &[u8]) -> (&[u8], &[u8])
     ensures before { result.0.now ≡ before_first (separates line_separators) commands.now }
     ensures after { result.1.now ≡ after_first (separates line_separators) commands.now }
@@ -44,7 +43,7 @@ pub fn split_line(commands: &[u8]) -> (&[u8], &[u8])
     split_at_separator(commands, b"\n")
 }
 
-/// The first word of a line, and what stands behind it; none where the line has no words.
+/// The first word of a line, and the text after it; none if the line has no words.
 #[tactic(auto, using(crate::proofs::Splits::words_first, crate::proofs::Splits::words_none))]
 pub(crate) fn next_word(line: &[u8]) -> Option<(&[u8], &[u8])>
     ensures { MatchOption result (command_words line.now ≡ [])
@@ -67,7 +66,7 @@ fn is_all_digits(word: &[u8]) -> bool
     word.iter().all(|b| b.is_ascii_digit())
 }
 
-/// What digits say, where that is not above the limit.
+/// The number that digits say, if it is not above the limit.
 fn value_up_to(digits: &[u8], limit: u64) -> Option<u64>
     requires { limit < 2 ^ 64 - 1 }
     ensures { SomeIff result (number_of digits.now ≤ limit) (number_of digits.now) }
@@ -84,7 +83,8 @@ fn value_up_to(digits: &[u8], limit: u64) -> Option<u64>
     Some(value)
 }
 
-/// What the digits of a word say, where that is from low to high; none where it has another byte.
+/// The number that the digits of a word say, if it is from low to high; none if the word has
+/// another byte.
 #[tactic(auto, unfolding(crate::specs::CommandLines::number_within))]
 pub(crate) fn number(word: &[u8], low: u64, high: u64) -> Option<u64>
     requires { high < 2 ^ 64 - 1 }

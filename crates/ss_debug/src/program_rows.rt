@@ -26,7 +26,7 @@ pub fn find_set(program: &Program, name: &[u8]) -> Option<usize>
     Some(set as usize)
 }
 
-/// The line of a place, 0 where there is none.
+/// The line of a place, 0 if there is none.
 pub fn place_line(program: &Program, section: usize, place: usize) -> usize
     ensures { result ≡ spot_line (spot_at program.now section place) }
 {

@@ -25,8 +25,8 @@ fn only_number(rest: &[u8], low: u64, high: u64) -> Option<u64>
     number(word, low, high)
 }
 
-/// The bound that stands behind a movement, or another where no word does; none where it is no
-/// bound or not the last word.
+/// The bound after a movement, or another if there is no word; none if the word is no bound or not
+/// the last one.
 fn bound(rest: &[u8], otherwise: u64) -> Option<u64>
     ensures { result ≡ bound_of otherwise (command_words rest.now) }
 {
@@ -44,7 +44,7 @@ fn only_line(rest: &[u8]) -> Option<u32>
     Some(line as u32)
 }
 
-/// A command behind which no word may stand.
+/// A command that no word may follow, or `Bad`.
 fn alone_or_bad(command: Command, rest: &[u8]) -> Command
     ensures { result ≡ command_alone command (command_words rest.now) }
 {
@@ -54,7 +54,7 @@ fn alone_or_bad(command: Command, rest: &[u8]) -> Command
     command
 }
 
-/// What stands behind RUN.
+/// The command of the words after RUN.
 fn run(rest: &[u8]) -> Command
     ensures { result ≡ run_command (command_words rest.now) }
 {
@@ -69,7 +69,7 @@ fn run(rest: &[u8]) -> Command
     bound(rest, GREATEST_BOUND).map_or(Command::Bad, |n| Command::Move(Movement::Run(n)))
 }
 
-/// What stands behind BACK.
+/// The command of the words after BACK.
 fn back(rest: &[u8]) -> Command
     ensures { result ≡ back_command (command_words rest.now) }
 {
@@ -117,7 +117,7 @@ fn entity_number(word: &[u8]) -> Option<i64>
     Some(number as i64)
 }
 
-/// The question that is two words: about the entity of a class where the second is a number.
+/// The question that is two words: about the entity of a class if the second is a number.
 fn question_of_two(what: &[u8], word: &[u8]) -> Command
     ensures { result ≡ question_of_two what.now word.now (entity_number word.now) }
 {
@@ -154,7 +154,7 @@ fn question_of_three(what: &[u8], word: &[u8], last: &[u8]) -> Command
     })
 }
 
-/// What stands behind SHOW.
+/// The command of the words after SHOW.
 fn show(rest: &[u8]) -> Command
     ensures { result ≡ show_command (command_words rest.now) }
 {
@@ -173,7 +173,7 @@ fn show(rest: &[u8]) -> Command
     question_of_three(what, word, last)
 }
 
-/// What the words of a line in upper case say.
+/// The command that the words of a line in upper case say.
 #[tactic(auto, unfolding(crate::specs::Command::command_in_words))]
 fn command_in_words(line: &[u8]) -> Command
     ensures { result ≡ command_in_words (command_words line.now) }
@@ -211,9 +211,9 @@ fn command_in_words(line: &[u8]) -> Command
     Command::Bad
 }
 
-/// What a command line says: letters in either case, words separated by blanks, tabs and carriage
-/// returns. A line without words is `Blank`; one that is no command, or is longer than `LONGEST_LINE`,
-/// is `Bad` (docs/DEBUGGER.md). It takes no memory.
+/// The command that a line says: letters in either case, words separated by blanks, tabs and
+/// carriage returns. A line without words is `Blank`; one that is no command, or is longer than
+/// `LONGEST_LINE`, is `Bad` (docs/DEBUGGER.md). It takes no memory.
 #[tactic(auto, unfolding(crate::specs::Command::command_of), using(crate::proofs::Names::take_front))]
 pub fn command(line: &[u8]) -> Command
     ensures { result ≡ command_of line.now }

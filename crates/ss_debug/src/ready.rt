@@ -9,12 +9,12 @@ use ss_machine::Machine;
 use ss_timeline::Timeline;
 use std::alloc::AllocError;
 
-/// A run whose step tests nothing where the caller has: a movement of many steps tests before each
-/// whether it stops there, and so whether the run goes on.
+/// A run whose step does not repeat the tests of its caller. A movement of many steps tests before
+/// each step whether it stops there, and so whether the run goes on.
 pub trait StepReady: Timeline {
-    /// One step forward where the status is ready, from a position that is not the last one.
+    /// One step forward from a state that is ready, at a position that is not the last one.
     ///
-    /// `AllocError` where memory was refused; then nothing has changed.
+    /// `AllocError` if memory was refused; then nothing has changed.
     fn step_ready(&mut self) -> Result<(), AllocError>
         requires ready { is_ready_at (Self.moment self.old).input (position (Self.moment self.old))
             ≡ true }

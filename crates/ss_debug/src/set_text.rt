@@ -19,7 +19,7 @@ use ss_program::{Owner, Variable};
 use ss_store::Store;
 use std::alloc::{AllocError, Global};
 
-/// The member behind one of the list of a set, or none where it is the last.
+/// The member after one in the list of a set, or none if it is the last.
 pub fn member_behind<S: SetBoard>(
     store: &Store<S>,
     set: usize,
@@ -39,7 +39,7 @@ pub fn member_behind<S: SetBoard>(
         .unwrap_or(None)
 }
 
-/// Appends the members behind one, each behind a blank.
+/// Appends the members after one, each after a blank.
 fn push_further<S: SetBoard>(
     text: &mut Vec<u8>,
     store: &Store<S>,

@@ -1,6 +1,7 @@
+//! The states at which a forward movement stops before its bound.
 ghost use Rattle.std.specs.Prelude.{◌≡◌};
 
-/// What a forward movement looks for: it stops there, later than where it begins.
+/// The states that a forward movement looks for: it stops at one that is later than its start.
 #[derive(Clone, Copy, Debug, PartialEq, Eq)]
 pub enum Target {
     /// Nothing: it counts steps.
@@ -11,17 +12,17 @@ pub enum Target {
     EventStart,
 }
 
-/// Where a forward movement may stop before its bound.
+/// The states at which a forward movement may stop before its bound.
 #[derive(Clone, Copy, Debug, PartialEq, Eq)]
 pub struct StopCondition {
-    /// At a state whose clock is at or past this time, also where it begins.
+    /// A state whose clock is at or past this time, the first state included.
     pub time: Option<u64>,
-    /// At what it looks for.
+    /// A state that it looks for.
     pub target: Target,
 }
 
 impl StopCondition {
-    /// A time, if one is named, or what the movement looks for.
+    /// A time, if one is named, or a state that the movement looks for.
     pub fn new(time: Option<u64>, target: Target) -> StopCondition
         ensures { result ≡ record { time = time; target = target } }
     {

@@ -30,7 +30,7 @@ pub fn push_integer(text: &mut Vec<u8>, n: i64) -> Result<(), AllocError>
     text.extend_from_slice(buffer.format(n).as_bytes())
 }
 
-/// A word, a line's number and what is said of it.
+/// A text, a line's number and the text after it.
 fn line_text(alloc: Global, before: &[u8], line: u32, after: &[u8]) -> Result<Vec<u8>, AllocError>
     ensures { IfOk result (λ text. text.items ≡ before.now ++ decimal line ++ after.now) }
 {
@@ -63,7 +63,7 @@ pub fn clear_text(alloc: Global, breaks: &BreakLines, line: u32) -> Result<Vec<u
     }
 }
 
-/// The answer to FORGET, where so many steps are kept then.
+/// The answer to FORGET, if this number of steps is kept then.
 #[tactic(auto, unfolding(crate::specs::Answer::kept_text))]
 pub fn kept_text(alloc: Global, kept: u64) -> Result<Vec<u8>, AllocError>
     ensures { IfOk result (λ text. text.items ≡ kept_text kept) }
@@ -97,7 +97,7 @@ pub fn where_text<S: SetBoard>(alloc: Global, machine: &Machine<S>) -> Result<Ve
     Ok(text)
 }
 
-/// The variable that a name stands for where the machine stands.
+/// The variable that a name means in the machine's present state.
 pub fn find_variable<S: SetBoard>(machine: &Machine<S>, name: &[u8]) -> Option<Variable>
     ensures { result ≡ variable_named machine.now.input (position machine.now) name.now }
 {

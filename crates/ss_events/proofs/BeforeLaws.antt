@@ -21,7 +21,7 @@ use Rattle.ss_events.specs.Agenda.{Pending, by_time, is_before}
 use Rattle.ss_events.proofs.EventLaws.{event-below}
 use Rattle.ss_events.proofs.OrderLaws.{IsOrder}
 
--- two times decide where they are different
+-- two times decide if they are different
 pub int-apart : (x y : ℤ) (o : Ordering) → (x ≡ y → ⊥) → int_lt x y ≡ is_lt (ordering_then (int_cmp x y) o)
 int-apart x y o n = elim (int_lt x y)
     as (λ t. int_lt x y ≡ t → t ≡ is_lt (ordering_then (cond t Less (cond (int_lt y x) Greater Equal)) o)) [
@@ -74,7 +74,7 @@ by_keys-weights (k ∷ ks) (x ∷ xs) [] h l = absurd (omega arith)
 by_keys-weights (k ∷ ks) (x ∷ xs) (y ∷ ys) h l =
     rw (ranked-weight k.rank x y, by_keys-weights ks xs ys (omega arith) (omega arith)) refl
 
--- what follows two numbers matters where they are the same
+-- the order after two numbers matters if these are the same
 then-same : (p q : ℕ) (a b : Ordering) → (p ≡ q → a ≡ b) → ordering_then (nat_cmp p q) a ≡ ordering_then (nat_cmp p q) b
 then-same p q a b h = elim (ltb p q)
     as (λ t. ordering_then (cond t Less (cond (eqb p q) Equal Greater)) a ≡ ordering_then (cond t Less (cond (eqb p q)

@@ -32,7 +32,7 @@ use Rattle.ss_events.proofs.EventLaws.{lists_by-same, event-at}
 abbrev pub board_with : List (List ℕ) → ℕ → Board
 board_with ls k = record { lists = ls; seats = k }
 
--- the pending notices are told apart by their numbers and filing numbers, and have seats
+-- the pending notices have different numbers, different filing numbers, and seats
 pub record IsTold (s : AgendaState) : Type 0 where
   pub noted : AreNoted s.agenda.pending
   pub filed : AreFiled s.agenda.pending
@@ -247,7 +247,7 @@ linked-seat s n e t sound k h =
     (class_seats s) s.rules
     e.class k) here) (sound.once (seat_in s.notices n))
 
--- a notice that isn't pending can be put where it belongs
+-- a notice that isn't pending can be put at its place in the order
 pub CanRelink-rank : (s : AgendaState) (e : Pending) → IsTold s → IsNew s e →
     CanRelink (board_of s) (seat_in s.notices e.notice) (rank_place s e)
 CanRelink-rank s e t n = record {

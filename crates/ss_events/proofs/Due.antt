@@ -32,7 +32,7 @@ pub due-same : (ts us : List ℤ) (ns ms : List ℕ) (rows new : List Row) → A
     → new ≡ rows → AreDue us ms new
 due-same ts us ns ms rows new d e f g = rw (e, f, g) d
 
--- what is pending was so before
+-- each pending notice was pending before
 abbrev pub IsFewer : List Row → List Row → Type 0
 IsFewer new rows = (i : ℕ) (p : PendingNotice) → (row_at new i).pending ≡ Some p → (row_at rows i).pending ≡ Some p
 

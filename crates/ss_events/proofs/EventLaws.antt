@@ -15,7 +15,7 @@ event-below [] c h = absurd (cc)
 event-below (r ∷ rs) zero h = omega arith
 event-below (r ∷ rs) (suc c) h = let rest = event-below rs c h in omega (arith, rest)
 
--- an event class stands at its number
+-- an event class is at its number
 pub record StandsAt (a : ℕ) (rs : List Rule) (c : ℕ) : Type 0 where
   pub below : event_number rs c < length (events_from a rs)
   pub here : get_or (events_from a rs) (event_number rs c) 0 ≡ a + c
@@ -38,7 +38,7 @@ pub event-at : (rs : List Rule) (c : ℕ) → is_event_class rs c ≡ true →
     (event_number rs c < length (event_classes rs)) × (get_or (event_classes rs) (event_number rs c) 0 ≡ c)
 event-at rs c h = let r = event-from 0 rs c h in (r.below, r.here ∙ omega arith)
 
--- the number of the class behind another
+-- the number of the class after another
 pub number-more : (rs : List Rule) (c : ℕ) → c < length rs →
     event_number rs (c + 1) ≡ event_number rs c + cond (rule_at rs c).for_events 1 0
 number-more [] c h = absurd (omega arith)

@@ -119,7 +119,7 @@ pub grown-view : (old new : List Row) (s t : AgendaState) (count : ℕ) → s �
 grown-view old new s t count e h g = let read : notices_from 1 new ≡ s.agenda.pending = grown-read old new count g ∙
     sym h in rw read e
 
--- what a row says of its notice's seat
+-- the seat in a row is the seat of its notice
 pub row-seat : (rows : List Row) (s : AgendaState) (b : Board) (n : ℕ) (q : Row) → IsAgenda rows s b → 0 < n →
     n ≤ length rows → q ≡ get_or rows (n - 1) q → q.seat ≡ seat_at s.notices n
 row-seat rows s b n q k a l h =
@@ -262,7 +262,7 @@ seat-view rows s t b n row r e k a l h i j =
     ap (λ (q : Row). q.pending) (sym (row-is rows (n - 1) r within i))) ∙ sym k.read in
     rw (← e, h, read) refl
 
--- the same where the seats and the board were left as they were
+-- the invariant after a growth of rows, if the seats and the board were left as they were
 pub grown-closed_same : (old new : List Row) (s : AgendaState) (b c : Board) (count : ℕ) (ms : List ℕ) →
     IsAgenda old s b → IsGrown old new count → count ≤ MOST_REFERENCES → ms ≡ s.notices → c ≡ b →
     IsAgenda new (with_pending (with_notices s ms) (notices_from 1 new)) c

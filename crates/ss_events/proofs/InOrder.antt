@@ -1,4 +1,4 @@
--- The notices in order are those that are put where they belong.
+-- The notices in order are the notices put at their places in the order.
 use Rattle.std.proofs.Common.{◌≡◌, ℕ, Bool, true, false, cond, eqb, List, [], ◌∷◌, length}
 use Rattle.std.proofs.Common.{Option, Some, None, refl, ap, ◌∙◌, arith, suc, zero}
 use Rattle.std.proofs.lemmas.Bool.Decides.{nat_tests}
@@ -72,7 +72,7 @@ first_notices-taken rules (suc j) (n ∷ ms) r k f =
     ap (λ (l : List Pending). g ∷ l) (first_notices-taken rules j (without_notice g.notice (n ∷ ms)) r
     (Each-without (IsKeyed rules) g.notice (n ∷ ms) k) (AreFiled-without g.notice (n ∷ ms) f))
 
--- the notices in order are those that are put where they belong
+-- the notices in order are the notices put at their places in the order
 pub in_order-sorted : (rules : List Rule) (a : Agenda) → AreRanked rules → Each (IsKeyed rules) a.pending →
     AreFiled a.pending → AreNoted a.pending → in_order rules a ≡ sorted (is_before rules) a.pending
 in_order-sorted rules a r k f n = first_notices-taken rules (length a.pending) a.pending r k f ∙

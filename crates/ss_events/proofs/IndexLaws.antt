@@ -1,4 +1,4 @@
--- What the search in the index of a class's notices finds.
+-- The result of the search in the index of a class's notices.
 use Rattle.std.proofs.Common.{◌≡◌, ℕ, ◌<◌, ◌≤◌, ◌++◌, ◌||◌, Bool, true, false, cond, eqb, List, [], ◌∷◌, length}
 use Rattle.std.proofs.Common.{get_or}
 use Rattle.std.proofs.Common.{Option, Some, refl, sym, ap, ◌∙◌, arith, subst, ◌-◌}
@@ -70,7 +70,7 @@ divided-seats P ns p lt o e (f ∷ fs) k q s a = rw a.0 (elim (lt e f)
       | false ↦ λ t. divided-seats P ns p lt o e fs k q.1 s.1 a.1
     ] refl)
 
--- between those that come before it and those that it comes before is where a seat is filed
+-- a seat is filed between those that come before it and those that it comes before
 seats_filed-seats : (ns : List ℕ) (p : ℕ → Bool) (x : ℕ) (lt : Pending → Pending → Bool) (e : Pending)
     (a b : List Pending) →
     Agrees p lt e ns a → Agrees p lt e ns b → Each (λ f. lt e f ≡ false) a → AreBehind lt e b →
@@ -79,7 +79,7 @@ seats_filed-seats ns p x lt e [] b a c n h = sym (seats_filed-first p x (seats_o
 seats_filed-seats ns p x lt e (f ∷ fs) b a c n h =
     rw (a.0, n.0) (ap (λ (l : List ℕ). seat_in ns f.notice ∷ l) (seats_filed-seats ns p x lt e fs b a.1 c n.1 h))
 
--- what holds of the seat of each notice holds of each of their seats
+-- a property of the seat of each notice is a property of each of their seats
 each-seat : (P : ℕ → Type 0) (ns : List ℕ) (es : List Pending) → Each (λ f. P (seat_in ns f.notice)) es →
     EachSeat P (seats_of ns es)
 each-seat P ns [] a y h = absurd (cc)
@@ -89,7 +89,7 @@ each-seat P ns (f ∷ fs) a y h = elim (eqb (seat_in ns f.notice) y)
       | false ↦ λ t k. each-seat P ns fs a.1 y k
     ] refl h
 
--- what is known of each pending notice's seat
+-- the facts known about each pending notice's seat
 abbrev Known : AgendaState → Pending → Pending → Type 0
 Known s e f = IsComparable s.rules s.agenda.pending s.notices e (seat_in s.notices f.notice)
     × (comes_before s.rules s.agenda.pending s.notices e (seat_in s.notices f.notice) ≡ is_before s.rules e f)
@@ -144,7 +144,7 @@ index-list rows s b c ls l k own e within h =
     sym at ∙ (ap (λ (ms : List (List ℕ)). list_at ms (event_number s.rules c)) (e ∙ ap (λ (d : Board). d.lists) k.board)
     ∙ list_at-by (class_seats s) s.rules c own)
 
--- what `put` asks, and where it puts
+-- the requirements of `put`, and the place at which it puts
 pub record IsRanked (rules : List Rule) (es : List Pending) (ns : List ℕ) (e : Pending) (l : List ℕ) (o : Option ℕ) :
     Type 0 where
   -- the seats can be compared
@@ -252,14 +252,14 @@ divided-parts ns p lt e [] [] a c n h = refl
 divided-parts ns p lt e [] (g ∷ gs) a c n h = rw (c.0, h.0) (all-behind ns p lt e (g ∷ gs) c h)
 divided-parts ns p lt e (f ∷ fs) b a c n h = rw (a.0, n.0) (divided-parts ns p lt e fs b a.1 c n.1 h)
 
--- what `take` asks of a seat
+-- the requirements of `take` on a seat
 pub record IsRemovable (rules : List Rule) (es : List Pending) (ns : List ℕ) (e : Pending) (x : ℕ) (l : List ℕ) : Type 0
   where
     -- the others can be compared
     pub known : EachSeat (IsComparable rules es ns e) (list_without l x)
     -- they are divided
     pub divided : IsDivided (comes_before rules es ns e) (list_without l x)
-    -- the seat stands where it would be put among them
+    -- the seat is at the place at which it would be put among them
     pub placed : l ≡ seats_filed (comes_before rules es ns e) x (list_without l x)
 
 removable : (rows : List Row) (s : AgendaState) (b : Board) (n : ℕ) (y : PendingNotice) (x : ℕ) (l : List ℕ) →

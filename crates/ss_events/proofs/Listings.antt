@@ -28,7 +28,7 @@ use Rattle.ss_events.proofs.BoardOf.{class_seats, Each-order, order-sorted, leas
 use Rattle.ss_events.proofs.BoardOf.{AreKeyed-order, IsSorted-order}
 use Rattle.ss_events.proofs.Stands.{stands, taken-stands, told, sound_board, has-get_or, Each-class}
 
--- the notices of an order that are left behind so many
+-- the notices of an order that are left after the first n
 Each-drop : (P : Pending → Type 0) (n : ℕ) (es : List Pending) → Each P es → Each P (drop n es)
 Each-drop P zero es h = h
 Each-drop P (suc n) [] h = tt
@@ -86,7 +86,7 @@ event-each : (rows : List Row) (s : AgendaState) (b : Board) → IsAgenda rows s
 event-each rows s b k = Each-map (IsPending s.rules s.notices s.agenda.next_filing) (λ e. is_event_class s.rules
     e.class ≡ true) (λ e p. p.well.class) s.agenda.pending k.pending
 
--- what the first seat of a class is
+-- the properties of the first seat of a class
 pub record IsFirstOf (s : AgendaState) (es : List Pending) (c : ℕ) (at : Option ℕ) : Type 0 where
   pub first : pending_on s at ≡ first (of_class c es)
   pub taken : IsTakenIfSome s at
@@ -200,7 +200,7 @@ few-listed rows s b i e k h =
     let rows_long : length s.agenda.pending ≤ length rows = rw k.read (length-notices_from 1 rows) in
     omega (arith, below-at (order s) i e h, long, rows_long, k.few)
 
--- a listing goes on behind the notice that it lists
+-- a listing goes on after the notice that it lists
 pub listing-on : (rows : List Row) (s : AgendaState) (b : Board) (l : Listing) (x : ℕ) (y : PendingNotice)
     (at : Option ℕ)
     (seats : List (Option ℕ)) (n : ℕ) → IsAgenda rows s b → IsListing s l → x < length s.notices →
@@ -259,7 +259,7 @@ seats-more seats n at f h k e c l = elim (eqb c n)
           let below : c < n = grind (arith, nat_tests, t, l) in get_or-set_other seats n c at None apart ∙ k c below
     ] refl
 
--- the classes behind keep none
+-- the classes after this one keep none
 pub seats-behind : (seats : List (Option ℕ)) (n : ℕ) (at : Option ℕ) → ((c : ℕ) → n ≤ c →
     get_or seats c None ≡ None) → (c : ℕ) → n + 1 ≤ c → get_or (set seats n at) c None ≡ None
 seats-behind seats n at k c l =
@@ -295,7 +295,7 @@ none-at zero c = refl
 none-at (suc n) zero = refl
 none-at (suc n) (suc c) = none-at n c
 
--- a listing that has listed nothing: what it has left is the order
+-- a listing that has listed nothing: the notices that it has left are the whole order
 abbrev pub nothing_listed : Listing
 nothing_listed = record { seats = []; listed = 0 }
 

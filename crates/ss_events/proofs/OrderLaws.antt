@@ -21,7 +21,7 @@ abbrev pub then_others : Option Pending → (Pending → List Pending) → List 
 then_others None rest = []
 then_others (Some e) rest = e ∷ rest e
 
--- the least taken again and again, so many times at most
+-- the least taken again and again, n times at most
 abbrev pub taken_in_turn : (Pending → Pending → Bool) → ℕ → List Pending → List Pending
 taken_in_turn lt zero es = []
 taken_in_turn lt (suc n) es = then_others (least_by lt es) (λ e. taken_in_turn lt n (without_notice e.notice es))
@@ -30,18 +30,18 @@ taken_in_turn lt (suc n) es = then_others (least_by lt es) (λ e. taken_in_turn 
 abbrev pub in_turn : (Pending → Pending → Bool) → List Pending → List Pending
 in_turn lt es = taken_in_turn lt (length es) es
 
--- a strict order of the notices of which P holds, that tells apart any two with different filing numbers
+-- a strict order of the notices of which P holds; it separates two with different filing numbers
 pub record IsOrder (P : Pending → Type 0) (lt : Pending → Pending → Bool) : Type 0 where
   pub asymmetric : (e f : Pending) → P e → P f → lt e f ≡ true → lt f e ≡ false
   pub transitive : (e f g : Pending) → P e → P f → P g → lt e f ≡ true → lt f g ≡ true → lt e g ≡ true
   pub total : (e f : Pending) → P e → P f → eqb e.filing f.filing ≡ false → lt e f ≡ false → lt f e ≡ true
 
--- a notice put where it belongs
+-- a notice put at its place in the order
 abbrev pub placed : (Pending → Pending → Bool) → Pending → List Pending → List Pending
 placed lt e [] = e ∷ []
 placed lt e (f ∷ fs) = cond (lt e f) (e ∷ f ∷ fs) (f ∷ placed lt e fs)
 
--- notices put where they belong, one after another
+-- notices put at their places in the order, one after another
 abbrev pub sorted : (Pending → Pending → Bool) → List Pending → List Pending
 sorted lt [] = []
 sorted lt (e ∷ es) = placed lt e (sorted lt es)
@@ -51,16 +51,16 @@ abbrev pub AreNoted : List Pending → Type 0
 AreNoted [] = Unit {0}
 AreNoted (e ∷ es) = NoneNoted e.notice es × AreNoted es
 
--- all come behind this one
+-- all come after this one
 abbrev pub AreBehind : (Pending → Pending → Bool) → Pending → List Pending → Type 0
 AreBehind lt e es = Each (λ f. lt e f ≡ true) es
 
--- each comes before those behind it
+-- each comes before those after it
 abbrev pub IsSorted : (Pending → Pending → Bool) → List Pending → Type 0
 IsSorted lt [] = Unit {0}
 IsSorted lt (e ∷ es) = AreBehind lt e es × IsSorted lt es
 
--- what holds of each
+-- a property of each notice stays
 pub Each-without : (P : Pending → Type 0) (n : ℕ) (es : List Pending) → Each P es → Each P (without_notice n es)
 Each-without P n [] h = tt
 Each-without P n (e ∷ es) h = elim (eqb e.notice n)
@@ -101,7 +101,7 @@ pub Each-map : (P Q : Pending → Type 0) → ((e : Pending) → P e → Q e) �
 Each-map P Q f [] h = tt
 Each-map P Q f (e ∷ es) h = (f e h.0, Each-map P Q f es h.1)
 
--- nothing goes where no notice has the number
+-- nothing goes if no notice has the number
 pub without-absent : (n : ℕ) (es : List Pending) → NoneNoted n es → without_notice n es ≡ es
 without-absent n [] h = refl
 without-absent n (e ∷ es) h = grind (arith, h.0, without-absent n es h.1)
@@ -114,7 +114,7 @@ AreNoted-without n (e ∷ es) h = elim (eqb e.notice n)
       | false ↦ (Each-without (λ f. eqb f.notice e.notice ≡ false) n es h.0, AreNoted-without n es h.1)
     ]
 
--- what holds of each holds of the least
+-- a property of each notice is a property of the least
 pub Each-least : (P : Pending → Type 0) (lt : Pending → Pending → Bool) (es : List Pending) (e : Pending) →
     Each P es → least_by lt es ≡ Some e → P e
 Each-least P lt [] e h k = absurd (cc)
@@ -128,7 +128,7 @@ Each-least P lt (f ∷ fs) e h k = elim (least_by lt fs)
           ] b
     ] refl k
 
--- the least stands first where all are put where they belong
+-- the least is first when all are put at their places in the order
 pub sorted-least : (lt : Pending → Pending → Bool) (es : List Pending) → AreNoted es →
     sorted lt es ≡ then_others (least_by lt es) (λ e. sorted lt (without_notice e.notice es))
 sorted-least lt [] h = refl
@@ -151,7 +151,7 @@ sorted-least lt (e ∷ f ∷ fs) h =
       | false ↦ λ t. rw (apart, rest, t) refl
     ] refl
 
--- as many are put where they belong as there are
+-- a notice put at its place makes the list one longer
 length-placed : (lt : Pending → Pending → Bool) (e : Pending) (es : List Pending) →
     length (placed lt e es) ≡ suc (length es)
 length-placed lt e [] = refl
@@ -165,7 +165,7 @@ pub length-sorted : (lt : Pending → Pending → Bool) (es : List Pending) → 
 length-sorted lt [] = refl
 length-sorted lt (e ∷ es) = length-placed lt e (sorted lt es) ∙ ap suc (length-sorted lt es)
 
--- to take the least again and again is to put each where it belongs
+-- to take the least again and again is to put each at its place in the order
 taken-sorted : (lt : Pending → Pending → Bool) (n : ℕ) (es : List Pending) → AreNoted es → length es ≤ n →
     taken_in_turn lt n es ≡ sorted lt es
 taken-sorted lt zero [] h k = refl
@@ -197,7 +197,7 @@ first-sorted lt es h = rw (sorted-least lt es h) (elim (least_by lt es)
       | Some e ↦ refl
     ])
 
--- what comes behind a notice comes behind all before it
+-- notices that come after a notice come after all notices before it
 pub behind-trans : (P : Pending → Type 0) (lt : Pending → Pending → Bool) → IsOrder P lt →
     (e f : Pending) (es : List Pending) → P e → P f → Each P es → lt e f ≡ true → AreBehind lt f es → AreBehind lt e es
 behind-trans P lt o e f [] p q r h k = tt
@@ -206,13 +206,13 @@ behind-trans P lt o e f (g ∷ gs) p q r h k = (
   behind-trans P lt o e f gs p q r.1 h k.1,
 )
 
--- what comes before all others is put first
+-- a notice that comes before all others is put first
 pub placed-first : (lt : Pending → Pending → Bool) (e : Pending) (es : List Pending) → AreBehind lt e es →
     placed lt e es ≡ e ∷ es
 placed-first lt e [] h = refl
 placed-first lt e (f ∷ fs) h = rw h.0 refl
 
--- two notices may be put where they belong in either order
+-- two notices may be put at their places in either order
 placed-cons : (P : Pending → Type 0) (lt : Pending → Pending → Bool) → IsOrder P lt →
     (e f g : Pending) (gs : List Pending) → P e → P f → P g → eqb e.filing f.filing ≡ false →
     placed lt e (placed lt f gs) ≡ placed lt f (placed lt e gs) →
@@ -238,7 +238,7 @@ placed-placed P lt o e f [] p q r h = elim (lt e f)
 placed-placed P lt o e f (g ∷ gs) p q r h =
     placed-cons P lt o e f g gs p q r.0 h (placed-placed P lt o e f gs p q r.1 h)
 
--- one notice more, wherever it stands by its number, is put where it belongs
+-- one notice more, at any place by its number, is put at its place in the order
 pub sorted-with : (P : Pending → Type 0) (lt : Pending → Pending → Bool) → IsOrder P lt →
     (e : Pending) (es : List Pending) → P e → Each P es → NoneFiled e.filing es →
     sorted lt (with_notice e es) ≡ placed lt e (sorted lt es)
@@ -253,7 +253,7 @@ sorted-with P lt o e (f ∷ fs) p q h =
           placed-placed P lt o f e (sorted lt fs) q.0 p (Each-sorted P lt fs q.1) apart
     ]
 
--- what is put where it belongs leaves the list sorted
+-- a notice put at its place leaves the list sorted
 pub IsSorted-placed : (P : Pending → Type 0) (lt : Pending → Pending → Bool) → IsOrder P lt →
     (e : Pending) (es : List Pending) → P e → Each P es → NoneFiled e.filing es → IsSorted lt es →
     IsSorted lt (placed lt e es)
@@ -325,7 +325,7 @@ without-sorted P lt o n (e ∷ es) q h =
       | false ↦ λ t. ap (placed lt e) rest ∙ sym (without-placed_other P lt o n e (sorted lt es) q.0 each s t)
     ] refl
 
--- those of one class, as a notice is put where it belongs
+-- the notices of one class, when a notice is put at its place
 pub of_class-placed_other : (lt : Pending → Pending → Bool) (c : ℕ) (e : Pending) (es : List Pending) →
     eqb e.class c ≡ false → of_class c (placed lt e es) ≡ of_class c es
 of_class-placed_other lt c e [] h = rw h refl

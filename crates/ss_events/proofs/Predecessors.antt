@@ -1,4 +1,4 @@
--- The notice that stands directly before another of its class.
+-- The notice that is directly before another of its class.
 use Rattle.std.proofs.Common.{◌≡◌, ℕ, ◌<◌, ◌++◌, Bool, true, false, cond, eqb, List, [], ◌∷◌, length}
 use Rattle.std.proofs.Common.{Option, Some, None, unwrap_or, refl, sym, ap, ◌∙◌, arith}
 use Rattle.std.proofs.lemmas.Bool.Decides.{nat_tests}
@@ -23,7 +23,7 @@ use Rattle.ss_events.proofs.BoardOf.{pending_in-class}
 use Rattle.ss_events.proofs.Stands.{stands, each-between, told, sound_board}
 use Rattle.ss_events.proofs.PutAndTakeOut.{pending-seat}
 
--- a pending notice stands between two parts
+-- a pending notice is between two parts
 pub record IsBetween (es : List Pending) (e : Pending) : Type 0 where
   pub front : List Pending
   pub rear : List Pending
@@ -51,7 +51,7 @@ without-between (f ∷ fs) b e h =
     let other : eqb f.notice e.notice ≡ false = grind (arith, nat_tests, apart) in
     rw other (ap (λ (l : List Pending). f ∷ l) (without-between fs b e h.1))
 
--- it belongs behind those that stood before it
+-- its place is after those that were before it
 passed-between : (P : Pending → Type 0) (lt : Pending → Pending → Bool) → IsOrder P lt →
     (e : Pending) (a b : List Pending) → Each P (a ++ e ∷ b) → IsSorted lt (a ++ e ∷ b) → notices_passed lt e (a ++ b)
     ≡ a
@@ -72,7 +72,7 @@ last-seat ns (e ∷ es) = rw (last-seat ns es) (elim (last es)
       | Some f ↦ refl
     ])
 
--- what holds of each holds of the last
+-- a property of each notice is a property of the last
 Each-last : (P : Pending → Type 0) (es : List Pending) (f : Pending) → Each P es → last es ≡ Some f → P f
 Each-last P [] f h k = absurd (cc)
 Each-last P (e ∷ es) f h k = elim (last es)
@@ -81,7 +81,7 @@ Each-last P (e ∷ es) f h k = elim (last es)
       | Some g ↦ λ a b. let same : g ≡ f = cc in Each-last P es f h.1 (a ∙ b)
     ] refl k
 
--- what the last seat of some notices tells
+-- the facts given by the last seat of some notices
 record IsLastOf (s : AgendaState) (es : List Pending) (at : Option ℕ) : Type 0 where
   -- there is such a seat
   pub made : ForSome at (λ x. x < length s.notices)

@@ -25,7 +25,7 @@ use Rattle.ss_events.proofs.BoardOf.{IsTold-with, IsTold-without, IsNew, relinke
 use Rattle.ss_events.proofs.BoardOf.{CanRelink-rank}
 use Rattle.ss_events.proofs.Stands.{told, sound_board}
 
--- what may become pending is new
+-- a notice that may become pending is new
 pub new-notice : (s : AgendaState) (e : Pending) → CanPend s e → IsNew s e
 new-notice s e p = record {
   notice = p.notice;
@@ -155,7 +155,7 @@ take_out-kept rows s b c n r k a h seat node e sound = record {
   classes = k.classes;
 }
 
--- where a notice belongs doesn't depend on its number
+-- the place of a notice in the order doesn't depend on its number
 pub passed-number : (s : AgendaState) (m n : ℕ) (x : PendingNotice) (es : List Pending) →
     notices_passed (is_before s.rules) (notice_of m x) es ≡ notices_passed (is_before s.rules) (notice_of n x) es
 passed-number s m n x [] = refl

@@ -55,7 +55,7 @@ pub pending_at-none : (n : ℕ) (es : List Pending) → NoneNoted n es → pendi
 pending_at-none n [] h = refl
 pending_at-none n (e ∷ es) h = rw h.0 (pending_at-none n es h.1)
 
--- what holds of each holds of the notice with a number
+-- a property of each notice is a property of the notice with a number
 pub pending_at-each : (P : Pending → Type 0) (es : List Pending) (n : ℕ) (e : Pending) → Each P es →
     pending_at es n ≡ Some e → P e × (e.notice ≡ n)
 pending_at-each P [] n e h k = absurd (cc)

@@ -12,7 +12,7 @@ use Rattle.ss_events.specs.Rules.{Rule, rule_at, program_rule, rules_of}
 use Rattle.ss_events.specs.Views.{rule_of}
 use Rattle.ss_events.specs.State.{AreRanked}
 
--- a class that stands in the list stands where it is found
+-- a class that is in the list is at the place that the search finds
 found-is : (xs : List ℕ) (c z : ℕ) → ltb (position_or_len (λ d. eqb c d) xs) (length xs) ≡ true →
     get_or xs (position_or_len (λ d. eqb c d) xs) z ≡ c
 found-is [] c z h = absurd (cc)
@@ -74,7 +74,7 @@ AreRanked-program p c d h k e =
     ap (λ (r : Rule). r.priority) b) in
     place-once p.priority c d same
 
--- what the kept rules of a program are
+-- the kept rules of a program are its rules: one for each class
 pub length-kept : (rs : List ClassRule) (p : ProgramTable) → map rule_of rs ≡ rules_of p →
     length rs ≡ length p.classes
 length-kept rs p h = sym (length-map rs rule_of) ∙ (ap (λ (l : List Rule). length l) h ∙ length-rules_of p)

@@ -1,4 +1,4 @@
--- What the agenda's changes say: that they fit, and lead back.
+-- The contracts of the agenda's changes: changes fit, and lead back.
 use Rattle.std.proofs.Common.{◌≡◌, ℕ, ℤ, ◌+◌, ◌-◌, ◌<◌, ◌≤◌, ◌++◌, Bool, true, false, cond, not, eqb, ltb, List, []}
 use Rattle.std.proofs.Common.{w64, SFits, pos, negsuc}
 use Rattle.std.proofs.Common.{◌∷◌, length, take, Option, Some, None, Ok, refl, sym, ap, ◌∙◌, arith}
@@ -103,7 +103,7 @@ has-seated ns n = elim (has ns n) as (λ t. has ns n ≡ t → has (cond t ns (n
   | false ↦ λ t. has-append ns (n ∷ []) n ∙ rw t (grind (arith, nat_tests))
 ] refl
 
--- what is scheduled may become pending
+-- a notice that is scheduled may become pending
 pub can-pend : (rows : List Row) (s : AgendaState) (b : Board) (n : ℕ) (x : PendingNotice) → IsAgenda rows s b →
     NoneNoted n s.agenda.pending → is_event_class s.rules x.class ≡ true →
     in_range x.time ≡ true → length x.keys.items ≡ length (rule_at s.rules x.class).ties →
@@ -257,7 +257,7 @@ pub no-slot : (o : Option Slot) (p : Option Pending) (t : Bool) → o ≡ option
     t ≡ false → is_some p ≡ false
 no-slot o p t h k e = is_some-map slot_of p false (ap (λ (q : Option Slot). is_some q) (sym h) ∙ (sym k ∙ e))
 
--- the newest notice's filing number is free where it is taken out
+-- the newest notice's filing number is free after the notice is taken out
 pub newest-free : (s t : AgendaState) (n : ℕ) → t ≡ with_pending s (without_notice n s.agenda.pending) →
     IsNewest s n → (1 < t.agenda.next_filing) × Each (λ e. e.filing + 1 < t.agenda.next_filing) t.agenda.pending
 newest-free s t n e w = rw e (

@@ -1,4 +1,4 @@
--- What a pending notice's seat tells.
+-- The facts given by a pending notice's seat.
 use Rattle.std.proofs.Common.{◌≡◌, ℕ, ◌≤◌, ◌<◌, ◌++◌, ◌||◌, true, false, cond, eqb, List, [], ◌∷◌, length, get_or}
 use Rattle.std.proofs.Common.{Option, Some, None, refl, ap, ◌∙◌, arith, suc, zero, subst}
 use Rattle.std.proofs.lemmas.Bool.Decides.{nat_tests}
@@ -46,7 +46,7 @@ Each-class c (e ∷ es) = elim (eqb e.class c)
       | false ↦ λ t. Each-class c es
     ] refl
 
--- what holds of each holds of the one between two parts
+-- a property of each notice is a property of the one between two parts
 pub each-between : (P : Pending → Type 0) (a b : List Pending) (f : Pending) → Each P (a ++ f ∷ b) → P f
 each-between P [] b f h = h.0
 each-between P (e ∷ es) b f h = each-between P es b f h.1
@@ -69,7 +69,7 @@ pub seats_of-append : (ns : List ℕ) (a b : List Pending) → seats_of ns (a ++
 seats_of-append ns [] b = refl
 seats_of-append ns (e ∷ es) b = ap (λ (l : List ℕ). seat_in ns e.notice ∷ l) (seats_of-append ns es b)
 
--- what is known of the seat of a notice between two parts of its class's notices
+-- the facts known about the seat of a notice between two parts of its class's notices
 pub record Stands (s : AgendaState) (c : ℕ) (a : List Pending) (f : Pending) (b : List Pending) : Type 0 where
   pub seat : seat_in s.notices f.notice < length s.notices
   pub notice : notice_on s (seat_in s.notices f.notice) ≡ f.notice
@@ -112,7 +112,7 @@ pub taken-stands : (s : AgendaState) (c : ℕ) (a : List Pending) (f : Pending) 
     Stands s c a f b → IsTaken s (seat_in s.notices f.notice)
 taken-stands s c a f b t = record { made = t.seat; pending = rw (t.notice, t.pending) refl }
 
--- what the invariant says of the state
+-- the facts about the state that the invariant gives
 pub told : (rows : List Row) (s : AgendaState) (b : Board) → IsAgenda rows s b → IsTold s
 told rows s b k = record {
   noted = rw k.read (AreNoted-from 1 rows);

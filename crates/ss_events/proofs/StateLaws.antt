@@ -65,7 +65,7 @@ pub seats_of-more : (ns : List ℕ) (k : ℕ) (es : List Pending) → AreSeated 
 seats_of-more ns k [] h = refl
 seats_of-more ns k (e ∷ es) h = rw (seat_in-more ns e.notice k h.0, seats_of-more ns k es h.1) refl
 
--- a seat stands among those of notices where its notice does
+-- a seat is among those of notices if its notice is among them
 pub has-seats_of_none : (ns : List ℕ) (n : ℕ) (es : List Pending) → has ns n ≡ true → AreSeated ns es →
     NoneNoted n es → has (seats_of ns es) (seat_in ns n) ≡ false
 has-seats_of_none ns n [] h a k = refl
@@ -101,7 +101,7 @@ seats_of-without ns n (e ∷ es) h a =
       | false ↦ λ t. rw (seat_in-apart ns e.notice n a.0 h t) (ap (λ (l : List ℕ). seat_in ns e.notice ∷ l) rest)
     ] refl
 
--- behind the seats of those passed is where a notice is put
+-- a notice is put after the seats of those passed
 put_at-rest : (y : ℕ) (ys rs : List ℕ) (s : ℕ) (o : Option ℕ) → has ys y ≡ false → ((at : ℕ) → o ≡ Some at →
     has ys at ≡ true) → put_at ys o s ≡ rs → put_behind (y ∷ ys) (unwrap_or o y) s ≡ y ∷ rs
 put_at-rest y ys rs s None n h k = let same : eqb y y ≡ true = grind (arith, nat_tests) in
@@ -143,7 +143,7 @@ seats_of-placed ns lt e (f ∷ fs) a h =
           (seats_of ns (notices_passed lt e fs)) at k)) rest
     ]
 
--- numbers of what is put where it belongs
+-- the numbers stay different when a notice is put at its place
 AreNoted-placed : (lt : Pending → Pending → Bool) (e : Pending) (es : List Pending) → NoneNoted e.notice es →
     AreNoted es → AreNoted (placed lt e es)
 AreNoted-placed lt e [] n h = (tt, tt)

@@ -1,4 +1,4 @@
--- What a scheduling that is refused leaves of the agenda.
+-- The agenda that a refused scheduling leaves.
 use Rattle.std.proofs.Common.{◌≡◌, Result, Ok, Err}
 use Rattle.ss_words.specs.declared.fault.RunFault.{RunFault}
 use Rattle.ss_words.specs.declared.fault.StepFault.{StepFault}

@@ -1,4 +1,4 @@
--- What a walk over sorted notices finds.
+-- The result of a walk over sorted notices.
 use Rattle.std.proofs.Common.{◌≡◌, ℕ, ◌+◌, ◌<◌, Bool, true, false, cond, eqb, ltb, List, [], ◌∷◌, Some, refl}
 use Rattle.std.proofs.Common.{sym, ap, arith}
 use Rattle.std.proofs.lemmas.Bool.Decides.{nat_tests}

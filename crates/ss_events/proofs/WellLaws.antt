@@ -1,4 +1,4 @@
--- What is kept makes a well-formed agenda.
+-- The kept rows make a well-formed agenda.
 use Rattle.std.proofs.Common.{ℕ, ◌+◌, ◌<◌, ◌≤◌, List, [], ◌∷◌, Some, None, arith}
 use Rattle.ss_links.specs.Board.{Board}
 use Rattle.ss_events.specs.declared.pending_notice.Row.{Row}

@@ -20,7 +20,7 @@ use Rattle.ss_events.proofs.StateLaws.{AreSeated, seat_in-notice}
 use Rattle.ss_events.proofs.BoardOf.{class_seats, Each-order}
 use Rattle.ss_events.proofs.Stands.{told}
 
--- so many heads with empty lists
+-- n heads with empty lists
 abbrev pub empty_heads : ℕ → Board
 empty_heads n = record { lists = map (λ c. []) (range_with_len 0 n); seats = 0 }
 

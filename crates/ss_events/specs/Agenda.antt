@@ -29,7 +29,7 @@ pub record Pending : Type 0 where
 pub record Agenda : Type 0 where
   -- in order of their references
   pub pending : List Pending
-  -- what the next scheduling gets
+  -- the number that the next scheduling gets
   pub next_filing : ℕ
 
 -- nothing pending
@@ -45,7 +45,7 @@ pending_at (m ∷ ms) k = if m.notice == k then Some m else pending_at ms k
 abbrev pub is_pending : Agenda → ℕ → Bool
 is_pending agenda k = is_some (pending_at agenda.pending k)
 
--- which of two notices comes first: by time, by the priority of the class, by the keys, by scheduling
+-- the order of two notices: by time, by the priority of the class, by the keys, by scheduling
 abbrev pub by_time : List Rule → Pending → Pending → Ordering
 by_time rules m n =
     ordering_then (int_cmp m.time n.time)
@@ -87,8 +87,8 @@ abbrev pub of_class : ℕ → List Pending → List Pending
 of_class c [] = []
 of_class c (m ∷ ms) = if m.class == c then m ∷ of_class c ms else of_class c ms
 
--- whether notice k can be scheduled at a time: F9 before the clock, F10 where it is pending, F20 where there were as
--- many schedulings as there may be
+-- whether notice k can be scheduled at a time: F9 before the clock, F10 if it is pending, F20 if
+-- the highest number of schedulings is used up
 abbrev pub may_schedule : Agenda → ℕ → ℤ → ℤ → Result (Unit {0}) RunFault
 may_schedule agenda k time clock =
     if int_lt time clock then Err TimeBeforeClock
@@ -96,7 +96,7 @@ may_schedule agenda k time clock =
     else if nat_lt MOST_SCHEDULINGS agenda.next_filing then Err TooManyReferences
     else Ok tt
 
--- whether notice k can be cancelled: F11 where it is not pending
+-- whether notice k can be cancelled: F11 if it is not pending
 abbrev pub may_cancel : Agenda → ℕ → Result (Unit {0}) RunFault
 may_cancel agenda k = if is_pending agenda k then Ok tt else Err NotScheduled
 

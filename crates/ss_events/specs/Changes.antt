@@ -35,14 +35,14 @@ pub record CanPend (agenda : AgendaState) (e : Pending) : Type 0 where
   pub notice : NoneNoted e.notice agenda.agenda.pending
   -- no pending notice has its filing number
   pub filing : NoneFiled e.filing agenda.agenda.pending
-  -- what is kept of it is of its class, and its seat is made
+  -- its entry fits its class, and its seat is made
   pub kept : IsPending agenda.rules agenda.notices agenda.agenda.next_filing e
 
 -- a notice has the last seat
 pub record IsLastSeat (agenda : AgendaState) (n : ℕ) : Type 0 where
   -- the notices of the other seats
   pub others : List ℕ
-  -- its seat is behind theirs
+  -- its seat is after theirs
   pub last : agenda.notices ≡ others ++ n ∷ []
 
 -- the agenda before a scheduling: without the notice, and its filing number is the next again
@@ -64,7 +64,7 @@ unapply (TakenOff n x before) agenda = record agenda { agenda = agenda_before_ta
 
 -- a notice is pending, and all others were filed before it
 pub record IsNewest (agenda : AgendaState) (n : ℕ) : Type 0 where
-  -- what is kept of it
+  -- the notice, with its entry
   pub newest : Pending
   -- it is pending
   pub pending : pending_at agenda.agenda.pending n ≡ Some newest
@@ -83,7 +83,7 @@ Fits (TakenOff n x before) agenda =
 
 -- the agenda went from one state to another by a change
 pub record Went (change : AgendaChange) (agenda old new : AgendaState) : Type 0 where
-  -- the state behind the change
+  -- the state after the change
   pub state : new ≡ agenda
   -- the change fits it
   pub fits : Fits change new
@@ -101,16 +101,16 @@ after_scheduling agenda n time class keys = record agenda {
   notices = with_seat_for agenda.notices n;
 }
 
--- what a call that changes the agenda gives: the change by which it went to this state
+-- the result of a call that changes the agenda: the change by which it went to this state
 abbrev pub GoesBy : AgendaState → AgendaChange → Unit {0} → AgendaState → AgendaState → Type 0
 GoesBy agenda change _ old new = Went change agenda old new
 
--- what a scheduling gives: where it may be, its change or a want of memory, else the fault
+-- the result of a scheduling: if allowed, its change or an error of missing memory, else the fault
 abbrev pub IsScheduled : Result AgendaChange StepFault → Result (Unit {0}) RunFault
     → AgendaState → AgendaState → AgendaState → Type 0
 IsScheduled result wanted agenda = AnswersOrRefusesAs (GoesBy agenda) result wanted
 
--- what CANCEL gives: the change where the notice is pending, else F11
+-- the result of CANCEL: the change if the notice is pending, else F11
 abbrev pub IsCancelled : Result AgendaChange RunFault → Result (Unit {0}) RunFault
     → AgendaState → AgendaState → AgendaState → Type 0
 IsCancelled result wanted agenda = AnswersAs (GoesBy agenda) result wanted

@@ -1,4 +1,4 @@
--- What the search in an index of notices asks and knows of a seat. Private: cited by private functions alone.
+-- The requirements of the search in an index on a seat. Private: only private functions cite it.
 use Rattle.std.specs.Prelude.{◌≡◌, ℕ, ◌<◌, Bool, true, false, List, length, slice_index, Option, Some, None}
 use Rattle.ss_events.specs.Rules.{Rule, rule_at, is_event_class}
 use Rattle.ss_events.specs.State.{AreRanked}

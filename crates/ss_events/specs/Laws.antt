@@ -7,12 +7,12 @@ use Rattle.ss_events.specs.Agenda.{Agenda, is_pending, may_schedule}
 use Rattle.ss_events.specs.State.{Each}
 use Rattle.ss_events.specs.WellAgenda.{IsWellAgenda}
 
--- where nothing else forbids it, a scheduling gets the last filing number, 2^40
+-- if nothing else forbids it, a scheduling gets the last filing number, 2^40
 abbrev pub LastNumberIsGiven : Type 0
 LastNumberIsGiven = (a : Agenda) (k : ℕ) (time clock : ℤ) → int_lt time clock ≡ false → is_pending a k ≡ false →
     a.next_filing ≡ MOST_SCHEDULINGS → may_schedule a k time clock ≡ Ok tt
 
--- and behind it none gets another: that is F20
+-- after the last filing number no scheduling gets another: that is F20
 abbrev pub NoneBehindTheLast : Type 0
 NoneBehindTheLast = (a : Agenda) (k : ℕ) (time clock : ℤ) → int_lt time clock ≡ false → is_pending a k ≡ false →
     a.next_filing ≡ MOST_SCHEDULINGS + 1 → may_schedule a k time clock ≡ Err TooManyReferences

@@ -1,3 +1,4 @@
+-- The definitions of this crate that other crates may use come from these modules.
 pub mod Rules
 pub mod Agenda
 pub mod State

@@ -1,4 +1,4 @@
--- Where a listing of the pending notices stands.
+-- The position of a listing of the pending notices.
 use Rattle.std.specs.Prelude.{◌≡◌, ℕ, ◌<◌, List, drop, length, slice_index_or, Option, None}
 use Rattle.ss_words.specs.declared.limits.TheConstants.{MOST_CLASSES}
 use Rattle.ss_links.specs.Seats.{first_of}

@@ -1,4 +1,4 @@
--- Where a notice belongs on the board.
+-- The place of a notice on the board.
 use Rattle.std.specs.Prelude.{ℕ, ◌<◌, if◌then◌else◌, Bool, List, [], ◌∷◌, length, slice_index, Option, Some, None}
 use Rattle.std.specs.Prelude.{unwrap_or}
 use Rattle.std.specs.Option.{IsSome, option_map}
@@ -8,12 +8,12 @@ use Rattle.ss_events.specs.Agenda.{Pending, pending_at, is_before, of_class}
 use Rattle.ss_events.specs.Rules.{event_number}
 use Rattle.ss_events.specs.State.{AgendaState, seats_of, order}
 
--- those that a notice doesn't come before, up to the first that it comes before
+-- the notices that a notice doesn't come before, up to the first that it comes before
 abbrev pub notices_passed : (Pending → Pending → Bool) → Pending → List Pending → List Pending
 notices_passed lt notice [] = []
 notices_passed lt notice (f ∷ fs) = if lt notice f then [] else f ∷ notices_passed lt notice fs
 
--- where a notice belongs: in its class's list, behind those that it doesn't come before
+-- the place of a notice: in its class's list, after those that it doesn't come before
 abbrev pub rank_place : AgendaState → Pending → Place
 rank_place agenda notice = record {
   head = event_number agenda.rules notice.class;
@@ -26,7 +26,7 @@ abbrev pub last : List Pending → Option Pending
 last [] = None
 last (e ∷ es) = Some (unwrap_or (last es) e)
 
--- the notice of its class directly behind which a notice belongs, or none where it belongs in front of all
+-- the notice of its class directly before a notice's place, or none if the place is before all
 abbrev pub predecessor_of : AgendaState → Pending → Option ℕ
 predecessor_of agenda notice = option_map (λ f. f.notice)
     (last (notices_passed (is_before agenda.rules) notice (of_class notice.class (order agenda))))

@@ -1,5 +1,5 @@
--- The agenda's state, read off the rows that it keeps, one for each number of a notice. Private: cited by the view, the
--- invariant and private functions alone.
+-- The agenda's state, read from the rows that it keeps, one for each number of a notice. Private:
+-- only the view, the invariant and private functions cite it.
 use Rattle.std.specs.Prelude.{◌≡◌, ℕ, ℤ, pos, ◌+◌, ◌-◌, ◌<◌, ◌≤◌, true, List, [], ◌∷◌, ◌++◌, replicate, length, map}
 use Rattle.std.specs.Prelude.{slice_index, slice_index_or, is_some, if◌then◌else◌, Option, Some, None}
 use Rattle.ss_links.specs.Board.{Board, IsSound}
@@ -45,7 +45,7 @@ state_of rules rows next notices = record {
 abbrev pub HasNode : Row → Type 0
 HasNode row = row.node ≡ (if is_some row.pending then None else row.seat)
 
--- each seat has a time, and where its notice is pending, that is when it is due
+-- each seat has a time; if its notice is pending, it is due at that time
 pub record AreDue (times : List ℤ) (notices : List ℕ) (rows : List Row) : Type 0 where
   -- there is a time for each seat
   pub count : length times ≡ length notices
@@ -53,13 +53,13 @@ pub record AreDue (times : List ℤ) (notices : List ℕ) (rows : List Row) : Ty
   pub due : (seat : ℕ) (x : PendingNotice) → seat < length notices
       → (row_at rows (slice_index notices seat - 1)).pending ≡ Some x → slice_index_or times seat (pos 0) ≡ x.time
 
--- what is kept, the rows, the state and the board, agrees
+-- the kept rows, the state and the board agree
 pub record IsAgenda (rows : List Row) (agenda : AgendaState) (b : Board) : Type 0 where
   -- the rows are the pending notices
   pub read : agenda.agenda.pending ≡ notices_from 1 rows
   -- the board is that of the state
   pub board : b ≡ board_of agenda
-  -- no seat stands twice on the board
+  -- no seat is twice on the board
   pub sound : IsSound b
   -- each row has its notice's seat
   pub seats : (i : ℕ) → i < length rows → (row_at rows i).seat ≡ seat_at agenda.notices (i + 1)
@@ -71,13 +71,13 @@ pub record IsAgenda (rows : List Row) (agenda : AgendaState) (b : Board) : Type 
   pub once : (n : ℕ) → times_in agenda.notices n ≤ 1
   -- there are at most as many rows as references
   pub few : length rows ≤ MOST_REFERENCES
-  -- what is kept of each pending notice fits its class
+  -- the entry of each pending notice fits its class
   pub pending : Each (IsPending agenda.rules agenda.notices agenda.agenda.next_filing) agenda.agenda.pending
   -- no two have one filing number
   pub filed : AreFiled agenda.agenda.pending
   -- filing numbers begin with 1
   pub next : 0 < agenda.agenda.next_filing
-  -- and end with the limit
+  -- and end with the limit, 2^40
   pub filing : agenda.agenda.next_filing ≤ MOST_SCHEDULINGS + 1
   -- no two classes have one place in the order of priority
   pub ranked : AreRanked agenda.rules
@@ -93,7 +93,7 @@ IsEntry rules notice =
 pub record IsGrown (old new : List Row) (count : ℕ) : Type 0 where
   -- how many rows are new
   pub more : ℕ
-  -- they are empty, behind the old ones
+  -- they are empty, after the old ones
   pub whole : new ≡ old ++ replicate more empty_row
   -- there are no more rows than were wanted or there
   pub few : (n : ℕ) → count ≤ n → length old ≤ n → length new ≤ n

@@ -1,4 +1,4 @@
--- What the order of notices asks of the program's classes.
+-- The rules of the program's classes that the order of notices needs.
 use Rattle.std.specs.Prelude.{ℕ, zero, suc, ◌+◌, if◌then◌else◌, Bool, false, List, [], ◌∷◌, length, map, slice_index_or}
 use Rattle.std.specs.List.{range_with_len}
 use Rattle.ss_program.specs.declared.keys.Key.{Key}

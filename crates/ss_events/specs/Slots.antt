@@ -1,4 +1,4 @@
--- What is told of a pending notice.
+-- The time and class of a pending notice.
 use Rattle.ss_events.specs.declared.agenda.Slot.{Slot}
 use Rattle.ss_events.specs.Agenda.{Pending}
 

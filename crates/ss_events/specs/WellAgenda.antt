@@ -16,13 +16,13 @@ IsRising n (e ∷ es) = (n < e.notice) × IsRising e.notice es
 pub record IsWellAgenda (rules : List Rule) (agenda : Agenda) : Type 0 where
   -- each pending notice is well-formed
   pub notices : Each (IsWellNotice rules agenda.next_filing) agenda.pending
-  -- there are at most so many references
+  -- no reference is above the limit
   pub few : Each (λ e. e.notice ≤ MOST_REFERENCES) agenda.pending
-  -- they stand in order of their references
+  -- they are in order of their references
   pub references : IsRising 0 agenda.pending
   -- no two have one filing number
   pub filings : AreFiled agenda.pending
   -- filing numbers begin with 1
   pub next : 0 < agenda.next_filing
-  -- and end with the limit
+  -- and end with the limit, 2^40
   pub limit : agenda.next_filing ≤ MOST_SCHEDULINGS + 1

@@ -1,3 +1,4 @@
+//! The agenda's data and its invariant; the other files add the calls on its order and its changes.
 ghost use Rattle.std.specs.Prelude.{◌≡◌, ◌<◌, ℕ, map, ◌≤◌, length, Some, IfOk, slice_index, is_some, IfSome};
 ghost use Rattle.std.specs.Prelude.{true};
 ghost use Rattle.std.specs.Option.{option_map};
@@ -27,7 +28,7 @@ pub struct Slot {
     pub class: usize,
 }
 
-/// One change of the agenda, with what its undoing needs.
+/// One change of the agenda, with all that its undoing needs.
 #[derive(Drop)]
 pub enum AgendaChange {
     /// A notice was scheduled, and perhaps got its seat.
@@ -39,9 +40,9 @@ pub enum AgendaChange {
     /// A pending notice was taken off.
     TakenOff {
         notice: u32,
-        /// What was kept of it.
+        /// The entry of the notice.
         entry: PendingNotice,
-        /// The notice of its class that stood directly before it, or none where it stood first.
+        /// The notice of its class directly before it, or none if it was first.
         predecessor: Option<u32>,
     },
 }
@@ -116,15 +117,15 @@ impl<S: SetBoard> Agenda<S> {
         })
     }
 
-    /// Tells its caller that the agenda is well-formed.
+    /// Lets its caller know that the agenda is well-formed.
     pub fn known(&self)
         ensures { IsWellAgenda self.now.rules self.now.agenda }
     {
-        // What is kept is known where a field is read.
+        // Reading a field makes the invariant known.
         let _ = &self.rows;
     }
 
-    /// How many keys a notice of this class has, or none where it is no event class.
+    /// The number of keys that a notice of this class has, or none if it is no event class.
     pub fn key_count(&self, class: usize) -> Option<usize>
         ensures event { is_some result ≡ is_event_class self.now.rules class }
         ensures count { IfSome result
@@ -138,7 +139,7 @@ impl<S: SetBoard> Agenda<S> {
         }
     }
 
-    /// When the notice is due and of which class it is, or none where it isn't pending.
+    /// When the notice is due and of which class it is, or none if it isn't pending.
     pub fn slot(&self, notice: u32) -> Option<Slot>
         requires { 0 < notice }
         ensures { result ≡ option_map slot_of (pending_at self.now.agenda.pending notice) }

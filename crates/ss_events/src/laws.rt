@@ -1,12 +1,12 @@
 //! Laws on the definitions. Each function does nothing, and its contract says the law.
 ghost use Rattle.ss_events.specs.Laws.{LastNumberIsGiven, NoneBehindTheLast, FilingNumbersEnd};
 
-/// The filing number 2^40 is given, where nothing else forbids the scheduling.
+/// The filing number 2^40 is given, if nothing else forbids the scheduling.
 pub fn last_filing_number_is_given()
     ensures { LastNumberIsGiven }
 {}
 
-/// No filing number is given behind 2^40: the scheduling is refused with F20.
+/// No filing number is given after 2^40: the scheduling is refused with F20.
 pub fn no_filing_number_behind_the_last()
     ensures { NoneBehindTheLast }
 {}

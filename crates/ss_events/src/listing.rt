@@ -1,6 +1,7 @@
+//! The position of a listing, which an agenda's caller holds while it lists notices in order.
 use ss_words::limits::MOST_CLASSES;
 
-/// Where a listing of the pending notices stands. It takes no memory of the heap.
+/// The position of a listing of the pending notices. It takes no memory of the heap.
 #[derive(Drop)]
 pub struct Listing {
     /// The seat of each class's first notice that is not listed yet.

@@ -68,7 +68,7 @@ impl<S: SetBoard> Agenda<S> {
         least
     }
 
-    /// The notice that a listing lists next, or none at its end. The listing then stands behind it.
+    /// The notice that a listing lists next, or none at its end. The listing then goes on after it.
     pub fn list_next(&self, listing: &mut Listing) -> Option<u32>
         requires { IsListing self.now listing.old }
         ensures notice { result
@@ -102,7 +102,7 @@ impl<S: SetBoard> Agenda<S> {
         least
     }
 
-    /// The notice that is due before all others, or none where none is pending.
+    /// The notice that is due before all others, or none if none is pending.
     pub fn next(&self) -> Option<u32>
         ensures { result
             ≡ option_map (λ e. e.notice) (least self.now.rules self.now.agenda.pending) }

@@ -1,6 +1,7 @@
+//! The rows that an agenda keeps for its notices.
 use ss_index::SeatNode;
 
-/// What is kept of a pending notice.
+/// The entry of a pending notice: the values that its order needs.
 #[derive(Drop)]
 pub struct PendingNotice {
     /// When it is due.
@@ -12,12 +13,12 @@ pub struct PendingNotice {
     pub filing: u64,
 }
 
-/// What is kept for a notice's number.
+/// The row of a notice's number, whether or not the notice is pending.
 #[derive(Drop)]
 pub struct Row {
     /// The notice's seat, if it has one.
     pub seat: Option<u32>,
-    /// What is kept of the notice, if it is pending.
+    /// The entry of the notice, if it is pending.
     pub pending: Option<PendingNotice>,
     /// The room of its seat in an index, if it has a seat and is not pending.
     pub node: Option<SeatNode>,

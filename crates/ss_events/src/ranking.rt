@@ -1,3 +1,4 @@
+//! The comparison of two pending notices, and the search for a notice's place.
 ghost use Rattle.std.specs.Prelude.{◌≡◌, ◌-◌, ◌<◌, ◌≤◌, IfOk, length, map, slice_index, unwrap_or};
 ghost use Rattle.std.specs.Ordering.{is_lt, ordering_then};
 ghost use Rattle.std.specs.declared.cmp.Ordering.{Ordering};
@@ -92,7 +93,7 @@ pub(crate) fn is_before(rules: &[ClassRule], a: &PendingNotice, b: &PendingNotic
     }
 }
 
-/// Where an entry belongs among the pending notices of its class, as a place that is looked for in
+/// The place of an entry among the pending notices of its class, as a place to search for in
 /// their index: in front of all that it comes before.
 #[derive(Clone, Copy)]
 pub(crate) struct EntryRank<'a> {

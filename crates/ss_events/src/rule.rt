@@ -1,3 +1,4 @@
+//! The parts of a program's classes that the order of notices needs.
 ghost use Rattle.std.specs.Prelude.{◌≡◌, ◌<◌, ◌≤◌, ◌==◌, IfOk, length, map, position};
 ghost use Rattle.ss_words.specs.declared.limits.TheConstants.{MOST_CLASSES};
 ghost use Rattle.ss_program.specs.Program.{priority_of};
@@ -7,7 +8,7 @@ ghost use Rattle.ss_events.specs.Views.{rule_of};
 use ss_program::{ClassKind, Key, Program};
 use std::alloc::{AllocError, Global};
 
-/// What the order of notices asks of a class.
+/// The rule of a class, which the order of notices needs.
 #[derive(Drop)]
 pub struct ClassRule {
     /// Whether notices may be of it: it is an event class.
@@ -18,7 +19,7 @@ pub struct ClassRule {
     pub ties: Vec<Key>,
 }
 
-/// What the order of notices asks of a program's classes, class by class.
+/// The rules of a program's classes, class by class.
 pub(crate) fn class_rules(alloc: Global, program: &Program) -> Result<Vec<ClassRule>, AllocError>
     ensures { IfOk result (λ rules. map rule_of rules.items ≡ rules_of program.now) }
 {
@@ -30,7 +31,7 @@ pub(crate) fn class_rules(alloc: Global, program: &Program) -> Result<Vec<ClassR
     Ok(rules)
 }
 
-/// What the order of notices asks of a class.
+/// The rule of a class, which the order of notices needs.
 fn class_rule(alloc: Global, program: &Program, class: usize) -> Result<ClassRule, AllocError>
     requires { class < length program.now.classes }
     ensures { IfOk result (λ rule. rule_of rule ≡ program_rule program.now class) }
@@ -54,7 +55,7 @@ fn class_is_event(program: &Program, class: usize) -> bool
     }
 }
 
-/// The keys of a class's BREAK ties; none where it is no event class.
+/// The keys of a class's BREAK ties; none if it is no event class.
 fn class_ties(alloc: Global, program: &Program, class: usize) -> Result<Vec<Key>, AllocError>
     requires { class < length program.now.classes }
     ensures { IfOk result (λ ties. ties.items ≡ (program_rule program.now class).ties) }
@@ -65,14 +66,14 @@ fn class_ties(alloc: Global, program: &Program, class: usize) -> Result<Vec<Key>
     }
 }
 
-/// Where a class stands among those that are named.
+/// The place of a class among those that are named.
 fn named_place(named: &[usize], class: usize) -> Option<usize>
     ensures { result ≡ position (λ other. class == other) named.now }
 {
     named.iter().position(|other| class == *other)
 }
 
-/// The class's place in the order of priority: that among those that are named, or behind them.
+/// The class's place in the order of priority: that among those that are named, or after them.
 fn class_priority(program: &Program, class: usize) -> usize
     requires { class < length program.now.classes }
     ensures { result ≡ priority_of program.now class }

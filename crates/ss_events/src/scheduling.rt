@@ -25,7 +25,7 @@ use ss_words::{RunFault, StepFault};
 use std::alloc::AllocError;
 
 impl<S: SetBoard> Agenda<S> {
-    /// Makes a notice pending. The index of its class finds the place where its seat belongs.
+    /// Makes a notice pending. The index of its class finds the place for its seat.
     fn put_in(&mut self, notice: u32, entry: PendingNotice)
         requires { CanPend self.old (notice_of notice entry) }
         ensures { self.new
@@ -48,7 +48,7 @@ impl<S: SetBoard> Agenda<S> {
         self.board.relink(seat, Place { head, before });
     }
 
-    /// Takes a pending notice out, and gives what was kept of it and the notice before it.
+    /// Takes a pending notice out, and gives its entry and the notice before it.
     fn take_out(&mut self, notice: u32) -> (PendingNotice, Option<u32>)
         requires number { 0 < notice }
         requires pending { IsSome (pending_at self.old.agenda.pending notice) }
@@ -78,7 +78,7 @@ impl<S: SetBoard> Agenda<S> {
         (entry, predecessor)
     }
 
-    /// Makes a seat for a notice, unless it has one, and tells whether it did.
+    /// Makes a seat for a notice, unless it has one, and says whether it did.
     fn give_seat(&mut self, notice: u32) -> Result<bool, AllocError>
         requires number { 0 < notice }
         requires small { notice ≤ MOST_REFERENCES }
@@ -187,7 +187,7 @@ impl<S: SetBoard> Agenda<S> {
         requires pending { IsSome (pending_at self.old.agenda.pending notice) }
         ensures { Went result (after_taking self.old notice) self.old self.new }
     {
-        // What is kept is known where a field is read.
+        // Reading a field makes the invariant known.
         let _board = &self.board;
         let (entry, predecessor) = self.take_out(notice);
         AgendaChange::TakenOff {
@@ -197,7 +197,7 @@ impl<S: SetBoard> Agenda<S> {
         }
     }
 
-    /// Takes a notice off, where it is pending; where it isn't (F11), all is left as it was.
+    /// Takes a notice off, if it is pending. If it isn't (F11), all is left as it was.
     pub fn cancel(&mut self, notice: u32) -> Result<AgendaChange, RunFault>
         requires { 0 < notice }
         ensures { IsCancelled result (may_cancel self.old.agenda notice)

@@ -1,4 +1,4 @@
--- What is told of expressions, targets and entities fits what is got of them.
+-- The findings about expressions, targets and entities fit the results of their evaluation.
 use Rattle.std.proofs.Common.{◌≡◌, ℕ, Bool, true, false, refl, sym}
 use Rattle.std.proofs.Common.{subst, Option, Some, None, Result, Ok, Err}
 use Rattle.std.specs.Prelude.{ℤ, pos, not, unsigned_abs, ◌*ℤ◌, ◌+ℤ◌, ◌-ℤ◌, is_some}
@@ -49,7 +49,7 @@ pub ends_fit : (t : Told) (r : Result ℤ RunFault) → Fits t r → Fits t (r >
 ends_fit t (Ok y) h = h
 ends_fit t (Err e) h = tt
 
--- what follows two values, one by one
+-- the steps after two values, one by one
 pub regrouped : (r : Result ℤ RunFault) (g h : ℤ → Result ℤ RunFault) → ((r >>= g) >>= h) ≡ (r >>= λ y. g y >>= h)
 regrouped (Ok y) g h = refl
 regrouped (Err e) g h = refl
@@ -60,7 +60,7 @@ joined (Ok y) (Ok z) s h = refl
 joined (Ok y) (Err e) s h = refl
 joined (Err e) q s h = refl
 
--- a part behind others, with what is made of both
+-- a part after others, with the result of both
 pub joined_fits : (t u : Told) (r q : Result ℤ RunFault) (s : ℤ → ℤ → Result ℤ RunFault) → Fits t r → Fits u q →
     Fits (both t u) (r >>= λ y. q >>= λ z. s y z)
 joined_fits t u r q s h k =
@@ -191,7 +191,7 @@ target_stops p s (targets.Attribute c a i) z =
     (λ x. write_stops c a x (entity s.store c (number_of x)) (with_changed (with_value a z) s.store c (number_of x))
     (state_with_store s))
 
--- the same with items taken
+-- that with items taken
 pub taken_stops : (p : ProgramTable) (s : State) (n : ℕ) (t : Target) (z : ℤ) →
     Stops (target_told p s t) (state_with_value (tables_of p) (state_with_taken s n) t z)
 taken_stops p s n (targets.Variable v) z = tt
@@ -243,7 +243,7 @@ named_stops p s c e =
     at_stops (told_of p s e) (entity_told s c) (value_of (read p s) e) (entity_named s.store c) (expr_fits p s e)
     (λ x. named_by (exists s.store c (number_of x)) c x (number_of x))
 
--- of a value that was got
+-- that of a value that was got
 pub at_named : (s : State) (c : ℕ) (t : Told) (y : ℤ) → FitsValue t y →
     Stops (at_entity t (entity_told s c)) (entity_named s.store c y)
 at_named s c (Value x) y h =

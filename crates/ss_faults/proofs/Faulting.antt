@@ -1,4 +1,4 @@
--- A statement that is told to miss an entity faults.
+-- A statement whose finding is a missing entity faults.
 use Rattle.std.proofs.Common.{◌≡◌, ◌⊎◌, inl, inr, ℕ, Bool, true, false, List, [], ◌∷◌, length, refl, ap}
 use Rattle.std.proofs.Common.{subst, Result, Ok, Err}
 use Rattle.std.specs.Prelude.{ℤ, pos, ◌+◌, ◌+ℤ◌, replicate}
@@ -177,7 +177,7 @@ read_stops p s (t ∷ ts) =
 
 -- ---- statements
 
--- that an entity is missing is a fault
+-- a finding that an entity is missing means a fault
 pub faulted : {A : Type 0} (s : State) (t : Told) (r : Result A RunFault) (f : A → State) (c : ℕ) (x : ℤ) →
     t ≡ Missing c x → Stops t r → IsFaulted (state_after_result s r f)
 faulted s t (Ok a) f c x m h = absurd (subst (λ (u : Told). IsThere u) m h)

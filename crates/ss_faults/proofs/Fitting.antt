@@ -1,4 +1,4 @@
--- What is told of a part fits what is got of it.
+-- The finding about a part fits the result of its evaluation.
 use Rattle.std.proofs.Common.{◌≡◌, ℕ, Bool, true, false, nat_lt, length, refl, sym}
 use Rattle.std.proofs.Common.{subst, Option, Some, None, Result, Ok, Err}
 use Rattle.std.specs.Prelude.{ℤ, pos, unwrap_or}
@@ -32,39 +32,39 @@ use Rattle.ss_faults.specs.Readings.{owner_missing, member_read, count_read, tru
 use Rattle.ss_faults.specs.Readings.{owner_told}
 use Rattle.ss_faults.specs.Readings.{member_told, signed_told}
 
--- what an expression reads of a state
+-- the readings of an expression in a state
 abbrev pub read : ProgramTable → State → Readings
 read p s = readings (tables_of p) s
 
--- ---- what is told of a part, and what was got of it
+-- ---- the finding about a part, and the result of its evaluation
 
--- a value that was got is the one that is told, and no entity is missing
+-- a value that was got is the one of the finding, and no entity is missing
 abbrev pub FitsValue : Told → ℤ → Type 0
 FitsValue (Value x) y = y ≡ x
 FitsValue Untold y = Unit {0}
 FitsValue (Missing c x) y = ⊥
 FitsValue Unclear y = Unit {0}
 
--- what is told of a part fits what was got of it
+-- the finding about a part fits the result of its evaluation
 abbrev pub Fits : Told → Result ℤ RunFault → Type 0
 Fits t (Ok y) = FitsValue t y
 Fits t (Err e) = Unit {0}
 
--- no entity is told as missing
+-- the finding is no missing entity
 abbrev pub IsThere : Told → Type 0
 IsThere (Value x) = Unit {0}
 IsThere Untold = Unit {0}
 IsThere (Missing c x) = ⊥
 IsThere Unclear = Unit {0}
 
--- nothing is told
+-- the finding is unclear
 abbrev pub IsUnclear : Told → Type 0
 IsUnclear (Value x) = ⊥
 IsUnclear Untold = ⊥
 IsUnclear (Missing c x) = ⊥
 IsUnclear Unclear = Unit {0}
 
--- where something was got, no entity is told as missing
+-- if there is a result, the finding is no missing entity
 abbrev pub Stops : {A : Type 0} → Told → Result A RunFault → Type 0
 Stops t (Ok a) = IsThere t
 Stops t (Err e) = Unit {0}
@@ -91,7 +91,7 @@ pub fit_stops : (t : Told) (r : Result ℤ RunFault) → Fits t r → Stops t r
 fit_stops t (Ok y) h = fit_there t y h
 fit_stops t (Err e) h = tt
 
--- where one was got, and what follows of it
+-- if there is a result, and the steps after it
 pub over : {A B : Type 0} (t : Told) (r : Result A RunFault) (g : A → Result B RunFault) →
     ((a : A) → r ≡ Ok a → Stops t (g a)) → Stops t (r >>= g)
 over t (Ok a) g k = k a refl
@@ -133,14 +133,14 @@ unclear_there Untold h = absurd h
 unclear_there (Missing c x) h = absurd h
 unclear_there Unclear h = tt
 
--- nothing is told of two parts, of the first of which nothing is told
+-- the finding about two parts is unclear if that of the first is
 pub unclear_before : (t u : Told) → IsUnclear t → IsUnclear (both t u)
 unclear_before (Value x) u h = absurd h
 unclear_before Untold u h = absurd h
 unclear_before (Missing c x) u h = absurd h
 unclear_before Unclear u h = tt
 
--- or of the second
+-- or if that of the second is
 pub unclear_behind : (t u : Told) → IsThere t → IsUnclear u → IsUnclear (both t u)
 unclear_behind (Value x) (Value y) h k = absurd k
 unclear_behind (Value x) Untold h k = absurd k
@@ -194,7 +194,7 @@ at_stops (Missing c x) f (Ok y) g h k = absurd h
 at_stops Unclear f (Ok y) g h k = there_stops Unclear (g y) tt
 at_stops t f (Err e) g h k = tt
 
--- what is told at the value that was got
+-- the finding at the value that was got
 pub at_there : (t : Told) (f : ℤ → Told) (y : ℤ) → FitsValue t y → IsThere (f y) → IsThere (at_entity t f)
 at_there (Value x) f y h k = subst (λ (z : ℤ). IsThere (f z)) h k
 at_there Untold f y h k = tt
@@ -208,7 +208,7 @@ at_unclear Untold f y h k = tt
 at_unclear (Missing c x) f y h k = absurd h
 at_unclear Unclear f y h k = tt
 
--- ---- what is read
+-- ---- readings
 
 pub number_fits : (r : Result ℤ RunFault) → Fits (number_told r) r
 number_fits (Ok x) = refl
@@ -260,7 +260,7 @@ of_member_fits p s Successor set x =
 of_member_fits p s Membership set x =
     truth_fits (Missing (set_of p set).member x) (membership (shape_of p set) s.store (number_of x))
 
--- what is told of a set of the table, and else nothing
+-- the finding about a set of the table; it is unclear for any other set
 pub table_fits : (b : Bool) (t : Told) (r : Result ℤ RunFault) → Fits t r →
     Fits (elim b [ true ↦ t | false ↦ Unclear ]) r
 table_fits true t r h = h

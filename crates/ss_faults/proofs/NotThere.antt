@@ -1,4 +1,4 @@
--- An entity that is told as missing does not exist.
+-- An entity that a finding gives as missing does not exist.
 use Rattle.std.proofs.Common.{◌≡◌, ℕ, zero, suc, ◌+◌, ◌<◌, Bool, true, false, nat_lt, List, [], ◌∷◌, length, map, refl, sym, ap, ◌∙◌}
 use Rattle.std.proofs.Common.{arith}
 use Rattle.std.proofs.Common.{Option, Some, None, Result, Ok, Err}
@@ -69,7 +69,7 @@ use Rattle.ss_faults.specs.Missing.{branch_told, looping_told, notice_value_told
 use Rattle.ss_faults.specs.Missing.{timing_told, read_told, place_told}
 use Rattle.ss_faults.specs.Laws.{WhatIsMissingIsNotThere}
 
--- what is told of a part misses an entity only where that does not exist
+-- the finding about a part is a missing entity only if that does not exist
 abbrev IsRight : State → Told → Type 0
 IsRight s (Value x) = Unit {0}
 IsRight s Untold = Unit {0}
@@ -97,7 +97,7 @@ at_right s Untold f h k = tt
 at_right s (Missing c x) f h k = h
 at_right s Unclear f h k = tt
 
--- ---- what is read
+-- ---- readings
 
 get_range : {X : Type 0} (f : ℕ → X) (a n i : ℕ) → i < n → slice_get (map f (range_with_len a n)) i ≡ Some (f (a + i))
 get_range f a zero i h = absurd (omega (arith, h))

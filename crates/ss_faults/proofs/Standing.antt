@@ -1,4 +1,4 @@
--- A list, a member or a condition that is told to miss an entity faults.
+-- A list, a member or a condition whose finding is a missing entity faults.
 use Rattle.std.proofs.Common.{◌≡◌, ℕ, Bool, true, false, nat_lt, length, refl, sym, ap}
 use Rattle.std.proofs.Common.{subst, Result, Ok, Err}
 use Rattle.std.specs.Prelude.{ℤ, ◌==◌, not}
@@ -82,7 +82,7 @@ list_unclear p s r o b h =
     at_unclear (subscript_told p s r.owner) (owner_told p s Count r.set) o h
     (λ x. outside (nat_lt r.set (length p.sets)) (of_owner p s Count r.set x) b)
 
--- a member and a list, whose values were got, in a set that is none of the table: nothing is told
+-- a member and a list, whose values were got, in a set that the table lacks: the finding is unclear
 pub filed_unclear : (p : ProgramTable) (s : State) (e : Expr) (t : Told) (r : SetRef) (x o : ℤ) →
     nat_lt r.set (length p.sets) ≡ false → FitsValue (told_of p s e) x → IsThere t →
     FitsValue (subscript_told p s r.owner) o → IsUnclear (filed_told p s e t r)
@@ -113,7 +113,7 @@ filed_by p s e t r x o false b h i k owner member =
 
 -- ---- FILE and REMOVE
 
--- the member that BEFORE or AFTER names, by what was got of it
+-- the member that BEFORE or AFTER names, by its value that was got
 pub asked_there : (t : Told) (r : Result ℤ RunFault) (f : ℤ → How) (h : How) → Fits t r → (r >>= λ y. Ok (f y)) ≡ Ok h →
     IsThere t
 asked_there t (Ok y) f h k e = fit_there t y k
@@ -128,7 +128,7 @@ position_there p s (position.Before y) h e =
 position_there p s (position.After y) h e =
     asked_there (told_of p s y) (value_of (read p s) y) (λ z. hows.After z) h (expr_fits p s y) e
 
--- where FILE puts a member, as it was got
+-- the place at which FILE puts a member, as it was got
 abbrev pub how_in : Result How RunFault → How
 how_in (Ok h) = h
 how_in (Err e) = hows.ByRule
@@ -160,7 +160,7 @@ placed_there p s shape (position.Before y) h e n =
 placed_there p s shape (position.After y) h e n =
     after_there s shape (told_of p s y) (value_of (read p s) y) h (expr_fits p s y) e n
 
--- FILE, whose values were got, where owner, member and the member that is named exist
+-- FILE, whose values were got, if owner, member and the member that is named exist
 pub file_by : (p : ProgramTable) (s : State) (e : Expr) (how : Position) (r : SetRef) (x o : ℤ) (h : How) (b : Bool) →
     nat_lt r.set (length p.sets) ≡ b → FitsValue (told_of p s e) x → how_asked (read p s) how ≡ Ok h →
     FitsValue (subscript_told p s r.owner) o → is_owner (shape_of p r.set) s.store (number_of o) ≡ true →
@@ -212,7 +212,7 @@ pub owner_got : (p : ProgramTable) (s : State) (r : SetRef) (o : ℤ) → subscr
 owner_got p s r o h =
     got_fits (subscript_told p s r.owner) (subscript_value (read p s) r.owner) o h (subscript_fits p s r.owner)
 
--- what FILE answers where owner and members exist
+-- the answer of FILE if owner and members exist
 abbrev pub filed_else : SetShape → Store → ℕ → ℕ → How → Result Store RunFault
 filed_else shape st o k h =
     unless AlreadyInSet (not (is_filed shape st k))
@@ -302,7 +302,7 @@ abbrev pub DeniesTruth : Told → Bool → Type 0
 DeniesTruth t true = IsThere t
 DeniesTruth t false = Unit {0}
 
--- where a condition was found to hold, no entity is told as missing
+-- if a condition was found to hold, no entity is missing by its finding
 abbrev pub Denies : Told → Result Bool RunFault → Type 0
 Denies t (Ok b) = DeniesTruth t b
 Denies t (Err e) = Unit {0}

@@ -1,11 +1,11 @@
--- What a variable holds, where a state has it and where not.
+-- The value of a variable, whether a state has it or not.
 use Rattle.std.proofs.Common.{◌≡◌, ℕ, zero, suc, ◌<◌, ◌≤◌, List, [], ◌∷◌, length, refl, arith, Option, Some, None}
 use Rattle.std.specs.Prelude.{ℤ, pos, slice_get, slice_index_or, unwrap_or}
 use Rattle.ss_program.specs.Program.{ProgramTable}
 use Rattle.ss_store.specs.Tables.{Tables, tables_of}
 use Rattle.ss_machine.proofs.Scopes.{set_count}
 
--- nothing behind the last
+-- there is nothing after the last
 pub past_end : (xs : List ℤ) (i : ℕ) → length xs ≤ i → slice_index_or xs i (pos 0) ≡ pos 0
 past_end [] i h = refl
 past_end (x ∷ xs) zero h = absurd (omega (arith, h))

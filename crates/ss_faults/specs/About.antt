@@ -1,4 +1,4 @@
--- What the sentence of a fault names: of the statement at which the run stands, in the state that it left as it was.
+-- The parts that the sentence of a fault names: those of the statement of the state that it left.
 use Rattle.std.specs.Prelude.{ℕ, ℤ, pos, List, [], ◌∷◌, ◌++◌, codes, length, Option, Some, None}
 use Rattle.ss_words.specs.declared.fault.RunFault.{RunFault}
 use Rattle.ss_words.specs.declared.fault.RunFault.TheVariants as f
@@ -67,13 +67,13 @@ begin_of program state set AtTheEnd = []
 begin_of program state set (From e) = member_of program state e set ++ list_of program state set
 begin_of program state set (After e) = member_of program state e set ++ list_of program state set
 
--- the same of a phrase
+-- that member and list of a phrase
 abbrev pub beginning_of : ProgramTable → State → Phrase → List ℕ
 beginning_of program state (Counting d x first last step) = []
 beginning_of program state (Each c is_called x count) = []
 beginning_of program state (Walking d x r begin) = begin_of program state r begin
 
--- when SCHEDULE AT asks for
+-- the time or the days that SCHEDULE asks for
 abbrev pub time_of : ProgramTable → State → When → List ℕ
 time_of program state (At e) = if_told (told_of program state e) (label_and_value (codes " Time: "))
 time_of program state Now = []
@@ -95,13 +95,13 @@ target_value program state (targets.Variable x) = Value (variable_in state x)
 target_value program state (targets.Attribute c a i) =
     at_entity (subscript_told program state i) (attribute_told state c a)
 
--- two values behind their labels, where both are told
+-- two values after their labels, if both are known
 abbrev pub pair_of : List ℕ → List ℕ → Told → Told → List ℕ
 pair_of first second a told = if_told a (λ x. if_told told (λ y. label_and_value first x ++ label_and_value second y))
 
--- ---- what each fault is about
+-- ---- the parts that each fault is about
 
--- F1: of ADD and SUBTRACT both values
+-- F1: both values of ADD and SUBTRACT
 abbrev pub sum_of : ProgramTable → State → Place → List ℕ
 sum_of program state (places.Assign (Add e t)) =
     pair_of (codes " Added: ") (codes " To: ") (told_of program state e) (target_value program state t)
@@ -169,7 +169,7 @@ made_class program (places.Making (CreateEvery c e count)) = class_text program 
 made_class program (places.Timing x) = timed_class program x
 made_class program place = []
 
--- how many entities CREATE EVERY asks for
+-- the number of entities that CREATE EVERY asks for
 abbrev pub number_of : ProgramTable → State → Option Expr → ℕ → List ℕ
 number_of program state None count = label_and_value (codes " Value: ") (variable_in state (Global count))
 number_of program state (Some e) count = if_told (told_of program state e) (label_and_value (codes " Value: "))
@@ -198,7 +198,7 @@ abbrev pub left_set : ProgramTable → Place → List ℕ
 left_set program (places.Looping (For l)) = walked_set program l.phrase
 left_set program place = []
 
--- what stands behind BY
+-- the step after BY
 abbrev pub loop_step : ProgramTable → State → Phrase → List ℕ
 loop_step program state (Counting d x first last step) = step_of program state step
 loop_step program state (Each c is_called x count) = []
@@ -209,7 +209,7 @@ abbrev pub below_one : ProgramTable → State → Place → List ℕ
 below_one program state (places.Looping (For l)) = loop_step program state l.phrase
 below_one program state place = []
 
--- F16, F17, F21: how many pieces are taken before the statement
+-- F16, F17, F21: the number of pieces that are taken before the statement
 abbrev pub pieces_taken : State → List ℕ
 pieces_taken state = label_and_count (codes " Taken before: ") state.feed.taken
 
@@ -218,7 +218,7 @@ abbrev pub too_deep : ProgramTable → Place → List ℕ
 too_deep program (places.Call c) = section_text program c.section
 too_deep program place = []
 
--- F19: how many bytes the report has
+-- F19: the number of bytes of the report
 abbrev pub report_size : State → List ℕ
 report_size state = label_and_count (codes " Report so far: ") (length state.report)
 
@@ -228,7 +228,7 @@ entry_of program Absent = []
 entry_of program (Waiting c k) = entity_text program c (pos k)
 entry_of program (Running c k) = entity_text program c (pos k)
 
--- what a fault names at a statement
+-- the parts that a fault names at a statement
 unfoldable pub about : ProgramTable → State → RunFault → Place → List ℕ
 about program state f.OutOfRange place = sum_of program state place
 about program state f.ZeroDivisor place = []

@@ -1,4 +1,4 @@
--- Laws of what is told as missing.
+-- The laws of the findings that an entity is missing.
 use Rattle.std.specs.Prelude.{ℕ, ℤ, ◌≡◌, ◌⊎◌, false, Ok}
 use Rattle.ss_words.specs.declared.fault.RunFault.{RunFault}
 use Rattle.ss_program.specs.declared.branch.Branch.TheVariants.{If}
@@ -17,7 +17,7 @@ use Rattle.ss_state.specs.Step.{step_at}
 use Rattle.ss_faults.specs.declared.told.Told.TheVariants.{Missing}
 use Rattle.ss_faults.specs.Missing.{place_told}
 
--- the entity that a statement is told to miss in a state does not exist there
+-- the entity that is missing by the finding about a statement in a state does not exist there
 abbrev pub WhatIsMissingIsNotThere : Type 0
 WhatIsMissingIsNotThere =
     (program : ProgramTable) (state : State) (place : Place) (c : ℕ) (x : ℤ) →
@@ -32,8 +32,8 @@ abbrev pub IsDenied : ProgramTable → State → Place → Type 0
 IsDenied program state (places.Branch (If (Whether c))) = holds (readings (tables_of program) state) c ≡ Ok false
 IsDenied program state place = ⊥
 
--- a statement that is told to miss an entity in a state faults there, but for an IF of which an earlier relation does
--- not hold
+-- a statement whose finding is a missing entity faults in that state, except an IF that has an
+-- earlier relation which does not hold
 abbrev pub WhatIsMissingFaults : Type 0
 WhatIsMissingFaults =
     (program : ProgramTable) (state : State) (ways : Ways) (place : Place) (c : ℕ) (x : ℤ) →

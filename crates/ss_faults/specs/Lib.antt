@@ -1,3 +1,5 @@
+-- The definitions of a fault's explanation: findings about parts, missing entities, lines,
+-- questions, laws.
 pub mod Readings
 pub mod Missing
 pub mod Texts

@@ -47,7 +47,7 @@ target_told program state (targets.Variable x) = Untold
 target_told program state (targets.Attribute c a i) =
     at_entity (subscript_told program state i) (attribute_told state c a)
 
--- expressions, behind others
+-- expressions, after others
 abbrev pub values_told : ProgramTable → State → Told → List Expr → Told
 values_told program state a [] = a
 values_told program state a (e ∷ es) = values_told program state (both a (told_of program state e)) es
@@ -87,14 +87,14 @@ position_told program state (position.AtEnd end) = Untold
 position_told program state (position.Before e) = told_of program state e
 position_told program state (position.After e) = told_of program state e
 
--- the same, as an entity of class c
+-- that member, as an entity of class c
 abbrev pub placed_told : ProgramTable → State → ℕ → Position → Told
 placed_told program state c position.ByRule = Untold
 placed_told program state c (position.AtEnd end) = Untold
 placed_told program state c (position.Before e) = named_told program state c e
 placed_told program state c (position.After e) = named_told program state c e
 
--- a member and a list: what their subscripts name, then the owner, then the member
+-- a member and a list: the values of their subscripts, then the owner, then the member
 abbrev pub filed_told : ProgramTable → State → Expr → Told → SetRef → Told
 filed_told program state expression between set =
     both (both (both (told_of program state expression) between) (list_told program state set))
@@ -114,20 +114,20 @@ abbrev pub output_told : ProgramTable → State → Output → Told
 output_told program state (Print count values picture) = values_told program state Untold values
 output_told program state (Skip e) = told_of program state e
 
--- a relation; of one in parentheses nothing
+-- a relation; the finding about one in parentheses is unclear
 abbrev pub relation_told : ProgramTable → State → Relation → Told
 relation_told program state (compared e c f) = both (told_of program state e) (told_of program state f)
 relation_told program state (is_empty r is) = list_told program state r
 relation_told program state (is_in e is r) = filed_told program state e Untold r
 relation_told program state (nested c) = Unclear
 
--- relations joined by AND, behind others: the fault is in one of them, and those before it hold
+-- relations joined by AND, after others: the fault is in one of them, and those before it hold
 abbrev pub relations_told : ProgramTable → State → Told → Relations → Told
 relations_told program state a no_relations = a
 relations_told program state a (and_also r rs) =
     relations_told program state (both a (relation_told program state r)) rs
 
--- the same of a conjunction
+-- the relations of a conjunction
 abbrev pub conjunction_told : ProgramTable → State → Conjunction → Told
 conjunction_told program state (all r rs) = relations_told program state (relation_told program state r) rs
 
@@ -135,7 +135,7 @@ conjunction_told program state (all r rs) = relations_told program state (relati
 abbrev pub first_told : ProgramTable → State → Conjunction → Told
 first_told program state (all r rs) = relation_told program state r
 
--- a condition: with OR its first relation alone, since those behind it may have been passed over
+-- a condition: with OR only its first relation, since those after it may have been passed over
 abbrev pub condition_told : ProgramTable → State → Condition → Told
 condition_told program state (any c no_conjunctions) = conjunction_told program state c
 condition_told program state (any c (or_else d ds)) = first_told program state c
@@ -146,7 +146,7 @@ question_told program state (Whether c) = condition_told program state c
 question_told program state WasFound = Unclear
 question_told program state WasNone = Unclear
 
--- what begins, parts and ends an IF
+-- the statements that begin, part and end an IF
 abbrev pub branch_told : ProgramTable → State → Branch → Told
 branch_told program state (If q) = question_told program state q
 branch_told program state Else = Unclear
@@ -195,12 +195,12 @@ timing_told program state (timings.Schedule x) = schedule_told program state x
 timing_told program state (timings.Cancel c is_called e) = named_told program state c e
 timing_told program state timings.Start = Unclear
 
--- READ: its first target, since a further one is assigned behind it
+-- READ: its first target, since a further one is assigned after it
 abbrev pub read_told : ProgramTable → State → List Target → Told
 read_told program state [] = Unclear
 read_told program state (t ∷ ts) = target_told program state t
 
--- the entity that a statement names first of those that are missing, as far as it is told
+-- the entity that a statement names first of those that are missing, as far as it is known
 abbrev pub place_told : ProgramTable → State → Place → Told
 place_told program state (places.Assign a) = assign_told program state a
 place_told program state (places.Making m) = making_told program state m

@@ -1,6 +1,6 @@
--- What is told of an expression in a state. The value of a number, a variable or an attribute is told; that of a sum, a
--- product or a function is not. Parts are looked at from the left, up to the first that names an entity that is
--- missing.
+-- The findings about an expression in a state. The value of a number, a variable or an attribute is
+-- known; that of a sum, a product or a function is not. Parts are looked at from the left, up to
+-- the first that names an entity that is missing.
 use Rattle.std.specs.Prelude.{ℕ, ℤ, pos, nat_lt, length, if◌then◌else◌, Bool, true, false, Option, Some, None}
 use Rattle.std.specs.Prelude.{unwrap_or, Result, Ok, Err}
 use Rattle.ss_words.specs.declared.fault.RunFault.{RunFault}
@@ -30,28 +30,28 @@ use Rattle.ss_faults.specs.declared.told.Told.TheVariants.{Value, Untold, Missin
 
 -- ---- parts in order
 
--- what is told of a part behind others that are there
+-- the finding about a part after others that are there
 abbrev pub behind : Told → Told
 behind (Value x) = Untold
 behind Untold = Untold
 behind (Missing c x) = Missing c x
 behind Unclear = Unclear
 
--- what is told of two parts
+-- the finding about two parts
 abbrev pub both : Told → Told → Told
 both (Value x) told = behind told
 both Untold told = behind told
 both (Missing c x) told = Missing c x
 both Unclear told = Unclear
 
--- what is told at the entity that a part names; nothing where its number is not told
+-- the finding at the entity that a part names; unclear if its number is not known
 abbrev pub at_entity : Told → (ℤ → Told) → Told
 at_entity (Value x) f = f x
 at_entity Untold f = Unclear
 at_entity (Missing c x) f = Missing c x
 at_entity Unclear f = Unclear
 
--- ---- what is read
+-- ---- readings
 
 -- a set, as the store has it
 abbrev pub shape_of : ProgramTable → ℕ → SetShape
@@ -67,7 +67,7 @@ abbrev pub attribute_read : ℕ → ℤ → Result ℤ RunFault → Told
 attribute_read c x (Ok y) = Value y
 attribute_read c x (Err e) = Missing c x
 
--- the same, by its number there
+-- that attribute, by its number there
 abbrev pub attribute_told : State → ℕ → ℕ → ℤ → Told
 attribute_told state c a x = attribute_read c x (attribute_of state.store c a (number_of x))
 
@@ -76,7 +76,7 @@ abbrev pub owner_missing : Owner → ℤ → Told
 owner_missing System x = Unclear
 owner_missing (OwnedBy c) x = Missing c x
 
--- the number of a member, 0 for none; or what else is told
+-- the number of a member, 0 for none; or the other finding
 abbrev pub member_read : Told → Result (Option ℕ) RunFault → Told
 member_read otherwise (Ok k) = Value (pos (unwrap_or k 0))
 member_read otherwise (Err e) = otherwise
@@ -111,12 +111,12 @@ of_member program state Successor set x =
 of_member program state Membership set x =
     truth_read (Missing (set_of program set).member x) (membership (shape_of program set) state.store (number_of x))
 
--- the same of a set of the table
+-- F.s, L.s and N.s for a set of the table
 abbrev pub owner_told : ProgramTable → State → OwnerKept → ℕ → ℤ → Told
 owner_told program state kept set x =
     elim (nat_lt set (length program.sets)) [ true ↦ of_owner program state kept set x | false ↦ Unclear ]
 
--- and so
+-- P.s, S.s and M.s for a set of the table
 abbrev pub member_told : ProgramTable → State → MemberKept → ℕ → ℤ → Told
 member_told program state kept set x =
     elim (nat_lt set (length program.sets)) [ true ↦ of_member program state kept set x | false ↦ Unclear ]

@@ -1,4 +1,4 @@
--- How the parts that a fault is about are told.
+-- The texts of the parts that a fault is about.
 use Rattle.std.specs.Prelude.{ℕ, ℤ, pos, int_lt, List, [], ◌∷◌, ◌++◌, codes, decimal, if◌then◌else◌}
 use Rattle.std.specs.Fmt.{signed_decimal}
 use Rattle.ss_program.specs.declared.kinds.Owner.{Owner}
@@ -36,7 +36,7 @@ owned_text set (OwnedBy c) x = label_name_and_number (codes " List: ") set x
 abbrev pub list_text : ProgramTable → ℕ → ℤ → List ℕ
 list_text program set x = owned_text (set_of program set).name (set_of program set).owner x
 
--- a class, a set, a section
+-- a class
 abbrev pub class_text : ProgramTable → ℕ → List ℕ
 class_text program c = label_and_name (codes " Class: ") (class_of program c).name
 
@@ -48,14 +48,14 @@ set_text program set = label_and_name (codes " Set: ") (set_of program set).name
 abbrev pub section_text : ProgramTable → ℕ → List ℕ
 section_text program n = label_and_name (codes " Section: ") (section_of program n).name
 
--- what is said of a value, if it is told
+-- the text of a value, if it is known
 abbrev pub if_told : Told → (ℤ → List ℕ) → List ℕ
 if_told (Value x) text = text x
 if_told Untold text = []
 if_told (Missing c x) text = []
 if_told Unclear text = []
 
--- that no entity has this number, where that is plain
+-- that no entity has this number, if that is plain
 abbrev pub unnumbered_text : ℤ → List ℕ
 unnumbered_text x = if int_lt x (pos 1) then codes " No entity has a number below 1." else []
 

@@ -1,4 +1,4 @@
-//! What the sentence of a fault names.
+//! The parts that the sentence of a fault names.
 ghost use Rattle.std.specs.Prelude.{◌≡◌, ◌++◌, OnOk};
 ghost use Rattle.ss_faults.specs.About as spec;
 
@@ -259,7 +259,7 @@ fn push_made_class<S: SetBoard>(
     }
 }
 
-/// How many entities CREATE EVERY asks for.
+/// The number of entities that CREATE EVERY asks for.
 fn push_number_of<S: SetBoard>(
     text: &mut Vec<u8>,
     machine: &Machine<S>,
@@ -279,7 +279,7 @@ fn push_number_of<S: SetBoard>(
     }
 }
 
-/// How many entities a statement makes, behind their class.
+/// The number of entities that a statement makes, after their class.
 fn push_made<S: SetBoard>(
     text: &mut Vec<u8>,
     machine: &Machine<S>,
@@ -362,7 +362,7 @@ fn push_below_one<S: SetBoard>(
     }
 }
 
-/// F16, F17, F21: how many pieces of the data are taken before the statement.
+/// F16, F17, F21: the number of pieces of the data that are taken before the statement.
 fn push_taken<S: SetBoard>(text: &mut Vec<u8>, machine: &Machine<S>) -> Result<(), AllocError>
     ensures { OnOk result (text.new.items
         ≡ text.old.items ++ spec.pieces_taken machine.now.state) }
@@ -398,7 +398,7 @@ fn push_entry<S: SetBoard>(text: &mut Vec<u8>, machine: &Machine<S>) -> Result<(
     }
 }
 
-/// Appends what a fault names at a statement.
+/// Appends the parts that a fault names at a statement.
 #[tactic(auto, unfolding(crate::specs::About::about))]
 pub fn push_about<S: SetBoard>(
     text: &mut Vec<u8>,

@@ -1,4 +1,4 @@
-//! What the history is asked of a fault.
+//! The question to the history about a fault.
 ghost use Rattle.std.specs.Prelude.{◌≡◌, ◌++◌, OnOk};
 ghost use Rattle.ss_program.specs.Program.{spot_at};
 ghost use Rattle.ss_faults.specs.Asked as spec;
@@ -14,7 +14,7 @@ use ss_state::Status;
 use ss_words::RunFault;
 use std::alloc::AllocError;
 
-/// Appends an entity, as WHY is asked of it.
+/// Appends an entity, as WHY asks about it.
 fn push_entity_asked(
     text: &mut Vec<u8>,
     program: &Program,
@@ -32,7 +32,7 @@ fn push_entity_asked(
     push_integer(text, number)
 }
 
-/// Appends the owner of a list, as it is asked.
+/// Appends the owner of a list, as WHY asks about it.
 fn push_owner_asked(text: &mut Vec<u8>, owner: Owner, number: i64) -> Result<(), AllocError>
     ensures { OnOk result (text.new.items ≡ text.old.items ++ spec.owner_asked owner number) }
 {
@@ -45,7 +45,7 @@ fn push_owner_asked(text: &mut Vec<u8>, owner: Owner, number: i64) -> Result<(),
     }
 }
 
-/// Appends a list, as WHY is asked of it.
+/// Appends a list, as WHY asks about it.
 fn push_list_asked(
     text: &mut Vec<u8>,
     program: &Program,
@@ -60,7 +60,7 @@ fn push_list_asked(
     push_owner_asked(text, program.set_owner(set), owner)
 }
 
-/// Appends what is asked of an entity that is missing.
+/// Appends the question about an entity that is missing.
 fn push_missing_asked(text: &mut Vec<u8>, program: &Program, told: Told) -> Result<(), AllocError>
     ensures { OnOk result (text.new.items ≡ text.old.items ++ spec.missing_asked program.now told) }
 {
@@ -70,7 +70,7 @@ fn push_missing_asked(text: &mut Vec<u8>, program: &Program, told: Told) -> Resu
     }
 }
 
-/// Appends what is asked of the list that a phrase names now.
+/// Appends the question about the list that a phrase names now.
 fn push_list_of<S: SetBoard>(
     text: &mut Vec<u8>,
     machine: &Machine<S>,
@@ -85,7 +85,7 @@ fn push_list_of<S: SetBoard>(
     }
 }
 
-/// Appends what is asked of a loop.
+/// Appends the question about a loop.
 fn push_loop_asked<S: SetBoard>(
     text: &mut Vec<u8>,
     machine: &Machine<S>,
@@ -103,7 +103,7 @@ fn push_loop_asked<S: SetBoard>(
     }
 }
 
-/// Appends what is asked of a fault at a statement.
+/// Appends the question about a fault at a statement.
 fn push_fault_asked<S: SetBoard>(
     text: &mut Vec<u8>,
     machine: &Machine<S>,
@@ -124,7 +124,7 @@ fn push_fault_asked<S: SetBoard>(
     }
 }
 
-/// Appends what is asked of a fault at the place where the machine's last frame stands.
+/// Appends the question about a fault at the place of the machine's last frame.
 fn push_asked_here<S: SetBoard>(
     text: &mut Vec<u8>,
     machine: &Machine<S>,
@@ -142,10 +142,10 @@ fn push_asked_here<S: SetBoard>(
     }
 }
 
-/// Appends what the history is asked of the fault of the machine's state, as WHY is asked it: of F3
-/// an entity that is missing, as `JOB 7`, of F14 the list that the loop names, as `SET ROADS 1`;
-/// nothing of other faults, where that is not told, and where the state is not faulted. The only
-/// error is that memory was refused.
+/// Appends the question to the history about the fault of the machine's state, as WHY asks it: for
+/// F3 an entity that is missing, as `JOB 7`; for F14 the list that the loop names, as
+/// `SET ROADS 1`. Appends nothing for other faults, if the entity or list is not known, and if the
+/// state is not faulted. The only error is that memory was refused.
 #[tactic(auto, unfolding(crate::specs::Asked::state_asked))]
 pub fn push_asked_of_fault<S: SetBoard>(
     machine: &Machine<S>,

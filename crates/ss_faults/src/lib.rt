@@ -1,5 +1,5 @@
-//! What a fault of a run is about: the line that tells it, with the entity, the list, the class or the
-//! value that the statement names, read off the state that the fault left as it was.
+//! The explanation of a fault of a run: the line that names it, with the entity, the list, the
+//! class or the value that the statement names, read off the state that the fault left as it was.
 #![tactic(auto)]
 
 mod about;

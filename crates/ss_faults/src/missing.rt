@@ -34,7 +34,7 @@ fn target_told<S: SetBoard>(machine: &Machine<S>, target: &Target) -> Told
     }
 }
 
-/// Expressions, behind others.
+/// Expressions, after others.
 fn values_told<S: SetBoard>(machine: &Machine<S>, before: Told, values: &Values) -> Told
     ensures { result
         ≡ spec.values_told machine.now.input.program machine.now.state before values.now }
@@ -109,7 +109,7 @@ fn position_told<S: SetBoard>(machine: &Machine<S>, position: &Position) -> Told
     }
 }
 
-/// The same, as an entity of a class.
+/// That member, as an entity of a class.
 fn placed_told<S: SetBoard>(machine: &Machine<S>, class: usize, position: &Position) -> Told
     ensures { result
         ≡ spec.placed_told machine.now.input.program machine.now.state class position.now }
@@ -120,7 +120,7 @@ fn placed_told<S: SetBoard>(machine: &Machine<S>, class: usize, position: &Posit
     }
 }
 
-/// A member and a list: what their subscripts name, then the owner, then the member.
+/// A member and a list: the values of their subscripts, then the owner, then the member.
 fn filed_told<S: SetBoard>(
     machine: &Machine<S>,
     member: &Expr,
@@ -201,7 +201,7 @@ fn first_told<S: SetBoard>(machine: &Machine<S>, conjunction: &Conjunction) -> T
     relation_told(machine, &conjunction.first)
 }
 
-/// A condition: with OR its first relation alone, since those behind it may have been passed over.
+/// A condition: with OR only its first relation, since those after it may have been passed over.
 #[tactic(auto, using(crate::proofs::Conditions::conditions))]
 fn alternatives_told<S: SetBoard>(
     machine: &Machine<S>,
@@ -321,7 +321,7 @@ fn timing_told<S: SetBoard>(machine: &Machine<S>, timing: &Timing) -> Told
     }
 }
 
-/// The first target of a READ, since a further one is assigned behind it.
+/// The first target of a READ, since a further one is assigned after it.
 fn read_told<S: SetBoard>(machine: &Machine<S>, targets: &Targets) -> Told
     ensures { result
         ≡ spec.read_told machine.now.input.program machine.now.state targets.now }
@@ -332,7 +332,7 @@ fn read_told<S: SetBoard>(machine: &Machine<S>, targets: &Targets) -> Told
     }
 }
 
-/// The entity that a statement names first of those that are missing, as far as it is told.
+/// The entity that a statement names first of those that are missing, as far as it is known.
 pub fn place_told<S: SetBoard>(machine: &Machine<S>, place: &Place) -> Told
     ensures { result
         ≡ spec.place_told machine.now.input.program machine.now.state place.now }

@@ -11,7 +11,7 @@ use ss_machine::Machine;
 use ss_program::{Expr, SetRef};
 use std::alloc::AllocError;
 
-/// Appends a value behind a label, if it is told.
+/// Appends a value after a label, if it is known.
 pub fn push_if_told(text: &mut Vec<u8>, label: &[u8], told: Told) -> Result<(), AllocError>
     ensures { OnOk result (text.new.items ≡ text.old.items
         ++ if_told told (label_and_value label.now)) }

@@ -1,4 +1,4 @@
-//! What is told of an expression in a state.
+//! The findings about an expression in a state.
 ghost use Rattle.std.specs.Prelude.{◌≡◌, pos};
 ghost use Rattle.ss_program.specs.ProgramExpr.{arguments_of, expr_of, factor_of, subscript_of, term_of};
 ghost use Rattle.ss_values.specs.Values.{result_in_range};
@@ -14,7 +14,7 @@ use ss_program::{
 };
 use ss_words::RunFault;
 
-/// The value of a variable in the machine's state, 0 where it has no such variable.
+/// The value of a variable in the machine's state, 0 if it has no such variable.
 #[tactic(auto, using(crate::proofs::Variables::variables))]
 pub fn variable_value<S: SetBoard>(machine: &Machine<S>, variable: Variable) -> i64
     ensures { result ≡ variable_in machine.now.state variable }
@@ -164,7 +164,7 @@ fn signed_told(sign: Option<TermSign>, first: Told) -> Told
     }
 }
 
-/// What is told of an expression in the machine's state.
+/// The finding about an expression in the machine's state.
 pub fn expression_told<S: SetBoard>(machine: &Machine<S>, e: &Expr) -> Told
     ensures { result ≡ spec.told_of machine.now.input.program machine.now.state e.now }
 {
@@ -258,7 +258,7 @@ fn arguments_told<S: SetBoard>(machine: &Machine<S>, arguments: &Arguments) -> T
     told
 }
 
-/// What is told of a subscript in the machine's state.
+/// The finding about a subscript in the machine's state.
 pub fn index_told<S: SetBoard>(machine: &Machine<S>, index: &Index) -> Told
     ensures { result ≡ spec.subscript_told machine.now.input.program machine.now.state index.now }
 {

@@ -1,4 +1,4 @@
-//! The line that tells a fault.
+//! The line that explains a fault.
 ghost use Rattle.std.specs.Prelude.{◌≡◌, ◌++◌, IfOk, OnOk, take};
 ghost use Rattle.ss_program.specs.Program.{spot_at};
 ghost use Rattle.ss_faults.specs.Sentence as spec;
@@ -12,13 +12,13 @@ use ss_state::Status;
 use ss_words::RunFault;
 use std::alloc::{AllocError, Global};
 
-/// The line that tells a fault has at most so many bytes. The definitions read this number too.
+/// The greatest number of bytes of the line that explains a fault. The definitions read it too.
 pub const LONGEST_LINE: usize = 120;
 
-/// What stands at the end of a line that is cut. The definitions read it too.
+/// The mark at the end of a line that is cut. The definitions read it too.
 pub const CUT_MARK: &[u8] = b" ..";
 
-/// Appends what a fault names at the place where the machine's last frame stands.
+/// Appends the parts that a fault names at the place of the machine's last frame.
 fn push_about_here<S: SetBoard>(
     text: &mut Vec<u8>,
     machine: &Machine<S>,
@@ -36,7 +36,7 @@ fn push_about_here<S: SetBoard>(
     }
 }
 
-/// The number of a fault, its sentence, and what it names.
+/// The number of a fault, its sentence, and the parts that it names.
 fn whole_line<S: SetBoard>(
     alloc: Global,
     machine: &Machine<S>,
@@ -54,14 +54,14 @@ fn whole_line<S: SetBoard>(
     Ok(line)
 }
 
-/// The first bytes, so many of them.
+/// The first `count` bytes.
 fn first_bytes(bytes: &[u8], count: usize) -> &[u8]
     ensures { result.now ≡ take count bytes.now }
 {
     &bytes[..count.min(bytes.len())]
 }
 
-/// Appends a line, cut where it is too long.
+/// Appends a line, cut if it is too long.
 fn push_cut(text: &mut Vec<u8>, line: &[u8]) -> Result<(), AllocError>
     ensures { OnOk result (text.new.items ≡ text.old.items ++ spec.cut_line line.now) }
 {
@@ -72,9 +72,9 @@ fn push_cut(text: &mut Vec<u8>, line: &[u8]) -> Result<(), AllocError>
     text.extend_from_slice(line)
 }
 
-/// Appends the line that tells the fault of the machine's state (docs/SENTENCES.md): its number, its
-/// sentence, and what it is about; nothing where the state is not faulted. The line has at most 120
-/// columns: a longer one is cut by ` ..`. The only error is that memory was refused.
+/// Appends the line that explains the fault of the machine's state (docs/SENTENCES.md): its number,
+/// its sentence, and the parts that it is about; nothing if the state is not faulted. The line has
+/// at most 120 columns: a longer one is cut by ` ..`. The only error is that memory was refused.
 #[tactic(auto, unfolding(crate::specs::Sentence::fault_text))]
 pub fn push_fault_sentence<S: SetBoard>(
     alloc: Global,

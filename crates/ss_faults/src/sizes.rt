@@ -1,4 +1,4 @@
-//! What the sentences of F1 and F19 name: values and sizes that pass their bounds.
+//! The parts that the sentences of F1 and F19 name: values and sizes that pass their bounds.
 ghost use Rattle.std.specs.Prelude.{◌≡◌, ◌++◌, OnOk};
 ghost use Rattle.ss_program.specs.declared.place.Place.TheVariants as places;
 ghost use Rattle.ss_faults.specs.About as spec;
@@ -32,7 +32,7 @@ fn target_value<S: SetBoard>(machine: &Machine<S>, target: &Target) -> Told
     }
 }
 
-/// Appends two values behind their labels, where both are told.
+/// Appends two values after their labels, if both are known.
 fn push_pair(
     text: &mut Vec<u8>,
     first_label: &[u8],
@@ -87,7 +87,7 @@ fn push_sum_of<S: SetBoard>(
     }
 }
 
-/// F1: of ADD and SUBTRACT both values.
+/// F1: both values of ADD and SUBTRACT.
 pub fn push_sum<S: SetBoard>(
     text: &mut Vec<u8>,
     machine: &Machine<S>,
@@ -102,7 +102,7 @@ pub fn push_sum<S: SetBoard>(
     push_sum_of(text, machine, assign)
 }
 
-/// F19: how many bytes the report has.
+/// F19: the number of bytes of the report.
 pub fn push_report_size<S: SetBoard>(
     text: &mut Vec<u8>,
     machine: &Machine<S>,

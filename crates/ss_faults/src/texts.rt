@@ -1,4 +1,4 @@
-//! How the parts that a fault is about are told.
+//! The texts of the parts that a fault is about.
 ghost use Rattle.std.specs.Prelude.{◌≡◌, ◌++◌, decimal, OnOk};
 ghost use Rattle.std.specs.Fmt.{signed_decimal};
 ghost use Rattle.ss_faults.specs.Texts as spec;
@@ -120,7 +120,7 @@ pub fn push_section(text: &mut Vec<u8>, program: &Program, section: usize) -> Re
     push_named(text, b" Section: ", program.section_name(section))
 }
 
-/// Appends that no entity has this number, where that is plain.
+/// Appends that no entity has this number, if that is plain.
 fn push_unnumbered(text: &mut Vec<u8>, number: i64) -> Result<(), AllocError>
     ensures { OnOk result (text.new.items ≡ text.old.items ++ spec.unnumbered_text number) }
 {

@@ -1,22 +1,22 @@
-//! What is told of a part of a statement, and of parts in order.
+//! The finding about a part of a statement, and about parts in order.
 ghost use Rattle.std.specs.Prelude.{◌≡◌};
 ghost use Rattle.ss_faults.specs.Readings as spec;
 
-/// What is told of a part of a statement in a state.
+/// The finding about a part of a statement in a state.
 #[derive(Clone, Copy)]
 pub enum Told {
     /// Its value.
     Value(i64),
-    /// That each entity that it names is there; its value is not told.
+    /// Each entity that it names is there; its value is not known.
     Untold,
     /// The first entity that it names and that is missing.
     Missing { class: usize, number: i64 },
-    /// Nothing: what it names is not told.
+    /// Nothing is known: neither its value, nor whether an entity that it names is missing.
     Unclear,
 }
 
 impl Told {
-    /// What is told of this part behind others.
+    /// The finding about this part after others.
     pub fn behind(self) -> Told
         ensures { result ≡ spec.behind self }
     {
@@ -26,7 +26,7 @@ impl Told {
         }
     }
 
-    /// What is told of this part and the next one.
+    /// The finding about this part and the next one.
     pub fn and(self, next: Told) -> Told
         ensures { result ≡ spec.both self next }
     {

@@ -2,7 +2,7 @@ use Rattle.std.proofs.Common.{◌≡◌, ℕ, zero, suc, ◌<◌, List, [], ◌�
 use Rattle.std.proofs.Common.{None, IfSome, arith}
 use Rattle.std.specs.Prelude.{option_map}
 
--- what is shorter than the limit was not cut at it
+-- a list that is shorter than the limit was not cut at it
 take_short : (n : ℕ) (xs : List ℕ) → length (take n xs) < n → take n xs ≡ xs
 take_short zero xs h = absurd (omega (arith, h))
 take_short (suc n) [] h = refl

@@ -1,4 +1,4 @@
--- What stops a program before its work, and the exit status of that.
+-- The reasons that stop a program before its work, and the exit status of each.
 use Rattle.std.specs.Prelude.{◌≡◌, ℕ, List, [], Option, Some, None, codes}
 use Rattle.std.specs.Borrow.{Bor}
 use Rattle.ss_host.specs.declared.stop.Unread.{Unread}
@@ -13,14 +13,14 @@ stop_status Memory = 5
 stop_status (CannotRead path reason) = 2
 stop_status CannotWrite = 2
 
--- what stops the reading of the words
+-- the reasons that stop the reading of the words
 abbrev pub IsOfWords : Stop → Type 0
 IsOfWords Usage = Unit {0}
 IsOfWords Memory = Unit {0}
 IsOfWords (CannotRead path reason) = ⊥
 IsOfWords CannotWrite = ⊥
 
--- what stops the reading of the file of a path: it names that path
+-- the reasons that stop the reading of the file of a path: they name that path
 abbrev pub IsOfFile : List ℕ → Stop → Type 0
 IsOfFile path Usage = ⊥
 IsOfFile path Memory = Unit {0}
@@ -34,7 +34,7 @@ IsUnread path Memory = ⊥
 IsUnread path (CannotRead named reason) = named ≡ path
 IsUnread path CannotWrite = ⊥
 
--- why, after the words that say that it cannot be read
+-- the reason in words, after those that say that the file cannot be read
 abbrev pub unread_words : Unread → List ℕ
 unread_words Missing = codes ": there is no such file"
 unread_words Forbidden = codes ": it is not permitted"
@@ -42,12 +42,12 @@ unread_words Folder = codes ": it is a folder"
 unread_words TooLong = codes ": it is over 64 MiB"
 unread_words Unknown = []
 
--- what stops the reading of the file of a path that may be left out: without a path, memory alone
+-- the reasons that stop the reading of the file of an optional path: without a path, only memory
 abbrev pub IsOfPath : Option (Bor (List ℕ)) → Stop → Type 0
 IsOfPath (Some path) stop = IsOfFile path.now stop
 IsOfPath None stop = stop ≡ Memory
 
--- the path that is named, or what stands for none
+-- the path that is named, or the text for none
 abbrev pub path_or : Option (Bor (List ℕ)) → List ℕ → List ℕ
 path_or (Some path) otherwise = path.now
 path_or None otherwise = otherwise

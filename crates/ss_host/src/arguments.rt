@@ -1,3 +1,4 @@
+//! Reads the words that the program was started with.
 ghost use Rattle.std.specs.Prelude.{IfErr};
 ghost use Rattle.ss_host.specs.Stops.{IsOfWords};
 

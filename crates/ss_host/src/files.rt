@@ -1,3 +1,4 @@
+//! Reads files and standard input whole, up to the limit of 64 MiB.
 ghost use Rattle.std.specs.Prelude.{◌≡◌, ◌≢◌, ◌≤◌, ◌^◌, [], length, IfOk, IfErr, IfSome, None, codes};
 ghost use Rattle.std.specs.IoError.{error_kind};
 ghost use Rattle.ss_host.specs.Stops.{IsOfFile, IsOfPath, IsUnread, path_or};
@@ -48,7 +49,7 @@ pub fn read_file<'a, R: Files + AllocGlobal>(rt: &R, path: &'a str) -> Result<Ve
     }
 }
 
-/// The bytes of the model's file, or of standard input where none is named.
+/// The bytes of the model's file, or of standard input if no file is named.
 pub fn read_model<'a, R: Files + Input + AllocGlobal>(
     rt: &R,
     path: Option<&'a str>,
@@ -65,7 +66,7 @@ pub fn read_model<'a, R: Files + Input + AllocGlobal>(
     read_file(rt, path)
 }
 
-/// The bytes of a file, or what stands in its place where none is named; then only memory can be
+/// The bytes of a file, or the bytes of `otherwise` if no file is named; then only memory can be
 /// refused.
 pub fn read_or<'a, R: Files + AllocGlobal>(
     rt: &R,

@@ -1,5 +1,5 @@
-//! What programs share at their edge: the words that they are started with, files, standard output,
-//! and what stops them.
+//! The common edge of the programs: the words that they are started with, files, standard output,
+//! and the reasons that stop them.
 #![tactic(auto)]
 
 mod arguments;

@@ -1,3 +1,4 @@
+//! The reasons that stop a program: their exit statuses, and their lines on standard error.
 ghost use Rattle.std.specs.Prelude.{◌≡◌, ◌≢◌};
 ghost use Rattle.std.specs.IoError.{error_kind};
 ghost use Rattle.ss_host.specs.Stops.{stop_status, unread_words};
@@ -20,7 +21,7 @@ pub enum Unread {
 }
 
 impl Unread {
-    /// The reason of an error of the system; what is too long comes as `InvalidData`.
+    /// The reason of an error of the system; a file that is too long comes as `InvalidData`.
     pub fn of(error: &Error) -> Unread
         ensures missing { error_kind error.now ≡ ErrorKind.NotFound → result ≡ Unread.Missing }
         ensures forbidden { error_kind error.now ≡ ErrorKind.PermissionDenied
@@ -51,7 +52,7 @@ impl Unread {
     }
 }
 
-/// What stops a program before its work, or ends that before all is written.
+/// The reason that stops a program before its work, or ends its work before all is written.
 #[derive(Clone, Copy, Drop)]
 pub enum Stop<'a> {
     /// The words are none that the program takes.
@@ -78,7 +79,7 @@ impl Stop<'_> {
     }
 }
 
-/// What an error of the system stops the program by: memory that was refused, or `otherwise`.
+/// The reason that an error of the system gives for the stop: memory was refused, or `otherwise`.
 pub fn stop_by<'a>(error: &Error, otherwise: Stop<'a>) -> Stop<'a>
     ensures memory { error_kind error.now ≡ ErrorKind.OutOfMemory → result ≡ Stop.Memory }
     ensures other { error_kind error.now ≢ ErrorKind.OutOfMemory → result ≡ otherwise.entry }
@@ -89,7 +90,7 @@ pub fn stop_by<'a>(error: &Error, otherwise: Stop<'a>) -> Stop<'a>
     }
 }
 
-/// Says on standard error, in one line, what stopped a program that is started as `usage` says.
+/// Says on standard error, in one line, why a program stopped that is started as `usage` says.
 pub fn tell<R: Eprint>(rt: &R, stop: Stop<'_>, usage: &str) {
     let _ = match stop {
         Stop::Usage => eprintln!(rt; "USAGE: {usage}"),

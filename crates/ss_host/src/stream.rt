@@ -1,10 +1,11 @@
+//! The outlet of a program: standard output, or any other writer.
 ghost use Rattle.std.specs.Prelude.{◌≡◌};
 
 use ss_session::{Outlet, PutFault};
 use std::io;
 
-/// An outlet over a writer, one write for each call. It tells of what it took what the writer
-/// tells: standard output tells nothing.
+/// An outlet over a writer, one write for each call. It shows the bytes that it took if the writer
+/// shows them: standard output shows nothing.
 #[derive(Drop)]
 pub struct Stream<W: io::Write + Drop> {
     writer: W,

@@ -1,4 +1,4 @@
--- Laws of filing: what holds of a list holds of the parts around one of its seats.
+-- Laws of filing: facts of a list as facts of the parts around one of its seats.
 use Rattle.std.proofs.Common.{◌≡◌, ℕ, ◌++◌, true, false, if◌then◌else◌, ◌==◌, ◌||◌, ◌&&◌, Bool, List, [], ◌∷◌}
 use Rattle.std.proofs.Common.{Some, None, unwrap_or, refl, arith, ◌≤◌}
 use Rattle.std.proofs.lemmas.Bool.Decides.{nat_tests}
@@ -25,7 +25,7 @@ pub list_all-middle : (p : ℕ → Bool) (l : List ℕ) (y : ℕ) (r : List ℕ)
 list_all-middle p [] y r = refl
 list_all-middle p (z ∷ l) y r = grind (arith, nat_tests, list_all-middle p l y r)
 
--- a seat that is behind ends what is passed
+-- a seat that is after the place ends the passed seats
 pub seats_passed-behind : (p : ℕ → Bool) (l : List ℕ) (y : ℕ) (r : List ℕ) → p y ≡ true
     → seats_passed p (l ++ y ∷ r) ≡ seats_passed p l
 seats_passed-behind p [] y r h = grind (arith, nat_tests)
@@ -36,7 +36,7 @@ pub rest-behind : (p : ℕ → Bool) (l : List ℕ) (y : ℕ) (r : List ℕ) →
 rest-behind p [] y r h = grind (arith, nat_tests)
 rest-behind p (z ∷ l) y r h = grind (arith, nat_tests, rest-behind p l y r)
 
--- in a divided list no seat in front of one that is not behind is behind
+-- in a divided list no seat in front of one that is not after the place is after the place
 pub seats_passed-front : (p : ℕ → Bool) (l : List ℕ) (y : ℕ) (r : List ℕ) → p y ≡ false
     → list_all p (rest p (l ++ y ∷ r)) ≡ true → seats_passed p (l ++ y ∷ r) ≡ l ++ y ∷ seats_passed p r
 seats_passed-front p [] y r h d = grind (arith, nat_tests)
@@ -47,7 +47,7 @@ pub rest-front : (p : ℕ → Bool) (l : List ℕ) (y : ℕ) (r : List ℕ) → 
 rest-front p [] y r h d = grind (arith, nat_tests)
 rest-front p (z ∷ l) y r h d = grind (arith, nat_tests, rest-front p l y r, list_all-middle p l y r)
 
--- a seat that is at its place, and another: the other's side tells on which side of it the seat is
+-- a seat at its place, and another: the side of the other gives the side of it that has the seat
 pub is_at-behind : (p : ℕ → Bool) (x : ℕ) (l : List ℕ) (y : ℕ) (r : List ℕ) → p y ≡ true → (y == x) ≡ false
     → is_at p x (l ++ y ∷ r) ≡ true → is_at p x l ≡ true
 is_at-behind p x [] y r h e a = absurd (grind (arith, nat_tests))
@@ -72,7 +72,7 @@ has-front_of_is_at p x [] y r h e a = refl
 has-front_of_is_at p x (z ∷ l) y r h e a =
     grind (arith, nat_tests, has-front_of_is_at p x l y r, list_all-middle p l y r, has-middle l y r x)
 
--- the seat itself: it stands on neither side
+-- the seat itself: it is on neither side
 pub has-left_of_is_at : (p : ℕ → Bool) (x : ℕ) (l r : List ℕ) → is_at p x (l ++ x ∷ r) ≡ true → has l x ≡ false
 has-left_of_is_at p x [] r a = refl
 has-left_of_is_at p x (z ∷ l) r a =
@@ -83,7 +83,7 @@ has-right_of_is_at p x [] r a = grind (arith, nat_tests)
 has-right_of_is_at p x (z ∷ l) r a =
     grind (arith, nat_tests, has-right_of_is_at p x l r, has-middle l x r x)
 
--- a seat filed in a divided list in which it does not stand is at its place
+-- a seat filed in a divided list that does not have it is at its place
 pub is_at-seats_filed : (p : ℕ → Bool) (x : ℕ) (l : List ℕ) → has l x ≡ false → list_all p (rest p l) ≡ true
     → is_at p x (seats_filed p x l) ≡ true
 is_at-seats_filed p x [] h d = grind (arith, nat_tests)
@@ -94,12 +94,12 @@ pub without-seats_filed : (p : ℕ → Bool) (x : ℕ) (l : List ℕ) → has l 
 without-seats_filed p x [] h = grind (arith, nat_tests)
 without-seats_filed p x (y ∷ l) h = grind (arith, nat_tests, without-seats_filed p x l, without-absent l x)
 
--- what is passed stands in the list
+-- a passed seat is in the list
 pub has-seats_passed : (p : ℕ → Bool) (l : List ℕ) (y : ℕ) → has (seats_passed p l) y ≡ true → has l y ≡ true
 has-seats_passed p [] y h = absurd (cc)
 has-seats_passed p (z ∷ l) y h = grind (arith, nat_tests, has-seats_passed p l y)
 
--- behind the last one passed, or first: at a list's first seat, by what is passed behind it
+-- filed after the last one passed, or first: at a list's first seat, from the seats passed after it
 put_at-none : (p : ℕ → Bool) (x y : ℕ) (l : List ℕ) → p y ≡ false → last_of (seats_passed p l) ≡ None
     → seats_filed p x l ≡ put_at l (last_of (seats_passed p l)) x
     → seats_filed p x (y ∷ l) ≡ put_at (y ∷ l) (last_of (seats_passed p (y ∷ l))) x

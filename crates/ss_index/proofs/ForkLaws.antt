@@ -1,4 +1,4 @@
--- What holds of a fork's seats d, and so of those of its sides, l and r, around its own, y.
+-- Facts of a fork's seats d, and so of those of its sides, l and r, around its own, y.
 use Rattle.std.proofs.Common.{◌≡◌, ℕ, ◌++◌, true, false, ◌==◌, Bool, List, ◌∷◌}
 use Rattle.std.proofs.Common.{arith, ◌<◌, length, length-append}
 use Rattle.std.proofs.lemmas.Bool.Decides.{nat_tests}

@@ -8,7 +8,7 @@ use Rattle.ss_links.proofs.SeatLaws.{without-absent}
 use Rattle.ss_index.specs.Filing.{rest, seats_filed}
 use Rattle.ss_index.specs.Orders.{IsOrder, increases}
 
--- what comes before a seat comes before all that the seat comes before
+-- a seat before another is before all seats that the other one is before
 pub list_all-before : (lt : ℕ → ℕ → Bool) → IsOrder lt → (x y : ℕ) (l : List ℕ) → lt x y ≡ true
     → list_all (lt y) l ≡ true → list_all (lt x) l ≡ true
 list_all-before lt o x y [] h a = refl
@@ -50,7 +50,7 @@ pub increases-without : (lt : ℕ → ℕ → Bool) (x : ℕ) (l : List ℕ) →
 increases-without lt x [] i = refl
 increases-without lt x (y ∷ l) i = grind (arith, nat_tests, increases-without lt x l, list_all-without (lt y) x l)
 
--- in front of seats that all come behind it, a seat is filed first
+-- in front of seats that are all after its place, a seat is filed first
 pub seats_filed-first : (p : ℕ → Bool) (x : ℕ) (l : List ℕ) → list_all p l ≡ true → seats_filed p x l ≡ x ∷ l
 seats_filed-first p x [] a = refl
 seats_filed-first p x (y ∷ l) a = grind arith

@@ -9,7 +9,7 @@ abbrev pub FiledSeatLeaves : Type 0
 FiledSeatLeaves = (behind : ℕ → Bool) (x : ℕ) (l : List ℕ) → has l x ≡ false
     → list_without (seats_filed behind x l) x ≡ l
 
--- a seat is filed directly behind the last one passed, or first
+-- a seat is filed directly after the last one passed, or first
 abbrev pub FiledSeatIsLinked : Type 0
 FiledSeatIsLinked = (behind : ℕ → Bool) (x : ℕ) (l : List ℕ) → ((y : ℕ) → times_in l y ≤ 1)
     → seats_filed behind x l ≡ put_at l (last_of (seats_passed behind l)) x
@@ -24,7 +24,7 @@ abbrev pub FiledListIncreases : Type 0
 FiledListIncreases = (lt : ℕ → ℕ → Bool) → IsOrder lt → (x : ℕ) (l : List ℕ) → IsTrue (increases lt l)
     → (has l x ≡ false → IsTrue (increases lt (seats_filed (lt x) x l))) × IsTrue (increases lt (list_without l x))
 
--- in a list that increases, each seat stands where it would be filed among the others
+-- in a list that increases, each seat is at its place of filing among the others
 abbrev pub IncreasingListIsFiled : Type 0
 IncreasingListIsFiled = (lt : ℕ → ℕ → Bool) → IsOrder lt → (x : ℕ) (l : List ℕ) → IsTrue (increases lt l)
     → IsTrue (has l x) → l ≡ seats_filed (lt x) x (list_without l x)

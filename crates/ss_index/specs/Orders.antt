@@ -2,13 +2,13 @@
 use Rattle.std.specs.Prelude.{◌≡◌, ℕ, Bool, true, false, ◌&&◌, ◌==◌, List, [], ◌∷◌}
 use Rattle.std.specs.List.{list_all}
 
--- of two seats one comes before the other, and not the other before the one
+-- one of any two seats comes before the other, and not the other before the one
 pub record IsOrder (lt : ℕ → ℕ → Bool) : Type 0 where
   -- never each before the other
   pub asymmetric : (x y : ℕ) → lt x y ≡ true → lt y x ≡ false
-  -- what comes before a seat comes before all that the seat comes before
+  -- a seat before another is before all seats that the other one is before
   pub transitive : (x y z : ℕ) → lt x y ≡ true → lt y z ≡ true → lt x z ≡ true
-  -- of two different seats one is before the other
+  -- one of two different seats is before the other
   pub total : (x y : ℕ) → (x == y) ≡ false → lt x y ≡ false → lt y x ≡ true
 
 -- whether each seat comes before all later ones

@@ -1,3 +1,4 @@
+//! The index of seats: the calls by which a caller files and takes seats, over a tree.
 ghost use Rattle.std.specs.Prelude.{◌≡◌, ◌++◌, [], ◌∷◌};
 ghost use Rattle.std.specs.Option.{option_to_list};
 ghost use Rattle.ss_links.specs.Seats.{first_of, last_of, list_without};
@@ -36,15 +37,15 @@ impl SeatIndex {
         SeatIndex { root: Tree::Leaf }
     }
 
-    /// The first seat, or none where there are no seats.
+    /// The first seat, or none if there are no seats.
     pub fn first(&self) -> Option<u32>
         ensures { result ≡ first_of self.now }
     {
         first(&self.root)
     }
 
-    /// Puts a seat in front of the first one that is behind the place, or last, and gives the seat
-    /// directly before it, or none where it is first. Behind one that is behind the place, all are.
+    /// Puts a seat in front of the first one that is after the place, or last, and gives the seat
+    /// directly before it, or none if it is first. After one that is after the place, all are.
     pub fn put<O: Order>(&mut self, node: SeatNode, order: &O) -> Option<u32>
         requires known { EachSeat (O.knows order.now) self.old }
         requires divided { IsDivided (O.behind order.now) self.old }
@@ -70,7 +71,7 @@ impl SeatIndex {
         self.root = merge(root, Tree::Fork(node.fork));
     }
 
-    /// Takes the first seat out and gives its node, or none where there are no seats, whatever the
+    /// Takes the first seat out and gives its node, or none if there are no seats, whatever the
     /// order.
     pub fn take_first(&mut self) -> Option<SeatNode>
         ensures first { result ≡ first_of self.old }
@@ -82,7 +83,8 @@ impl SeatIndex {
         node
     }
 
-    /// Takes a seat out and gives its node. It stands where `put` would put it among the others.
+    /// Takes a seat out and gives its node. The seat is at the place that `put` would give it among
+    /// the others.
     pub fn take<O: Order>(&mut self, seat: u32, order: &O) -> SeatNode
         requires known { EachSeat (O.knows order.now) (list_without self.old seat) }
         requires divided { IsDivided (O.behind order.now) (list_without self.old seat) }

@@ -7,8 +7,8 @@ pub fn filed_seat_leaves()
     ensures { FiledSeatLeaves }
 {}
 
-/// A seat is filed directly behind the last one passed, or first: what `put` gives is where a board
-/// links the seat.
+/// A seat is filed directly after the last one passed, or first: `put` gives the seat after which a
+/// board links it.
 pub fn filed_seat_is_linked()
     ensures { FiledSeatIsLinked }
 {}
@@ -23,7 +23,7 @@ pub fn filed_list_increases()
     ensures { FiledListIncreases }
 {}
 
-/// In a list that increases, each seat stands where it would be filed among the others.
+/// In a list that increases, each seat is at its place of filing among the others.
 pub fn increasing_list_is_filed()
     ensures { IncreasingListIsFiled }
 {}

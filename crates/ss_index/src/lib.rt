@@ -1,7 +1,7 @@
 //! Lists of seats, in which a place is found down a tree.
 //!
 //! Contracts see an index ([`SeatIndex`]) as the list of its seats. A caller's [`Order`] says which
-//! seats stand behind a place. The room of a seat is its node ([`SeatNode`]), made once: a node goes
+//! seats are after a place. The room of a seat is its node ([`SeatNode`]), made once: a node goes
 //! into an index and comes out of it again, and no other call takes memory.
 #![tactic(auto)]
 

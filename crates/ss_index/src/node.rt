@@ -1,10 +1,11 @@
+//! The nodes that hold a seat in an index, made once, so that filing takes no memory.
 ghost use Rattle.std.specs.Prelude.{◌≡◌, IfOk};
 
 use crate::tree::{Fork, Tree};
 use std::alloc::{AllocError, Global};
 use std::marker::Model;
 
-/// The room of a seat that stands in no index. Contracts see it as the seat's number.
+/// The room of a seat that is in no index. Contracts see it as the seat's number.
 #[derive(Drop)]
 pub struct SeatNode {
     pub(crate) fork: Box<Fork>,

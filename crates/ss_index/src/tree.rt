@@ -63,7 +63,7 @@ pub(crate) fn last(tree: &Tree) -> Option<u32>
     }
 }
 
-/// The seats of two trees, one behind the other.
+/// The seats of two trees, those of the second after those of the first.
 pub(crate) fn merge(front: Tree, rest: Tree) -> Tree
     ensures { inorder result ≡ inorder front ++ inorder rest }
 {
@@ -84,7 +84,7 @@ pub(crate) fn merge(front: Tree, rest: Tree) -> Tree
     }
 }
 
-/// A tree's seats that are in front of a place, and those that are behind it.
+/// A tree's seats that are in front of a place, and those that are after it.
 pub(crate) fn split<O: Order>(tree: Tree, order: &O) -> (Tree, Tree)
     requires known { EachSeat (O.knows order.now) (inorder tree) }
     requires divided { IsDivided (O.behind order.now) (inorder tree) }

@@ -1,4 +1,4 @@
--- Which numbers are told to live.
+-- Which numbers are listed as those of living entities.
 use Rattle.std.proofs.Common.{◌≡◌, ℕ, zero, suc, ◌<◌, ◌≤◌, ◌==◌, Bool, true, false, cond, ◌||◌, [], ◌∷◌}
 use Rattle.std.proofs.Common.{refl, sym, ◌∙◌, arith}
 use Rattle.std.specs.Prelude.{nat_lt}
@@ -11,7 +11,7 @@ use Rattle.ss_store.specs.Store.{Store, exists, greatest_number}
 use Rattle.ss_inspect.specs.Living.{living_at, living_numbers}
 use Rattle.ss_inspect.proofs.Numbers.{none_there}
 
--- the number at a place is told just where it exists
+-- the number at a place is listed if and only if its entity exists
 own : (k : ℕ) (b : Bool) → has (cond b (k ∷ []) []) k ≡ b
 own k true = let same : (k == k) ≡ true = grind (arith, nat_tests) in rw same refl
 own k false = refl
@@ -63,7 +63,7 @@ not_past : (st : Store) (c k : ℕ) → greatest_number st c < k → exists st c
 not_past st c zero h = refl
 not_past st c (suc i) h = none_there st c i (omega (arith, h))
 
--- the numbers that are told are those that exist
+-- the numbers that are listed are those of the entities that exist
 pub living_exist : (st : Store) (c k : ℕ) → has (living_numbers st c) k ≡ exists st c k
 living_exist st c k = split (nat_lt (greatest_number st c) k) refl
   where

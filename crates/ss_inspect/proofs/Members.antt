@@ -8,7 +8,7 @@ use Rattle.ss_store.proofs.Core.{some_eq}
 
 -- ---- a walk
 
--- what stands at a place is in the list
+-- the member at a place is in the list
 pub has_at : (ks : List ℕ) (i k : ℕ) → slice_get ks i ≡ Some k → has ks k ≡ true
 has_at [] i k e = absurd (cc)
 has_at (j ∷ ks) zero k e = let same : j ≡ k = some_eq e in grind (arith, nat_tests, same)
@@ -17,7 +17,7 @@ has_at (j ∷ ks) (suc i) k e = let there = has_at ks i k e in grind (arith, nat
 tail_once : (j : ℕ) (ks : List ℕ) → ((x : ℕ) → times_in (j ∷ ks) x ≤ 1) → (x : ℕ) → times_in ks x ≤ 1
 tail_once j ks once x = let h = once x in omega (arith, h)
 
--- the member behind that at a place is at the next one
+-- the member after that at a place is at the next one
 pub next_at : (ks : List ℕ) (i k : ℕ) → ((x : ℕ) → times_in ks x ≤ 1) → slice_get ks i ≡ Some k →
     next_in ks k ≡ slice_get ks (suc i)
 next_at [] i k once e = absurd (cc)
@@ -34,7 +34,7 @@ next_at (j ∷ ks) (suc i) k once e =
     let other : (j == k) ≡ false = grind (arith, nat_tests, few, one) in
     rw other (next_at ks i k (tail_once j ks once) e)
 
--- where there is none at a place, there is none further on
+-- if there is none at a place, there is none further on
 pub none_further : (ks : List ℕ) (i j : ℕ) → slice_get ks i ≡ None → i ≤ j → slice_get ks j ≡ None
 none_further [] i j e h = refl
 none_further (k ∷ ks) zero j e h = absurd (cc)
@@ -71,7 +71,7 @@ page_more ks start n m k page new e next h w =
     let at : slice_get (drop start ks) n ≡ Some k = get_behind ks start n (start + n) refl ∙ e in
     rw (same, w, h) (sym (take_one_more (drop start ks) n k at))
 
--- the part is whole where the list ends
+-- if the list ends after n members from `start` on, these are the whole part
 pub page_ends : (ks : List ℕ) (start n count : ℕ) → slice_get ks (start + n) ≡ None → n ≤ count →
     take n (drop start ks) ≡ take count (drop start ks)
 page_ends ks start n count e h =

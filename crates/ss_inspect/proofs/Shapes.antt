@@ -1,4 +1,4 @@
--- What the store keeps of a set is what the program says of it.
+-- The store's table of a set is the one that the program declares.
 use Rattle.std.proofs.Common.{◌≡◌, ℕ, zero, suc, ◌+◌, ◌<◌, ◌≤◌, false, [], map, length, refl, ap, ◌∙◌}
 use Rattle.std.proofs.Common.{arith}
 use Rattle.std.proofs.Common.{slice_get, unwrap_or, Option, Some, None}

@@ -1,4 +1,4 @@
--- The line that tells an attribute.
+-- The line that gives an attribute.
 use Rattle.std.proofs.Common.{◌≡◌, ℕ, zero, suc, ◌<◌, ◌≤◌, Bool, true, false, cond, ◌&&◌, List, [], length, drop}
 use Rattle.std.proofs.Common.{refl}
 use Rattle.std.proofs.Common.{arith, nat_lt, Some, None}
@@ -19,7 +19,7 @@ nothing_behind : (n : ℕ) → starts_with nat_eq (drop n []) (codes " = ") ≡ 
 nothing_behind zero = refl
 nothing_behind (suc n) = refl
 
--- an empty line tells nothing
+-- an empty line gives no attribute
 empty_line : (name : List ℕ) → tells name [] ≡ false
 empty_line name = rw (nothing_behind (length name)) (and_false (starts_with nat_eq [] name))
 
@@ -37,11 +37,11 @@ first_if t q xs false n e =
     let d : after_first q xs ≡ [] = grind (arith, common_steps) in
     rw (slice_split_none q xs a, b, d, n) refl
 
--- no line tells anything
+-- if there are no lines, none gives an attribute
 pub none_told : (name : List ℕ) → line_telling name [] ≡ None
 none_told name = rw (empty_line name) refl
 
--- the first line, or one of those behind it
+-- the first line, or one of those after it
 pub told_first : (name rest line more : List ℕ) → line ≡ before_first (separates line_separators) rest →
     more ≡ after_first (separates line_separators) rest →
     line_telling name rest ≡ cond (tells name line) (Some line) (line_telling name more)

@@ -14,11 +14,11 @@ use Rattle.ss_inspect.specs.Texts.{no_such_text}
 
 -- ---- one attribute
 
--- whether a line tells the attribute of this name
+-- whether a line gives the attribute of this name
 abbrev pub tells : List ℕ → List ℕ → Bool
 tells name line = starts_with nat_eq line name && starts_with nat_eq (drop (length name) line) (codes " = ")
 
--- the line of some lines that tells an attribute, if there is one
+-- the first of some lines that gives the attribute of this name, if there is one
 abbrev pub line_telling : List ℕ → List ℕ → Option (List ℕ)
 line_telling name lines = find (tells name) (slice_split (separates line_separators) lines)
 
@@ -27,8 +27,8 @@ abbrev pub line_or_none : List ℕ → Option (List ℕ) → List ℕ
 line_or_none name (Some line) = line ++ 10 ∷ []
 line_or_none name None = no_such_text (codes "ATTRIBUTE") name
 
--- an attribute of the entity of this class that x names, or that there is none: of all that is told of the entity the
--- line with this name, so that the kept attributes are among them
+-- an attribute of the entity of this class that x names, or that there is none: the line with this
+-- name among all lines of the entity, so that the kept attributes are among them
 abbrev pub class_attribute_text : List ℕ → ℤ → List ℕ → ProgramTable → Store → Option ℕ → List ℕ
 class_attribute_text class x name program store None = no_such_text (codes "CLASS") class
 class_attribute_text class x name program store (Some c) =
@@ -36,7 +36,7 @@ class_attribute_text class x name program store (Some c) =
     then line_or_none name (line_telling name (entity_lines program store c (number_of x)))
     else no_entity_text class x
 
--- an entity whole, or one attribute of it, or what of them isn't there
+-- an entity whole, or one attribute of it, or which of them isn't there
 abbrev pub told_text : List ℕ → ℤ → Option (List ℕ) → ProgramTable → Store → List ℕ
 told_text class x None program store = class_text class x program store (class_named program class)
 told_text class x (Some name) program store =

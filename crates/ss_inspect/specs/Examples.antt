@@ -23,7 +23,7 @@ use Rattle.ss_program.specs.Program.{ProgramTable, SectionTable}
 use Rattle.ss_state.specs.Run.{Input, input_with}
 use Rattle.ss_state.specs.Examples.{alone, number, job, queue, end_place, start_place, tick_of}
 
--- places, the first on this line and each on the line behind the one before it
+-- places, the first on this line and each other one on the line after the one before it
 abbrev pub on_lines_from : ℕ → List Place → List Spot
 on_lines_from l [] = []
 on_lines_from l (x ∷ xs) = record { line = l; place = x } ∷ on_lines_from (l + 1) xs

@@ -1,4 +1,4 @@
--- What is told of the frames of a state and of its variables.
+-- The texts that show the frames of a state and its variables.
 use Rattle.std.specs.Prelude.{ℕ, ◌+◌, pos, List, [], ◌∷◌, ◌++◌, length, codes, decimal, Option, Some, None}
 use Rattle.std.specs.Prelude.{unwrap_or, if◌then◌else◌, nat_eq, slice_index_or}
 use Rattle.ss_program.specs.Program.{ProgramTable, section_of, spot_at}
@@ -14,12 +14,12 @@ use Rattle.ss_inspect.specs.Texts.{texts_below, lines_or, name_at, named_value}
 abbrev pub locals_in : ProgramTable → ℕ → List (List ℕ)
 locals_in program section = (section_of program section).locals
 
--- a local of the frame on which so many others stand, and its value; the frame is of this section
+-- a local of the frame with `depth` frames above it, and its value; the frame is of this section
 abbrev pub local_text : ProgramTable → State → ℕ → ℕ → ℕ → List ℕ
 local_text program state depth section i =
     named_value (name_at (locals_in program section) i) (unwrap_or (frame_local state depth i) (pos 0))
 
--- the same in one line with others: the first behind a colon, each other behind a comma
+-- that local in one line with others: the first after a colon, each other after a comma
 abbrev pub listed_local : ProgramTable → State → ℕ → ℕ → ℕ → List ℕ
 listed_local program state depth section i =
     (if nat_eq i 0 then codes ": " else codes ", ") ++ local_text program state depth section i
@@ -31,7 +31,7 @@ placed_frame_line program state depth (Some (section, place)) =
     (section_of program section).name ++ codes " LINE " ++ decimal (spot_line (spot_at program section place))
     ++ texts_below (listed_local program state depth section) (length (locals_in program section)) ++ 10 ∷ []
 
--- the frame on which so many others stand
+-- the line of the frame with `depth` frames above it
 abbrev pub frame_line : ProgramTable → State → ℕ → List ℕ
 frame_line program state depth = placed_frame_line program state depth (frame_place state depth)
 

@@ -1,3 +1,4 @@
+-- The definitions of the answers that show a state: shared texts, the answers, laws and examples.
 pub mod Texts
 pub mod Frames
 pub mod Living

@@ -16,20 +16,20 @@ use Rattle.ss_inspect.specs.Texts.{texts_below, no_such_text}
 
 -- ---- a part of a list
 
--- so many members of the list of set number s for the owner that x names, behind so many others
+-- `count` members of the list of set number s for the owner that x names, after the first `start`
 abbrev pub members_page : ProgramTable → Store → ℕ → ℤ → ℕ → ℕ → List ℕ
 members_page program store s x start count =
     take count (drop start (members_of (shape_of program s) store (number_of x)))
 
 -- ---- where an entity is
 
--- the list of set number s for owner number j, told behind a head, where entity number k is in it
+-- the list of set number s for owner number j, after a head, if entity number k is in it
 abbrev pub list_with : ProgramTable → Store → ℕ → ℕ → List ℕ → ℕ → List ℕ
 list_with program store s k head j =
     if has (members_of (shape_of program s) store j) k then (set_of program s).name ++ head
     ++ listed_text program store s (pos j) else []
 
--- the same for the owner whose number is i + 1
+-- that list for the owner whose number is i + 1
 abbrev pub owned_list_with : ProgramTable → Store → ℕ → ℕ → ℕ → List ℕ
 owned_list_with program store s k i = list_with program store s k (codes " " ++ decimal (suc i)) (suc i)
 
@@ -38,7 +38,7 @@ abbrev pub lists_with : ProgramTable → Store → ℕ → ℕ → Owner → Lis
 lists_with program store s k System = list_with program store s k [] 0
 lists_with program store s k (OwnedBy c) = texts_below (owned_list_with program store s k) (greatest_number store c)
 
--- the same, where its members are of class c
+-- the lists of set number s in which entity number k is, if the set's members are of class c
 abbrev pub class_lists_with : ProgramTable → Store → ℕ → ℕ → ℕ → List ℕ
 class_lists_with program store c k s =
     if (set_of program s).member == c then lists_with program store s k (set_of program s).owner else []

@@ -1,4 +1,4 @@
--- What is told of the tables of a program: classes, sets, sections.
+-- The texts that show the tables of a program: classes, sets, sections.
 use Rattle.std.specs.Prelude.{ℕ, List, [], ◌∷◌, ◌++◌, length, codes, decimal}
 use Rattle.ss_program.specs.declared.kinds.ClassKind.{ClassKind}
 use Rattle.ss_program.specs.declared.kinds.ClassKind.TheVariants.{Permanent, Temporary, Event as OfEvent}
@@ -53,7 +53,7 @@ set_line program s =
 unfoldable pub sets_text : Input → List ℕ
 sets_text input = lines_or (codes "NO SETS\n") (set_line input.program) (length input.program.sets)
 
--- the word of a section's kind, behind a blank; MAIN has none
+-- the word of a section's kind, after a blank; MAIN has none
 abbrev pub section_word : SectionKind → List ℕ
 section_word Main = []
 section_word Routine = codes " ROUTINE"

@@ -7,7 +7,7 @@ use Rattle.ss_debug.specs.Entities.{lines_below}
 abbrev pub texts_below : (ℕ → List ℕ) → ℕ → List ℕ
 texts_below text n = lines_below text n
 
--- so many lines, or another text where there is none
+-- n lines, or another text if there are none
 abbrev pub lines_or : List ℕ → (ℕ → List ℕ) → ℕ → List ℕ
 lines_or otherwise line n = if nat_eq n 0 then otherwise else lines_below line n
 

@@ -15,14 +15,14 @@ use ss_links::SetBoard;
 use ss_machine::Machine;
 use std::alloc::{AllocError, Global};
 
-/// Whether a line tells the attribute of this name.
+/// Whether a line gives the attribute of this name.
 fn tells(name: &[u8], line: &[u8]) -> bool
     ensures { result ≡ tells name.now line.now }
 {
     line.starts_with(name) && line[name.len()..].starts_with(b" = ")
 }
 
-/// The line of some lines that tells an attribute.
+/// The first of some lines that gives the attribute of this name.
 #[tactic(auto, using(crate::proofs::Telling::told_first, crate::proofs::Telling::none_told))]
 fn line_telling<'a>(name: &[u8], lines: &'a [u8]) -> Option<&'a [u8]>
     ensures { option_map (λ line. line.now) result ≡ line_telling name.now lines.now }
@@ -38,7 +38,7 @@ fn line_telling<'a>(name: &[u8], lines: &'a [u8]) -> Option<&'a [u8]>
     None
 }
 
-/// Appends the line of some lines that tells an attribute, or that there is none.
+/// Appends the first of some lines that gives an attribute, or that there is none.
 fn push_line_telling(text: &mut Vec<u8>, name: &[u8], lines: &[u8]) -> Result<(), AllocError>
     ensures { OnOk result (text.new.items
         ≡ text.old.items ++ line_or_none name.now (line_telling name.now lines.now)) }
@@ -68,7 +68,7 @@ fn push_attribute_line<S: SetBoard>(
     push_line_telling(text, name, &lines)
 }
 
-/// Appends an entity whole, or one attribute of it, or what of them isn't there.
+/// Appends an entity whole, or one attribute of it, or which of them isn't there.
 fn push_told<S: SetBoard>(
     alloc: Global,
     text: &mut Vec<u8>,
@@ -98,7 +98,7 @@ fn push_told<S: SetBoard>(
 }
 
 /// The value of the variable of this name: TIME.V, else a global variable, else a local of the last
-/// frame; `None` where there is none.
+/// frame; `None` if there is none.
 pub fn variable_value<S: SetBoard>(machine: &Machine<S>, name: &[u8]) -> Option<i64>
     ensures { result ≡ option_map (variable_in machine.now.state)
         (variable_named machine.now.input (position machine.now) name.now) }
@@ -108,8 +108,9 @@ pub fn variable_value<S: SetBoard>(machine: &Machine<S>, name: &[u8]) -> Option<
     Some(machine.variable(variable))
 }
 
-/// Appends the answer to SHOW c v, or to SHOW c v a where an attribute is named, kept ones as well:
-/// what SHOW c k or SHOW c k a answer where k is the value of the variable v, or `NO VARIABLE v`.
+/// Appends the answer to SHOW c v, or to SHOW c v a if an attribute is named (kept ones as well).
+/// The answer is that to SHOW c k or SHOW c k a, in which k is the value of the variable v, or
+/// `NO VARIABLE v`.
 #[tactic(auto, unfolding(crate::specs::Attribute::by_variable_text))]
 pub fn push_by_variable<S: SetBoard>(
     alloc: Global,

@@ -19,7 +19,7 @@ pub fn number_limit<S: SetBoard>(store: &Store<S>, class: usize) -> u32
     store.greatest_number(class)
 }
 
-/// Appends the number one more than `below`, where an entity of the class with it lives.
+/// Appends the number one more than `below`, if an entity of the class with it lives.
 fn push_if_living<S: SetBoard>(
     numbers: &mut Vec<u32>,
     store: &Store<S>,
@@ -54,7 +54,7 @@ fn living_within<S: SetBoard>(
     Ok(numbers)
 }
 
-/// 1 where an entity of the class lives whose number is one more than `below`, else 0.
+/// 1 if an entity of the class lives whose number is one more than `below`, else 0.
 fn one_if_living<S: SetBoard>(store: &Store<S>, class: usize, below: u32) -> u32
     ensures count { result ≡ length (living_at store.now.state class below) }
     ensures one { result ≤ 1 }
@@ -81,7 +81,7 @@ fn count_living_within<S: SetBoard>(store: &Store<S>, class: usize, limit: u32) 
 /// The numbers of the entities of the class with this number that live, the least first. It looks
 /// once at each number that an entity of the class may have.
 ///
-/// `AllocError` where the room for them was refused.
+/// `AllocError` if the memory for them was refused.
 pub fn living_numbers<S: SetBoard>(
     alloc: Global,
     machine: &Machine<S>,

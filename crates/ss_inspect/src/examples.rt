@@ -1,4 +1,4 @@
-//! What is seen of small runs: each function is a law, proved by computing.
+//! Small runs and the answers that show them: each function is a law, proved by computing.
 #![tactic(auto, unfolding(crate::proofs::Unfoldings::answers_together))]
 
 ghost use Rattle.std.specs.Prelude.{◌≡◌, codes, pos, Some, None};
@@ -38,7 +38,7 @@ fn entities_are_seen()
         ≡ codes "NO VARIABLE Y\n" }
 {}
 
-/// Where an entity is.
+/// The lists in which an entity is.
 fn lists_are_seen()
     ensures in_set { places_text (codes "JOB") (pos 1) e.jobs_run 5 ≡ codes "ROW: 1\n" }
     ensures in_owned_set { places_text (codes "JOB") (pos 1) e.desks_run 5 ≡ codes "ROW 2: 1\n" }

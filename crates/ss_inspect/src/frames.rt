@@ -14,14 +14,14 @@ use ss_machine::Machine;
 use ss_program::{Variable, name_at};
 use std::alloc::AllocError;
 
-/// The value of a local of the frame on which so many others stand, 0 where there is none.
+/// The value of a local of the frame with `depth` frames above it, 0 if there is none.
 fn local_value<S: SetBoard>(machine: &Machine<S>, depth: usize, number: usize) -> i64
     ensures { result ≡ unwrap_or (frame_local machine.now.state depth number) (pos 0) }
 {
     machine.frame_local(depth, number).unwrap_or(0)
 }
 
-/// Appends a local of the frame on which so many others stand, whose section this is.
+/// Appends a local of the frame with `depth` frames above it, whose section this is.
 fn push_local<S: SetBoard>(
     text: &mut Vec<u8>,
     machine: &Machine<S>,
@@ -36,7 +36,7 @@ fn push_local<S: SetBoard>(
     push_named_value(text, name, local_value(machine, depth, number))
 }
 
-/// Appends it in one line with others: the first behind a colon, each other behind a comma.
+/// Appends that local in one line with others: the first after a colon, each other after a comma.
 fn push_listed_local<S: SetBoard>(
     text: &mut Vec<u8>,
     machine: &Machine<S>,
@@ -72,7 +72,7 @@ fn push_listed_locals<S: SetBoard>(
     Ok(())
 }
 
-/// Appends the line of the frame on which so many others stand.
+/// Appends the line of the frame with `depth` frames above it.
 fn push_frame<S: SetBoard>(
     text: &mut Vec<u8>,
     machine: &Machine<S>,

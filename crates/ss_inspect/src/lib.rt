@@ -1,10 +1,10 @@
-//! What is seen of a state beside the debugger's own answers: frames and locals, global variables,
-//! the entities of a class that live, one attribute, parts of lists, where an entity is,
+//! Answers that show a state, in addition to the debugger's own: frames and locals, global
+//! variables, the entities of a class that live, one attribute, parts of lists, where an entity is,
 //! and the tables of the program. Each answer is read off the state of the run at the machine's
-//! position; names are given in upper case.
+//! position. Names are given in upper case.
 //!
-//! A call that appends an answer wants memory for it. After `AllocError` a part of the answer may
-//! stand behind what `text` held, and counts for nothing.
+//! A call that appends an answer needs memory for it. After `AllocError`, a part of the answer may
+//! follow the earlier content of `text`. That part counts for nothing.
 #![tactic(auto)]
 
 mod attribute;

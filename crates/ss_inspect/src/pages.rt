@@ -10,7 +10,7 @@ use ss_machine::Machine;
 use ss_store::Store;
 use std::alloc::{AllocError, Global};
 
-/// The first member of a list, none where it is empty.
+/// The first member of a list, none if it is empty.
 fn first_member<S: SetBoard>(store: &Store<S>, set: usize, owner: i64) -> Option<u32>
     requires { set < length store.now.tables.sets }
     ensures { result ≡ slice_get (members_of (set_of store.now.tables set) store.now.state
@@ -19,7 +19,7 @@ fn first_member<S: SetBoard>(store: &Store<S>, set: usize, owner: i64) -> Option
     store.walk_first(set, owner).unwrap_or(None)
 }
 
-/// The member of a list behind so many others, none where there are not so many.
+/// The member of a list after the first `start`, none if there are not more than `start`.
 fn member_at<S: SetBoard>(store: &Store<S>, set: usize, owner: i64, start: usize) -> Option<u32>
     requires { set < length store.now.tables.sets }
     ensures { result ≡ slice_get (members_of (set_of store.now.tables set) store.now.state
@@ -34,7 +34,7 @@ fn member_at<S: SetBoard>(store: &Store<S>, set: usize, owner: i64, start: usize
     Some(member)
 }
 
-/// So many members of a list, behind so many others.
+/// `count` members of a list, after the first `start`.
 fn page_in<S: SetBoard>(
     alloc: Global,
     store: &Store<S>,
@@ -63,11 +63,11 @@ fn page_in<S: SetBoard>(
     Ok(page)
 }
 
-/// A part of the list of a set for the owner with this number: `count` members behind the first
-/// `start`, fewer where the list ends before. It is empty where there is no such owner; the system
-/// is any number. It walks through the list once, up to the last of them.
+/// A part of the list of a set for the owner with this number: `count` members after the first
+/// `start`, fewer if the list ends before. It is empty if there is no such owner. Any number names
+/// the system. The call walks through the list once, up to the last of these members.
 ///
-/// `AllocError` where the room for them was refused.
+/// `AllocError` if the memory for them was refused.
 #[tactic(auto, using(ss_debug::proofs::Tables::sets_kept))]
 pub fn members_page<S: SetBoard>(
     alloc: Global,

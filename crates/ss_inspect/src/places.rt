@@ -44,7 +44,7 @@ fn is_listed<S: SetBoard>(machine: &Machine<S>, set: usize, owner: i64, x: i64) 
     holds(machine.store(), set, owner, x)
 }
 
-/// Appends the list of a set for an owner, where the entity is in it.
+/// Appends the list of a set for an owner, if the entity is in it.
 fn push_owned_list_with<S: SetBoard>(
     text: &mut Vec<u8>,
     machine: &Machine<S>,
@@ -68,7 +68,7 @@ fn push_owned_list_with<S: SetBoard>(
     push_listed(text, machine, set, i64::from(owner))
 }
 
-/// Appends the list of a set of the system, where the entity is in it.
+/// Appends the list of a set of the system, if the entity is in it.
 fn push_system_list_with<S: SetBoard>(
     text: &mut Vec<u8>,
     machine: &Machine<S>,
@@ -114,7 +114,7 @@ fn push_owned_lists_with<S: SetBoard>(
     Ok(())
 }
 
-/// Appends the lists of a set in which the entity is, where its members are of this class.
+/// Appends the lists of a set in which the entity is, if the set's members are of this class.
 fn push_class_lists_with<S: SetBoard>(
     text: &mut Vec<u8>,
     machine: &Machine<S>,
@@ -182,7 +182,7 @@ fn push_due<S: SetBoard>(
     push_notice(text, machine.program(), notice, slot)
 }
 
-/// Appends where an entity that exists is.
+/// Appends where an entity that exists is: its lists, and when it is due.
 fn push_entity_places<S: SetBoard>(
     alloc: Global,
     text: &mut Vec<u8>,
@@ -204,8 +204,8 @@ fn push_entity_places<S: SetBoard>(
 }
 
 /// Appends the answer to SHOW IN: each list in which the entity of the class of this name with the
-/// number x is, in the order of the sets, as SHOW SET tells it, and the time of a pending notice;
-/// else `IN NO LIST`, `NO CLASS c` or `NO ENTITY c k`. Of each set it looks once at each number
+/// number x is, in the order of the sets, as SHOW SET gives it, and the time of a pending notice;
+/// else `IN NO LIST`, `NO CLASS c` or `NO ENTITY c k`. For each set it looks once at each number
 /// that an owner may have.
 #[tactic(auto, unfolding(crate::specs::Lists::places_text))]
 pub fn push_places<S: SetBoard>(

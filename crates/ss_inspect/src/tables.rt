@@ -133,7 +133,7 @@ pub fn push_sets<S: SetBoard>(text: &mut Vec<u8>, machine: &Machine<S>) -> Resul
     push_all_sets(text, program)
 }
 
-/// The word of a section's kind, behind a blank.
+/// The word of a section's kind, after a blank.
 fn section_word(kind: SectionKind) -> &'static [u8]
     ensures { result.now ≡ section_word kind }
 {

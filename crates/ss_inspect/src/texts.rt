@@ -37,7 +37,7 @@ pub fn push_no_entity(text: &mut Vec<u8>, class: &[u8], x: i64) -> Result<(), Al
     text.extend_from_slice(b"\n")
 }
 
-/// Appends numbers, each behind a blank.
+/// Appends numbers, each after a blank.
 fn push_further(text: &mut Vec<u8>, numbers: &[u32]) -> Result<(), AllocError>
     ensures { OnOk result (text.new.items ≡ text.old.items ++ further_members numbers.now) }
 {

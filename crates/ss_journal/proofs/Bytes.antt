@@ -1,4 +1,4 @@
--- sizes in bytes, and long ones beside them
+-- sizes in bytes, with the long ones in a list next to them
 use Rattle.std.proofs.Common.{◌≡◌, ℕ, ◌+◌, ◌*◌, ◌<◌, ◌≤◌, List, [], ◌∷◌, ◌++◌, length, refl, ap, sym, ◌∙◌, suc, arith}
 use Rattle.std.proofs.Common.{length-take, length-append}
 use Rattle.std.specs.Prelude.{sum, reverse, take, Bool, true, false, nat_lt}
@@ -67,7 +67,7 @@ is_short byte h = lt-ltb byte 255 h
 pub is_long : (byte : ℕ) → 255 ≤ byte → nat_lt byte 255 ≡ false
 is_long byte h = le-ltb byte 255 h
 
--- how many long ones are left behind an oldest byte
+-- how many long ones are left after an oldest byte
 pub count_oldest : (all bytes : List ℕ) (byte : ℕ) → all ≡ byte ∷ bytes
     → long_count (reverse all) ≡ long_count (reverse bytes) + long_by (nat_lt byte 255)
 count_oldest all bytes byte is =
@@ -77,7 +77,7 @@ count_oldest all bytes byte is =
     ≡ long_count (reverse bytes) + (long_by (nat_lt byte 255) + 0) = count-append (reverse bytes) (byte ∷ []) in
     omega (arith, turned, counted)
 
--- those that are left behind a short one, and behind a long one
+-- the long ones that are left after a short one, and after a long one
 pub left_short : (all bytes longs : List ℕ) (byte : ℕ) → all ≡ byte ∷ bytes →
     long_count (reverse all) ≡ length longs → byte < 255 → long_count (reverse bytes) ≡ length longs
 left_short all bytes longs byte are matched h =
@@ -100,14 +100,14 @@ first_fits all rest size is = omega (arith, ap sum is, sum_by-cons (λ n. n) siz
 pub last_fits : (all rest : List ℕ) (size : ℕ) → all ≡ rest ++ size ∷ [] → sum rest + size ≡ sum all
 last_fits all rest size is = omega (arith, ap sum is, sum_by_push (λ n. n) rest size)
 
--- the newest size, where it is long
+-- the newest size, if it is long
 pub newest_long : (all bytes longs rest : List ℕ) (byte more : ℕ) → all ≡ bytes ++ byte ∷ [] →
     longs ≡ rest ++ more ∷ [] → 255 ≤ byte →
     sizes_of (reverse all) (reverse longs) ≡ (255 + more) ∷ sizes_of (reverse bytes) (reverse rest)
 newest_long all bytes longs rest byte more are long_are h =
     rw (are, long_are, reverse-append, reverse-append, is_long byte h) refl
 
--- the oldest size, where it is short
+-- the oldest size, if it is short
 pub oldest_short : (all bytes longs : List ℕ) (byte : ℕ) → all ≡ byte ∷ bytes →
     long_count (reverse all) ≡ length longs → byte < 255 →
     sizes_of (reverse all) (reverse longs) ≡ sizes_of (reverse bytes) (reverse longs) ++ byte ∷ []
@@ -124,7 +124,7 @@ oldest_short all bytes longs byte are matched h =
     ∙ ap (sizes_of (reverse bytes ++ byte ∷ [])) whole ∙ cut
     ∙ ap (λ (l : List ℕ). sizes_of (reverse bytes) (reverse longs) ++ l) one
 
--- the oldest size, where it is long
+-- the oldest size, if it is long
 pub oldest_long : (all bytes longs rest : List ℕ) (byte more : ℕ) → all ≡ byte ∷ bytes → longs ≡ more ∷ rest →
     long_count (reverse all) ≡ length longs → 255 ≤ byte →
     sizes_of (reverse all) (reverse longs) ≡ sizes_of (reverse bytes) (reverse rest) ++ (255 + more) ∷ []

@@ -11,11 +11,11 @@ pub length-pieces : {C : Type 0} (ks : List ℕ) (cs : List C) → length (cut_b
 length-pieces [] cs = refl
 length-pieces (k ∷ ks) cs = ap suc (length-pieces ks (drop k cs))
 
--- where the first part is empty, it has length 0
+-- if the first part is empty, it has length 0
 pub take-none : {C : Type 0} (k : ℕ) (cs : List C) → k ≤ length cs → take k cs ≡ [] → k ≡ 0
 take-none k cs h e = omega (arith, length-take k cs, ap length e)
 
--- the first size is what the sizes have beside those behind it
+-- the first size and those after it add up to the number of all changes
 pub rest_of_sizes : {C : Type 0} (o : ℕ) (all ks : List ℕ) (k n : ℕ) (cs : List C) →
     o + sum all ≡ n → n ≡ length cs → take o (reverse cs) ≡ [] → all ≡ k ∷ ks → k + sum ks ≡ n
 rest_of_sizes o all ks k n cs within full none is =
@@ -56,7 +56,7 @@ take-pieces (suc n) (k ∷ ks) cs =
     rw (all, take-take k (k + more) cs (omega arith), drop-take k more cs)
     (ap (λ (ps : List (List _)). take k cs ∷ ps) (take-pieces n ks (drop k cs)))
 
--- the first of the reversed list are what is left when the others are dropped
+-- the first of the reversed list are those that are left when the others are dropped
 take-reverse : {C : Type 0} (k : ℕ) (cs : List C) → take (length cs - k) (reverse cs) ≡ reverse (drop k cs)
 take-reverse k cs =
     ap (λ (l : List _). take (length cs - k) (reverse l)) (sym (take-append-drop k cs))
@@ -112,7 +112,7 @@ pub step-count : {C : Type 0} (steps : List (List C)) (all : List ℕ) (cs : Lis
     → cut_by_lengths all cs ≡ steps → length steps ≡ length all
 step-count steps all cs is = ap length (sym is) ∙ length-pieces all cs
 
--- what the sizes that are kept have is what is left of the changes
+-- the kept sizes add up to the number of changes that are left
 pub rest_of_kept : {C : Type 0} (o m l : ℕ) (all kept : List ℕ) (cs : List C) →
     o + sum all ≡ l → l ≡ length cs → take o (reverse cs) ≡ [] → m + sum kept ≡ sum all
     → o + sum kept ≡ length (drop m cs)
@@ -126,7 +126,7 @@ none_kept o m l all cs within full none =
     let zero_open : o ≡ 0 = take-none o (reverse cs) (rw length-reverse (omega arith)) none in
     rw zero_open refl
 
--- where no step is open, the steps have all changes
+-- if no step is open, the steps have all changes
 pub count_all : {C : Type 0} (o l : ℕ) (all : List ℕ) (cs : List C) →
     o + sum all ≡ l → l ≡ length cs → take o (reverse cs) ≡ []
     → sum (map length (cut_by_lengths all (drop o (reverse cs)))) ≡ l

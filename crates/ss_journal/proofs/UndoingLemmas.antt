@@ -1,4 +1,4 @@
--- what follows from the definitions of undoing, for any changes and any states
+-- facts that follow from the definitions of undoing, for any changes and any states
 use Rattle.std.proofs.Common.{ℕ, List, [], ◌∷◌}
 use Rattle.std.proofs.Common.{zero, suc}
 use Rattle.ss_journal.specs.Log.{newest}

@@ -1,4 +1,4 @@
--- what a journal holds
+-- the contents of a journal
 use Rattle.std.specs.Prelude.{ℕ, List, length, map, sum, take}
 
 -- the closed steps, the newest first, each with its newest change first; the open step, likewise; the rooms for notes
@@ -13,7 +13,7 @@ pub record Log (C : Type 0) : Type 0 where
   -- how many more steps there is room for
   pub closes : ℕ
 
--- the newest n steps, or all where there are fewer
+-- the newest n steps, or all if there are fewer
 abbrev pub newest : {C : Type 0} → ℕ → List (List C) → List (List C)
 newest n steps = take n steps
 

@@ -1,4 +1,4 @@
--- how the stores of a journal show its steps; cited by views alone
+-- how the stores of a journal show its steps; only views cite this
 use Rattle.std.specs.Prelude.{ℕ, ◌+◌, List, [], ◌∷◌, take, drop, Bool, true, false, nat_lt}
 
 -- a list cut into pieces of these lengths
@@ -15,19 +15,19 @@ pub record SizeList : Type 0 where
   -- how many changes the steps may have
   pub most : ℕ
 
--- the size that a byte tells, if it is below 255, or else 255 and the first of the long ones (of which each such byte
--- has one, so that the last case is never met)
+-- the size that a byte gives, if it is below 255, or else 255 and the first of the long ones (each
+-- such byte has one, so the last case never occurs)
 abbrev pub size_by : Bool → ℕ → List ℕ → ℕ
 size_by true byte longs = byte
 size_by false byte (long ∷ longs) = 255 + long
 size_by false byte [] = byte
 
--- the long ones behind those that a byte has
+-- the long ones after those that a byte has
 abbrev pub longs_behind : Bool → List ℕ → List ℕ
 longs_behind true longs = longs
 longs_behind false longs = drop 1 longs
 
--- the sizes that bytes and long ones tell
+-- the sizes that bytes and long ones give
 abbrev pub sizes_of : List ℕ → List ℕ → List ℕ
 sizes_of [] longs = []
 sizes_of (byte ∷ bytes) longs =

@@ -1,9 +1,9 @@
--- undoing: for any changes C of any states S, where `fits` says that a change can be taken back and `unapply` takes it
--- back
+-- undoing: for any changes C of any states S; `fits` says that a change can be taken back, and
+-- `unapply` takes it back
 use Rattle.std.specs.Prelude.{◌≡◌, ℕ, ◌+◌, ◌≤◌, List, [], ◌∷◌, ◌++◌, length}
 use Rattle.ss_journal.specs.Log.{Log}
 
--- the state before a list of changes, which stands with the newest first
+-- the state before a list of changes, which is in the order newest first
 abbrev pub unapply_all : {S C : Type 0} → (C → S → S) → List C → S → S
 unapply_all unapply [] s = s
 unapply_all unapply (c ∷ cs) s = unapply_all unapply cs (unapply c s)
@@ -24,7 +24,7 @@ abbrev pub past : {S C : Type 0} → (C → S → S) → S → List (List C) →
 past unapply s [] = []
 past unapply s (step ∷ earlier) = past unapply (unapply_all unapply step s) earlier ++ unapply_all unapply step s ∷ []
 
--- each step fits, and leads back to a state that shows what that number does, counted from 0 before the earliest step
+-- each step fits and leads back to a state that shows as `state_at` of the number of earlier steps
 abbrev pub StepsLeadBack : {S T C : Type 0} → (C → S → Type 0) → (C → S → S) → (S → T) → (ℕ → T) → List (List C) → S
     → Type 0
 StepsLeadBack fits unapply shown state_at [] s = Unit {0}
@@ -37,9 +37,9 @@ StepsLeadBack fits unapply shown state_at (step ∷ earlier) s =
 -- before
 pub record WorkKeepsOrigin {S C : Type 0} (fits : C → S → Type 0) (unapply : C → S → S) (n : ℕ) (s : S) (j : Log C)
     (s' : S) (j' : Log C) : Type 0 where
-  -- undone, it leads to the same state as before
+  -- undone, it leads to the state to which undoing led before the work
   pub origin : unapply_all unapply j'.current s' ≡ unapply_all unapply j.current s
-  -- if what was open fitted, it still does
+  -- if the open changes fitted, they still do
   pub fitting : FitsAll fits unapply j.current s → FitsAll fits unapply j'.current s'
   -- no step was closed or taken back
   pub steps : j'.steps ≡ j.steps

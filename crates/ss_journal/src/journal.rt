@@ -1,3 +1,4 @@
+//! The journal of changes: the open step, the closed ones, and the room that is reserved for more.
 ghost use Rattle.std.specs.Prelude.{◌≡◌, ◌+◌, ◌^◌, ◌<◌, ◌≤◌, ◌∷◌, [], length, sum, take, IsOk, OnOk, MatchOption};
 ghost use Rattle.std.specs.Prelude.{◌↔◌, IsTrue, MatchBool};
 
@@ -8,7 +9,7 @@ use std::marker::Model;
 
 /// A list of closed steps, each a list of changes, and one open step.
 ///
-/// Beside these a journal has two numbers of room, one for notes and one for closes. Only
+/// A journal also has two numbers of room, one for notes and one for closes. Only
 /// [`Journal::reserve`] takes memory. Every other call but [`Journal::keep_last`] is made of a
 /// fixed number of moves, whatever the journal holds.
 #[derive(Drop)]
@@ -59,8 +60,8 @@ impl<C> Journal<C> {
     /// Makes room for at least `n` notes and one close.
     ///
     /// Room grows by doubling, so that over many steps a step takes constant time for each of its
-    /// changes. `AllocError` comes only where room was missing and a growth was refused; the room
-    /// of the other kind may then have grown.
+    /// changes. `AllocError` comes only if room was missing and a growth was refused; the room of
+    /// the other kind may then have grown.
     #[inline]
     pub fn reserve(&mut self, n: usize) -> Result<(), AllocError>
         // The steps stay as they are, whatever the result, and no room is less.
@@ -69,7 +70,7 @@ impl<C> Journal<C> {
         ensures notes_stay { self.old.notes ≤ self.new.notes }
         ensures closes_stay { self.old.closes ≤ self.new.closes }
 
-        // Where it succeeds there is room, and where there was room it succeeds.
+        // If it succeeds there is room, and if there was room it succeeds.
         ensures notes { OnOk result (n ≤ self.new.notes) }
         ensures closes { OnOk result (0 < self.new.closes) }
         ensures had_room { n ≤ self.old.notes → 0 < self.old.closes → IsOk result }
@@ -131,7 +132,7 @@ impl<C> Journal<C> {
         self.unclosed = 0;
     }
 
-    /// Takes the newest change off the open step; `None` where that step is empty. The room of its
+    /// Takes the newest change off the open step; `None` if that step is empty. The room of its
     /// note is free again.
     #[inline]
     pub fn pop_open(&mut self) -> Option<C>
@@ -152,7 +153,7 @@ impl<C> Journal<C> {
         Some(change)
     }
 
-    /// Makes the newest closed step the open one again; false where no step is closed, and then
+    /// Makes the newest closed step the open one again; false if no step is closed, and then
     /// nothing changes. The room of its close is free again.
     #[inline]
     pub fn reopen_last(&mut self) -> bool
@@ -185,11 +186,11 @@ impl<C> Journal<C> {
 impl<C: Drop> Journal<C> {
     ghost use Rattle.ss_journal.specs.Log.{newest, change_count};
 
-    /// Forgets the oldest closed steps, so that the newest `n` are left, or all where there are
-    /// fewer. The room of what is forgotten is free again.
+    /// Forgets the oldest closed steps, so that the newest `n` are left, or all if there are fewer.
+    /// The room of the forgotten steps is free again.
     ///
     /// It takes no memory, and its time is in proportion to the changes forgotten: those kept stay
-    /// where they are.
+    /// at their places.
     pub fn keep_last(&mut self, n: usize)
         requires { self.old.current ≡ [] }
         ensures steps { self.new.steps ≡ newest n self.old.steps }

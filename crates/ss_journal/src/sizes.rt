@@ -1,3 +1,4 @@
+//! The sizes of the closed steps in little memory: a byte for each short step.
 ghost use Rattle.std.specs.Prelude.{◌≡◌, ◌+◌, ◌-◌, ◌^◌, ◌<◌, ◌≤◌, ◌∷◌, ◌++◌, [], length, sum, take, IsOk, OnOk};
 ghost use Rattle.std.specs.Prelude.{◌↔◌, IsTrue, MatchOption};
 
@@ -5,11 +6,11 @@ use std::alloc::{AllocError, Global};
 use std::collections::VecDeque;
 use std::marker::Model;
 
-/// The least size that is not told by a byte.
+/// The least size that a byte does not give.
 const LONG: usize = 255;
 
-/// How many changes each closed step has: in a byte, or, where it is 255 or more, in a number of
-/// its own that the byte 255 stands for.
+/// How many changes each closed step has: in a byte; or, if the size is 255 or more, in a number of
+/// its own, which the byte 255 announces.
 #[derive(Drop)]
 pub struct Sizes {
     // A byte for each step, the oldest first.
@@ -46,7 +47,7 @@ impl Sizes {
         }
     }
 
-    /// Whether there is room for one size more, of steps that have at most so many changes
+    /// Whether there is room for one size more, of steps that have at most `changes` changes
     /// together.
     #[inline]
     pub fn has_room(&self, changes: usize) -> bool
@@ -55,7 +56,7 @@ impl Sizes {
         self.bytes.len() < self.bytes.capacity() && changes / LONG <= self.longs.capacity()
     }
 
-    /// Makes room for one size more, of steps that have at most so many changes together.
+    /// Makes room for one size more, of steps that have at most `changes` changes together.
     pub fn reserve(&mut self, changes: usize) -> Result<(), AllocError>
         ensures sizes { self.new.sizes ≡ self.old.sizes }
         ensures closes_stay { self.old.closes ≤ self.new.closes }

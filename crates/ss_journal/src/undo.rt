@@ -1,3 +1,4 @@
+//! The trait of states that take back their own changes, and the roll back of an open step.
 ghost use Rattle.std.specs.Prelude.{◌≡◌, ◌+◌, [], length};
 ghost use Rattle.ss_journal.specs.Undoing.{unapply_all, FitsAll};
 
@@ -5,7 +6,7 @@ use crate::Journal;
 
 /// A state that can take back its own changes.
 pub trait Undo {
-    /// What is noted of one change, enough to take it back.
+    /// The note of one change, enough to take it back.
     type Change;
 
     /// That a change can be taken back from a state.

@@ -1,4 +1,4 @@
--- what the statements on entities come to, by what the store said
+-- the results of the statements on entities, by the result of the store
 use Rattle.std.proofs.Common.{◌≡◌, ℕ, ℤ, pos, List, [], Bool, true, false, Option, Result, Ok, Err, refl}
 use Rattle.std.proofs.Common.{ap, sym, ◌∙◌}
 use Rattle.std.specs.Prelude.{not, int_lt, if◌then◌else◌}
@@ -35,7 +35,7 @@ use Rattle.ss_state.specs.declared.entry.Entry.TheVariants.{Waiting}
 use Rattle.ss_machine.specs.Outcome.{LeadsTo, LeadsToOrRefuses, IsSettled}
 use Rattle.ss_machine.specs.Storing.{LeavesStore, IsRefused, IsCreating, IsMakingAll, IsScheduling, IsCancelling}
 
--- ---- what the store said
+-- ---- the result of the store
 
 pub refused_is : (e : StepFault) (q : Result Store RunFault) (h k : Held) → IsRefused e q h k → FaultIs e q × (k ≡ h)
 refused_is (Fault e) (Err f) h k o = (ap Err (sym o.0), o.1)
@@ -307,7 +307,7 @@ unsaved t st class k x saving q a b d =
     ap (λ (y : ℤ). without_entity t st class (number_of y)) (sym b) ∙ d in
     rw a o
 
--- the store alone is another one
+-- only the store is another one
 pub stored_alone : (s u : State) (st : Store) → u ≡ state_with_store s st → u ≡ state_with_store s u.store
 stored_alone s u st e = e ∙ ap (λ (x : State). state_with_store s x.store) (sym e)
 

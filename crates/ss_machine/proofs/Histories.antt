@@ -8,7 +8,7 @@ use Rattle.ss_machine.specs.History.{behind, change_of, number_count, kept_count
 use Rattle.ss_machine.specs.History.{IsWritten, AreWritten, steps_of}
 use Rattle.ss_journal.specs.Log.{newest}
 
--- behind the numbers of a change are the changes before
+-- after the numbers of a change come the changes before
 pub skipped : (k : ℕ) (fields others : List ℕ) (os : List Owned) → length fields ≡ k →
     changes_behind k (fields ++ others) os ≡ changes_of others os
 skipped k [] others os count = ap (λ (n : ℕ). changes_behind n others os) (sym count)
@@ -44,7 +44,7 @@ still_written kind number fields others all os left tells is count kept has writ
           (subst (λ (l : List Owned). IsWritten 0 others l) (sym kept) written),
     )
 
--- the changes behind numbers of a change are those of the numbers behind these
+-- the changes after the numbers of a change are those of the numbers after these
 pub behind_nothing : {A : Type 0} (k : ℕ) → ◌≡◌ {A = List A} (behind k []) []
 behind_nothing zero = refl
 behind_nothing (suc k) = behind_nothing k
@@ -92,7 +92,7 @@ pub none_kept : (ns : List ℕ) (os : List Owned) → changes_of ns os ≡ [] �
 none_kept [] os none written = written
 none_kept (n ∷ ns) os none written = absurd (omega (arith, ap length none))
 
--- there are as many steps as steps of numbers, and of what is kept
+-- there are as many steps as steps of numbers, and as many as steps of kept parts
 pub length-steps : (steps : List (List ℕ)) (rest : List (List Owned)) →
     AreWritten steps rest → length (steps_of steps rest) ≡ length steps
 length-steps [] [] written = refl

@@ -8,7 +8,7 @@ use Rattle.std.proofs.Math.Seq.{take-set-lt}
 use Rattle.ss_state.proofs.Sets.{set_back}
 use Rattle.ss_machine.specs.Locals.{padded, values_by, IsPaddedBy, HasCountBy}
 
--- the values given, and 0 behind them
+-- the values given, and zeros after them
 front_is : (count : ℕ) (given : List ℤ) → count ≤ 4 → length given ≤ count →
     take count (slice_index_or given 0 (pos 0) ∷ slice_index_or given 1 (pos 0) ∷ slice_index_or given 2 (pos 0)
     ∷ slice_index_or given 3 (pos 0) ∷ [])
@@ -69,7 +69,7 @@ padded_length given count fits =
     let long : length rest ≡ count - length given = length-replicate (count - length given) (pos 0) in
     omega (arith, both, long, fits)
 
--- memory with the values given has so many
+-- memory that begins with the values given has `count` values
 pub has_count : (b : Bool) (count : ℕ) (given many : List ℤ) → length given ≤ count →
     IsPaddedBy b given count many → HasCountBy b count many
 has_count true count given many fits are = tt

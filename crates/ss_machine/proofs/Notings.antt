@@ -1,4 +1,4 @@
--- what several pieces of a step leave in the journal
+-- the notes that several pieces of a step leave in the journal
 use Rattle.std.proofs.Common.{◌≡◌, ℕ, ◌+◌, ◌≤◌, List, [], ◌∷◌, length, arith, refl, ap, sym, subst, ◌∙◌}
 use Rattle.ss_journal.specs.Log.{Log}
 use Rattle.ss_journal.specs.Undoing.{unapply_all, FitsAll, WorkKeepsOrigin}
@@ -65,7 +65,7 @@ noted_one c h k i j fit back steps current notes closes = record {
   room = omega (arith, notes);
 }
 
--- what was open is taken back first
+-- the open step is taken back first
 pub noted_anew : {S : Type 0} (n : ℕ) (a b c : Executor S) →
     b.held ≡ unapply_all unapply a.journal.current a.held → b.journal.steps ≡ a.journal.steps →
     b.journal.current ≡ [] → a.journal.notes ≤ b.journal.notes → b.journal.closes ≡ a.journal.closes → Notes n b c →

@@ -61,19 +61,19 @@ small_behind group (higher ∷ others) small =
     All-cons (λ n. n < 2 ^ 64) higher others (omega (arith, first))
     (All-tail (λ n. n < 2 ^ 64) (group + 128 * higher) others small)
 
--- what is above the lowest group of a number of 64 bits
+-- the part of a number of 64 bits above its lowest group
 pub small_rest : (byte : ℕ) (bytes : List ℕ) → 128 ≤ byte → All (λ n. n < 2 ^ 64) (numbers_of (byte ∷ bytes)) →
     All (λ n. n < 2 ^ 64) (numbers_of bytes)
 small_rest byte bytes great small = small_behind (byte - 128) (numbers_of bytes) (rw great_byte at small)
 
--- what is left behind a number of one byte
+-- the numbers left after a number of one byte
 pub small_behind_byte : (byte : ℕ) (bytes : List ℕ) → byte < 128 →
     All (λ n. n < 2 ^ 64) (numbers_of (byte ∷ bytes)) → All (λ n. n < 2 ^ 64) (numbers_of bytes)
 small_behind_byte byte bytes h small =
     let all : All (λ n. n < 2 ^ 64) (byte ∷ numbers_of bytes) = rw (small_byte byte bytes h) at small in
     All-tail (λ n. n < 2 ^ 64) byte (numbers_of bytes) all
 
--- what is left of small numbers when the newest is taken off
+-- the small numbers that are left when the newest is taken off
 pub small_left : (taken : ℕ) (had left : List ℕ) → IsHigher taken had left →
     All (λ n. n < 2 ^ 64) had → All (λ n. n < 2 ^ 64) left
 small_left taken [] left is small = All-same (λ n. n < 2 ^ 64) left [] is.1 (All-nil (λ n. n < 2 ^ 64))

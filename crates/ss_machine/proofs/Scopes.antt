@@ -1,4 +1,4 @@
--- what places may name, by the tables of the store and by the program
+-- the things that places may name, by the tables of the store and by the program
 use Rattle.std.proofs.Common.{◌≡◌, ℕ, zero, suc, ◌+◌, ◌<◌, List, [], ◌∷◌, length, Bool, Option, Some}
 use Rattle.std.proofs.Common.{arith, refl, ap, sym, subst, ◌∙◌}
 use Rattle.std.specs.Prelude.{map, slice_get, unwrap_or}
@@ -28,7 +28,7 @@ map_twice : {A B C : Type 0} (g : B → C) (f : A → B) (xs : List A) → map g
 map_twice g f [] = refl
 map_twice g f (x ∷ xs) = ap (λ ys. g (f x) ∷ ys) (map_twice g f xs)
 
--- what is said of the numbers of a table's rows, said of the rows
+-- a function of the numbers of a table's rows, as a function of the rows
 by_rows : {A B : Type 0} (f : ℕ → B) (g : A → B) (xs : List A) (k : ℕ) →
     ((i : ℕ) (x : A) → slice_get xs i ≡ Some x → f (k + i) ≡ g x) →
     map f (range_with_len k (length xs)) ≡ map g xs
@@ -74,7 +74,7 @@ scopes : (g h l m : ℕ) (b c : List Bool) (s t : ℕ) → g ≡ h → l ≡ m �
     with_parts g l b s ≡ with_parts h m c t
 scopes g h l m b c s t e f i j = λ k. with_parts (e k) (f k) (i k) (j k)
 
--- the place where a state with these variables and locals stands is sound for what is held
+-- the current place of a state with these variables and locals is sound for the held parts
 pub sound_with : (p : ProgramTable) (h : Held) (spot : Spot) → IsSound p → length h.state.variables ≡ length p.globals →
     length h.state.frame.locals ≡ length (locals_of (slice_get p.sections h.state.frame.section)) →
     h.beside.tables ≡ tables_of p →

@@ -1,4 +1,4 @@
--- what is noted where notices are scheduled and events start
+-- the notes that are made when notices are scheduled and events start
 use Rattle.std.proofs.Common.{◌≡◌, ◌≤◌, ℕ, Result, Ok, Err, arith, sym, subst}
 use Rattle.ss_words.specs.declared.fault.RunFault.{RunFault}
 use Rattle.ss_words.specs.declared.fault.StepFault.{StepFault}

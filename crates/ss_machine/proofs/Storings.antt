@@ -1,4 +1,4 @@
--- What a change of the store leaves of what is held.
+-- The effect of a change of the store on the held parts.
 use Rattle.std.proofs.Common.{◌≡◌, ◌<◌, ◌^◌, ℕ, ℤ, pos, List, Bool, true, false, Result, Ok, Err, OnOk, arith}
 use Rattle.std.proofs.Common.{refl, ap, sym, ◌∙◌}
 use Rattle.std.specs.Prelude.{nat_lt, if◌then◌else◌}
@@ -116,7 +116,7 @@ pub removing_both : (r : Result (ℕ × StoreChange) RunFault) (q : Result (ℕ 
 removing_both (Ok k) q h v o = removing k.0 k.1 q h v o
 removing_both (Err e) q h v o = not_removing e q h v o
 
--- ---- what follows from a refusal, and from a change
+-- ---- the consequences of a refusal, and of a change
 
 pub refusal_is : (e : RunFault) (q : Result Store RunFault) (h k : Held) → IsStoring (Err e) q h k →
     (q ≡ Err e) × (k ≡ h)
@@ -139,7 +139,7 @@ pub removing_is : (n : ℕ) (change : Change) (q : Result (ℕ × Store) RunFaul
 removing_is n change (Ok s) h k o = (s.1, ap (λ (m : ℕ). Ok (m, s.1)) (sym o.0), o.1)
 removing_is n change (Err f) h k o = absurd o
 
--- ---- FILE and REMOVE, by the owner's value and what the store said
+-- ---- FILE and REMOVE, by the owner's value and the result of the store
 
 pub file_fails : (t : Tables) (s : State) (r : SetRef) (x o : ℤ) (how : How) (e : RunFault) →
     subscript_value (readings t s) r.owner ≡ Ok o →
@@ -221,7 +221,7 @@ scheduling_both r class k time keys h v o = by r (may_schedule h.state.agenda k 
     by (Err Memory) (Ok x) o = ap (λ (w : AgendaState). with_agenda h w) o
     by (Err Memory) (Err f) o = o
 
--- ---- what a statement comes to
+-- ---- the result of a statement
 
 pub settled_as : {E : Type 0} (done : Result (Unit {0}) StepFault) (r : Result (Unit {0}) E) (s mid new : State)
     (q : Result State RunFault) (next : ℕ) →

@@ -51,7 +51,7 @@ steps_on AtEnd old new here m = (
   ap moment_of m.1,
 )
 
--- where a run does not go on, the state is not ready or the position is the last
+-- if a run does not go on, the state is not ready or the position is the last
 pub ends_on : {A : Type 0} (old : Moment) → old.state ≡ run old.input (position old) → position old ≤ LAST_POSITION →
     (old.state.status ≢ Ready → A) → (position old ≡ LAST_POSITION → A) →
     goes_on (moment_of old).input (timelines.position (moment_of old)) ≡ false → A
@@ -89,7 +89,7 @@ count (suc n) [] = omega arith
 count zero (step ∷ earlier) = omega arith
 count (suc n) (step ∷ earlier) = omega (arith, count n earlier)
 
--- and what is forgotten is what the run has behind its earliest position
+-- and the steps forgotten are those that the run has before its earliest position
 pub forgets : (n : ℕ) (old new : Moment) → HasForgotten n old new → moment_of new ≡ with_newest n (moment_of old)
 forgets n old new m =
     let kept : steps_kept new ≡ steps_kept old - (steps_kept old - n) = ap length m.steps ∙ count n old.steps in

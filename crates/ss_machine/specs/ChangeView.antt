@@ -1,4 +1,4 @@
--- Private: what the code notes of a change.
+-- Private: the change of the state that a note of the code represents.
 use Rattle.ss_machine.specs.declared.state.change.Change.{Change as CodeChange}
 use Rattle.ss_machine.specs.declared.state.change.Change.TheVariants as code
 use Rattle.ss_state.specs.Change.{Change, Variable, Local, Place, Clock, Store, Agenda, Taken, Report, Entry, Status}

@@ -1,4 +1,4 @@
--- Private: what the clauses of a statement's code read of an executor.
+-- Private: the parts of an executor that the clauses of a statement's code read.
 use Rattle.std.specs.Prelude.{List}
 use Rattle.ss_journal.specs.Undoing.{unapply_all}
 use Rattle.ss_store.specs.Tables.{Tables}

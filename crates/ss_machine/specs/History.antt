@@ -1,4 +1,4 @@
--- Private: how changes are read from numbers, and from what is kept beside these.
+-- Private: how changes are read from numbers, and from the parts that are kept in addition.
 pub mod Kinds
 pub mod Numbers
 use Rattle.std.specs.Prelude.{◌≡◌, ℕ, ℤ, pos, negsuc, ◌-◌, ◌/◌, ◌%◌, ◌^◌, ◌≤◌, ◌+◌, ◌==◌, not, min, zero, suc, Bool}
@@ -40,28 +40,28 @@ use Rattle.ss_machine.specs.declared.history.kinds.TextChangeKind.{TextChangeKin
 use Rattle.ss_machine.specs.declared.history.kinds.TextChangeKind.TheVariants as texts
 use Rattle.ss_machine.specs.History.Kinds.{kind_of}
 
--- the numbers 0, 1, 2, 3, 4 stand for 0, -1, 1, -2, 2
+-- the numbers 0, 1, 2, 3, 4 represent 0, -1, 1, -2, 2
 abbrev pub signed_number : ℕ → ℤ
 signed_number n = if n % 2 == 0 then pos (n / 2) else negsuc (n / 2)
 
--- the number, or the greatest one of 32 bits where it is greater
+-- the number, or the greatest one of 32 bits if it is greater
 abbrev pub narrow_number : ℕ → ℕ
 narrow_number n = min n (2 ^ 32 - 1)
 
--- any number but 0 stands for true
+-- any number but 0 represents true
 abbrev pub is_set : ℕ → Bool
 is_set n = not (n == 0)
 
--- the owner that two numbers tell: whether it is a class, and which
+-- the owner that two numbers give: whether it is a class, and which
 abbrev pub owner_of : ℕ → ℕ → Owner
 owner_of owned class = if owned == 0 then owners.System else owners.OwnedBy class
 
--- what is left behind the first k
+-- the list after its first k items
 abbrev pub behind : {A : Type 0} → ℕ → List A → List A
 behind zero xs = xs
 behind (suc k) xs = behind k (drop 1 xs)
 
--- the number behind the first k, 0 where there is none
+-- the number after the first k, 0 if there is none
 abbrev pub at : ℕ → List ℕ → ℕ
 at k ns = slice_index (behind k ns) 0
 
@@ -76,7 +76,7 @@ pub record IsTaken (k : ℕ) (old new : Log ℕ) : Type 0 where
   -- nor room for a close
   pub closes : new.closes ≡ old.closes
 
--- ---- the changes of each sort, from the numbers behind the kind, and from what is kept
+-- ---- the changes of each sort, from the numbers after the kind, and from the kept parts
 
 -- of variables, FIND and COMPUTE
 abbrev pub value_change : ValueChangeKind → List ℕ → Change
@@ -91,7 +91,7 @@ value_change values.Statistics ns =
       least = signed_number (at 3 ns);
     })
 
--- how many numbers tell such a change, beside that of its kind
+-- how many numbers give such a change, in addition to that of its kind
 abbrev pub value_numbers : ValueChangeKind → ℕ
 value_numbers values.Variable = 2
 value_numbers values.Local = 2
@@ -104,7 +104,7 @@ entry_of entries.Absent ns = entry.Absent
 entry_of entries.Waiting ns = entry.Waiting (at 0 ns) (narrow_number (at 1 ns))
 entry_of entries.Running ns = entry.Running (at 0 ns) (narrow_number (at 1 ns))
 
--- how many numbers tell such an entry
+-- how many numbers give such an entry
 abbrev pub entry_numbers : EntryChangeKind → ℕ
 entry_numbers entries.Absent = 0
 entry_numbers entries.Waiting = 2
@@ -120,7 +120,7 @@ set_change sets.Removed ns =
     stores.Removed (at 0 ns) (owner_of (at 1 ns) (at 2 ns)) (narrow_number (at 3 ns)) (at 4 ns) (at 5 ns)
     (Some (narrow_number (at 6 ns)))
 
--- how many numbers tell such a change
+-- how many numbers give such a change
 abbrev pub set_numbers : SetChangeKind → ℕ
 set_numbers sets.Filed = 6
 set_numbers sets.FirstRemoved = 6
@@ -142,7 +142,7 @@ small_frame_of ns values = record {
   statistics = no_statistics;
 }
 
--- of where the run stands
+-- of the place, the frames and the status of the run
 abbrev pub control_change : ControlChangeKind → List ℕ → List Owned → Change
 control_change controls.Place ns os = changes.Place (at 0 ns)
 control_change controls.FrameDropped ns (owned.Frame frame ∷ os) = changes.FrameDropped frame
@@ -151,7 +151,7 @@ control_change controls.SmallFrameDropped ns (owned.Locals values ∷ os) =
     changes.FrameDropped (small_frame_of ns values)
 control_change other ns os = changes.FrameOpened
 
--- how many numbers tell such a change
+-- how many numbers give such a change
 abbrev pub control_numbers : ControlChangeKind → ℕ
 control_numbers controls.Place = 1
 control_numbers controls.SmallFrameDropped = 4
@@ -171,7 +171,7 @@ loop_change loops.MovedFromNone ns os = changes.LoopMoved None
 loop_change loops.Closed ns (owned.Loop closed ∷ os) = changes.LoopClosed closed
 loop_change other ns os = changes.LoopOpened
 
--- how many numbers tell such a change
+-- how many numbers give such a change
 abbrev pub loop_numbers : LoopChangeKind → ℕ
 loop_numbers loops.Moved = 1
 loop_numbers other = 0
@@ -191,7 +191,7 @@ entity_change entities.Ended ns (owned.Values values ∷ os) =
     stores.Ended (at 0 ns) (at 1 ns) (narrow_number (at 2 ns)) values
 entity_change other ns os = stores.AttributeSet (at 0 ns) (at 1 ns) (at 2 ns) (signed_number (at 3 ns))
 
--- how many numbers tell such a change
+-- how many numbers give such a change
 abbrev pub entity_numbers : EntityChangeKind → ℕ
 entity_numbers entities.Ended = 3
 entity_numbers other = 4
@@ -214,7 +214,7 @@ time_change times.TakenOff ns (owned.Values keys ∷ os) =
     changes.Agenda (notices.TakenOff (narrow_number (at 0 ns)) (notice_of ns keys) (Some (narrow_number (at 4 ns))))
 time_change other ns os = changes.Clock (signed_number (at 0 ns))
 
--- how many numbers tell such a change
+-- how many numbers give such a change
 abbrev pub time_numbers : TimeChangeKind → ℕ
 time_numbers times.Clock = 1
 time_numbers times.Scheduled = 2
@@ -240,7 +240,7 @@ change_of (kinds.Time kind) ns os = time_change kind ns os
 change_of (kinds.Entry kind) ns os = changes.Entry (entry_of kind ns)
 change_of (kinds.Text kind) ns os = text_change kind ns
 
--- how many numbers stand behind a kind
+-- how many numbers come after a kind
 abbrev pub number_count : ChangeKind → ℕ
 number_count (kinds.Value kind) = value_numbers kind
 number_count (kinds.Control kind) = control_numbers kind
@@ -251,7 +251,7 @@ number_count (kinds.Time kind) = time_numbers kind
 number_count (kinds.Entry kind) = entry_numbers kind
 number_count (kinds.Text kind) = 1
 
--- and how many of those that are kept
+-- and how many kept parts it has
 abbrev pub kept_count : ChangeKind → ℕ
 kept_count (kinds.Control kind) = control_kept kind
 kept_count (kinds.Loop kind) = loop_kept kind
@@ -259,7 +259,7 @@ kept_count (kinds.Entity kind) = entity_kept kind
 kept_count (kinds.Time kind) = time_kept kind
 kept_count other = 0
 
--- the changes of a step, from its numbers and what is kept of it; the first k numbers are of a change before
+-- the changes of a step, from its numbers and kept parts; the first k numbers are of one before
 abbrev pub changes_behind : ℕ → List ℕ → List Owned → List Change
 changes_behind zero (n ∷ ns) os =
     change_of (kind_of n) ns os ∷ changes_behind (number_count (kind_of n)) ns (behind (kept_count (kind_of n)) os)
@@ -270,7 +270,7 @@ changes_behind k [] os = []
 abbrev pub changes_of : List ℕ → List Owned → List Change
 changes_of ns os = changes_behind 0 ns os
 
--- ---- what is kept is what the kinds say
+-- ---- the kept parts are those that the kinds require
 
 -- the first one kept is a frame
 abbrev pub IsFrame : List Owned → Type 0
@@ -297,7 +297,7 @@ abbrev pub AreValues : List Owned → Type 0
 AreValues (owned.Values values ∷ os) = Unit {0}
 AreValues other = ⊥
 
--- the first one kept is what the kind wants
+-- the first kept part is the one that the kind requires
 abbrev pub HasKept : ChangeKind → List Owned → Type 0
 HasKept (kinds.Control controls.FrameDropped) os = IsFrame os
 HasKept (kinds.Control controls.Status) os = IsStatus os
@@ -329,39 +329,39 @@ pub record IsNoted (change : Change) (old new : Tape) : Type 0 where
   pub written : IsWritten 0 old.numbers.current old.kept.current → IsWritten 0 new.numbers.current new.kept.current
   -- the closed steps stay
   pub number_steps : new.numbers.steps ≡ old.numbers.steps
-  -- and what is kept of them
+  -- and their kept parts
   pub kept_steps : new.kept.steps ≡ old.kept.steps
   -- no room for a close is lost
   pub number_closes : new.numbers.closes ≡ old.numbers.closes
-  -- nor beside
+  -- nor room for a close of the kept parts
   pub kept_closes : new.kept.closes ≡ old.kept.closes
-  -- at most so many numbers were put
+  -- at most 8 numbers were put
   pub numbers : old.numbers.notes ≤ new.numbers.notes + 8
   -- at most one is kept more
   pub kept : old.kept.notes ≤ new.kept.notes + 1
 
 -- a change of a kind was taken off, and nothing else changed but the room
 pub record IsRead (kind : ChangeKind) (change : Change) (old new : Tape) : Type 0 where
-  -- the change is what these tell
+  -- the change is the one that these give
   pub value : change ≡ change_of kind old.numbers.current old.kept.current
   -- its numbers are taken off
   pub numbers_left : new.numbers.current ≡ behind (number_count kind) old.numbers.current
-  -- and what is kept of it
+  -- and its kept parts
   pub kept_left : new.kept.current ≡ behind (kept_count kind) old.kept.current
   -- the closed steps stay
   pub number_steps : new.numbers.steps ≡ old.numbers.steps
-  -- and what is kept of them
+  -- and their kept parts
   pub kept_steps : new.kept.steps ≡ old.kept.steps
   -- no room for a close is lost
   pub number_closes : new.numbers.closes ≡ old.numbers.closes
-  -- nor beside
+  -- nor room for a close of the kept parts
   pub kept_closes : new.kept.closes ≡ old.kept.closes
   -- no room for numbers is lost
   pub numbers : old.numbers.notes ≤ new.numbers.notes
-  -- nor for what is kept
+  -- nor for kept parts
   pub kept : old.kept.notes ≤ new.kept.notes
 
--- a notice was taken off: its time, class and filing number, and its keys from what is kept
+-- a notice was taken off: its time, class and filing number, and its keys from the kept parts
 pub record IsNoticeRead (notice : PendingNotice) (old new : Tape) : Type 0 where
   -- its time is the first number
   pub time : notice.time ≡ signed_number (at 0 old.numbers.current)
@@ -373,20 +373,20 @@ pub record IsNoticeRead (notice : PendingNotice) (old new : Tape) : Type 0 where
   pub keys : old.kept.current ≡ owned.Values notice.keys ∷ new.kept.current
   -- three numbers are taken
   pub numbers : IsTaken 3 old.numbers new.numbers
-  -- and what is kept of them
+  -- and their kept parts
   pub kept_steps : new.kept.steps ≡ old.kept.steps
-  -- nor beside
+  -- nor room for a close of the kept parts
   pub kept_closes : new.kept.closes ≡ old.kept.closes
-  -- nor for what is kept
+  -- nor for kept parts
   pub kept : old.kept.notes ≤ new.kept.notes
 
 -- numbers were put in front of others, and before them that of a kind
 pub record IsHeaded (kind : ChangeKind) (fields others all : List ℕ) : Type 0 where
   -- the number of the kind
   pub number : ℕ
-  -- it tells the kind
+  -- it gives the kind
   pub tells : kind_of number ≡ kind
-  -- the number, the others behind it
+  -- the number, and the others after it
   pub current : all ≡ number ∷ (fields ++ others)
 
 -- ---- steps
@@ -403,6 +403,6 @@ AreWritten (numbers ∷ steps) (kept ∷ rest) = IsWritten 0 numbers kept × Are
 AreWritten [] (kept ∷ rest) = ⊥
 AreWritten (numbers ∷ steps) [] = ⊥
 
--- for how many changes there is room for so many numbers, or as many as can be asked for
+-- for how many changes n numbers give room, or as many as can be asked for, if n is greater
 abbrev pub change_room : ℕ → ℕ
 change_room numbers = min numbers (2 ^ 64 - 1) / 8

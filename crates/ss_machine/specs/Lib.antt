@@ -1,3 +1,4 @@
+-- The files of this crate's definitions: the machine's views, histories, moments and statements.
 pub mod View
 pub mod Nodes
 pub mod Locals

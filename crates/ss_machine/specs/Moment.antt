@@ -1,4 +1,4 @@
--- What a machine stands for, and its steps forward and back.
+-- The value that a machine represents, and its steps forward and back.
 use Rattle.std.specs.Prelude.{◌≡◌, ◌≢◌, ℕ, ◌+◌, ◌-◌, ◌<◌, ◌≤◌, ◌⊎◌, List, [], ◌∷◌, ◌++◌, length, map, drop, Bool, true}
 use Rattle.std.specs.Prelude.{false}
 use Rattle.ss_journal.specs.Log.{newest}
@@ -15,20 +15,20 @@ use Rattle.ss_state.specs.Step.{step}
 use Rattle.ss_state.specs.Run.{Input}
 use Rattle.ss_timeline.specs.Moment as timelines
 
--- what a machine stands for: a state of a run, and the way back from it
+-- the value that a machine represents: a state of a run, and the way back from it
 pub record Moment : Type 0 where
-  -- what the run is of
+  -- the program and the data of the run
   pub input : Input
   -- its state
   pub state : State
-  -- what stands beside it for undoing
+  -- the part kept with the state for undoing
   pub beside : Beside
   -- how many of the oldest steps are forgotten
   pub forgotten : ℕ
   -- the changes of each step that is kept, the newest step and the newest change first
   pub steps : List (List Change)
 
--- what is held there
+-- the held parts of the moment
 abbrev pub held_of : Moment → Held
 held_of moment = record { state = moment.state; beside = moment.beside }
 
@@ -40,7 +40,7 @@ steps_kept moment = length moment.steps
 abbrev pub position : Moment → ℕ
 position moment = moment.forgotten + steps_kept moment
 
--- the same as a moment of the run: the state is the run's there, and so no part of it
+-- the moment of the run: the state is the run's at this position, and so no part of the moment
 abbrev pub moment_of : Moment → timelines.Moment
 moment_of moment = record { input = moment.input; low = moment.forgotten; kept = steps_kept moment }
 
@@ -69,7 +69,7 @@ pub record HasMoved (old new : Moment) : Type 0 where
       (added : List Change) × (new.steps ≡ added ∷ old.steps)
       × (length added ≤ change_bound old.input.program old.state)
 
--- what a step did: at the end, or at the last position, nothing
+-- the effect of a step: at the end, or at the last position, none
 abbrev pub Steps : Stepped → Moment → Moment → Type 0
 Steps Moved old new = HasMoved old new
 Steps AtEnd old new = ((old.state.status ≢ Ready) ⊎ (position old ≡ LAST_POSITION)) × (new ≡ old)
@@ -89,7 +89,7 @@ pub record HasGoneBack (old new : Moment) : Type 0 where
   -- the newest step is no longer kept
   pub steps : (dropped : List Change) × (old.steps ≡ dropped ∷ new.steps)
 
--- what a step back did
+-- the effect of a step back
 abbrev pub GoesBack : Bool → Moment → Moment → Type 0
 GoesBack true old new = HasGoneBack old new
 GoesBack false old new = (old.steps ≡ []) × (new ≡ old)
@@ -102,7 +102,7 @@ pub record HasForgotten (n : ℕ) (old new : Moment) : Type 0 where
   pub state : new.state ≡ old.state
   -- and its number
   pub position : position new ≡ position old
-  -- of the past the last n states are left, or all where there are fewer
+  -- the last n states of the past are left, or all if there are fewer
   pub past : past_of new ≡ drop (steps_kept old - n) (past_of old)
   -- the newest n steps are kept
   pub steps : new.steps ≡ newest n old.steps

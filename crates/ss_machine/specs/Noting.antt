@@ -1,4 +1,4 @@
--- Private: what a statement's step leaves in the journal.
+-- Private: the notes that a statement's step leaves in the journal.
 use Rattle.std.specs.Prelude.{ℕ}
 use Rattle.ss_journal.specs.Undoing.{WorkKeepsOrigin}
 use Rattle.ss_machine.specs.declared.executor.Executor.{Executor}

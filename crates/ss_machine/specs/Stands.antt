@@ -1,4 +1,4 @@
--- Private: what every machine keeps.
+-- Private: the facts that every machine keeps.
 use Rattle.std.specs.Prelude.{◌≡◌, ℕ, zero, suc, ◌+◌, ◌≤◌, List, [], length}
 use Rattle.ss_journal.specs.Log.{Log}
 use Rattle.ss_journal.specs.Undoing.{StepsLeadBack}
@@ -21,7 +21,7 @@ abbrev pub WentOn : Input → ℕ → Type 0
 WentOn input zero = Unit {0}
 WentOn input (suc p) = ((run input p).status ≡ Ready) × WentOn input p
 
--- what every machine keeps
+-- the facts that every machine keeps
 pub record Stands (input : Input) (forgotten : ℕ) (held : Held) (log : Log Change) : Type 0 where
   -- the program is sound
   pub sound : IsSound input.program
@@ -35,9 +35,9 @@ pub record Stands (input : Input) (forgotten : ℕ) (held : Held) (log : Log Cha
   pub within : forgotten + length log.steps ≤ LAST_POSITION
   -- the run went on up to it
   pub went : WentOn input (forgotten + length log.steps)
-  -- beside the state stand the tables of the program's classes and sets
+  -- the tables kept with the state are those of the program's classes and sets
   pub tables : held.beside.tables ≡ tables_of input.program
-  -- and the order of its notices
+  -- and the rules give the order of its notices
   pub rules : held.beside.rules ≡ rules_of input.program
   -- the kept changes fit, and lead back through the states of the run
   pub kept : LeadsBack input forgotten log.steps held

@@ -1,4 +1,4 @@
--- Private: what a change of the store or of the agenda leaves of what is held.
+-- Private: the effect of a change of the store or of the agenda on the held parts.
 use Rattle.std.specs.Prelude.{◌≡◌, ℕ, Result, Ok, Err}
 use Rattle.ss_words.specs.declared.fault.RunFault.{RunFault}
 use Rattle.ss_words.specs.declared.fault.StepFault.{StepFault}
@@ -15,7 +15,7 @@ use Rattle.ss_state.specs.Statements.Timing.{state_with_agenda}
 
 -- a change of the store was made
 pub record LeavesStore (change : Change) (store : Store) (old new : Held) : Type 0 where
-  -- the store alone is another one
+  -- only the store is another one
   pub state : new.state ≡ state_with_store old.state store
   -- the tables are the same
   pub tables : new.beside.tables ≡ old.beside.tables
@@ -40,7 +40,7 @@ IsRemoving (Err e) (Err f) old new = (e ≡ f) × (new ≡ old)
 IsRemoving (Ok r) (Err f) old new = ⊥
 IsRemoving (Err e) (Ok s) old new = ⊥
 
--- a refusal changes nothing; memory is refused only where there is no fault
+-- a refusal changes nothing; memory is refused only if there is no fault
 abbrev pub IsRefused : StepFault → Result Store RunFault → Held → Held → Type 0
 IsRefused (Fault e) (Err f) old new = (e ≡ f) × (new ≡ old)
 IsRefused Memory (Ok s) old new = new ≡ old
@@ -72,7 +72,7 @@ pub record LeavesState (change : Change) (s : State) (old new : Held) : Type 0 w
   -- and leads back
   pub back : unapply (as_change change) new ≡ old
 
--- a notice was scheduled, or not; a refusal changes nothing, and memory is refused only where there is no fault
+-- a notice was scheduled, or not; a refusal changes nothing; memory is refused only without a fault
 abbrev pub IsScheduling : Result Change StepFault → Result State RunFault → Held → Held → Type 0
 IsScheduling (Ok c) (Ok s) old new = LeavesState c s old new
 IsScheduling (Err (Fault e)) (Err f) old new = (e ≡ f) × (new ≡ old)

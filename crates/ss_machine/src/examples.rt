@@ -1,4 +1,4 @@
-//! What a machine on a small run comes to: each function is a law, proved by computing.
+//! The result of a machine on a small run: each function is a law, proved by computing.
 
 ghost use Rattle.std.specs.Prelude.{◌≡◌, [], ◌∷◌, pos, true, false};
 ghost use Rattle.ss_state.specs.declared.stepped.Stepped.TheVariants.{Moved};

@@ -1,4 +1,4 @@
-//! What each step of a run shares: what it writes, what it notes, and how it ends.
+//! The parts that all steps of a run share: their writes, their notes, and how a step ends.
 ghost use Rattle.std.specs.Prelude.{◌≡◌, ◌+◌, ◌<◌, ◌≤◌, ◌^◌, [], length, slice_get, slice_index_or, pos, Some, OnOk};
 ghost use Rattle.std.specs.Prelude.{IfOk, MatchOption};
 ghost use Rattle.ss_words.specs.declared.limits.TheConstants.{MOST_PHRASES};
@@ -39,8 +39,8 @@ use std::alloc::{AllocError, Global};
 
 /// A state, the journal of its changes, and room for the values of one statement.
 ///
-/// Each statement leaves the open step so that it leads back to the state before, also where memory
-/// was refused: none cleans up.
+/// Each statement leaves an open step that leads back to the state before, even if memory was
+/// refused. No statement cleans up.
 #[derive(Drop)]
 pub struct Executor<S: SetBoard> {
     pub held: State<S>,
@@ -160,7 +160,7 @@ impl<S: SetBoard> Executor<S> {
         Ok(())
     }
 
-    /// The value of this number that is kept for the targets; 0 where there is none.
+    /// The value of this number that is kept for the targets; 0 if there is none.
     fn value_at(&self, number: usize) -> i64
         ensures { result ≡ slice_index_or self.now.values.items number (pos 0) }
     {
@@ -170,8 +170,8 @@ impl<S: SetBoard> Executor<S> {
         }
     }
 
-    /// Goes on where the statement is done; where it faulted, takes back what it did and marks the
-    /// fault.
+    /// Goes on to `next` if the statement is done. If it faulted, takes back its changes and marks
+    /// the fault.
     #[inline(always)]
     pub fn settle(&mut self, next: usize, done: Result<(), RunFault>)
         requires fits { FitsAll Fits unapply self.old.journal.current self.old.held }
@@ -189,7 +189,7 @@ impl<S: SetBoard> Executor<S> {
         }
     }
 
-    /// The same where memory may have been refused; then nothing is settled.
+    /// Settles a statement for which memory may have been refused; then nothing is settled.
     pub fn settle_or_refuse(
         &mut self,
         next: usize,
@@ -208,8 +208,8 @@ impl<S: SetBoard> Executor<S> {
         self.fail_or_refuse(fault)
     }
 
-    /// Takes back what a statement did that faulted, and marks its fault; where memory was refused
-    /// it does nothing.
+    /// Takes back the changes of a statement that faulted, and marks its fault. If memory was
+    /// refused, it does nothing.
     pub fn fail_or_refuse(&mut self, fault: StepFault) -> Result<(), AllocError>
         requires fits { FitsAll Fits unapply self.old.journal.current self.old.held }
         requires room { 0 < self.old.journal.notes }
@@ -226,7 +226,7 @@ impl<S: SetBoard> Executor<S> {
         }
     }
 
-    /// Runs a place. After an error the changes made so far stand in the open step.
+    /// Runs a place. After an error the changes made so far are left in the open step.
     #[inline(always)]
     fn run_place(&mut self, program: &Program, ways: Ways, place: &Place) -> Result<(), AllocError>
         requires well { IsInBounds program.now (state self.old) }
@@ -270,8 +270,8 @@ impl<S: SetBoard> Executor<S> {
         }
     }
 
-    /// Runs the place where the state stands, once there is room for its changes. After an error the
-    /// changes made so far stand in the open step.
+    /// Runs the current place of the state, once there is room for its changes. After an error the
+    /// changes made so far are left in the open step.
     #[inline(always)]
     pub fn run(&mut self, program: &Program) -> Result<(), AllocError>
         requires well { IsInBounds program.now (state self.old) }
@@ -349,7 +349,7 @@ impl<S: SetBoard> Executor<S> {
     }
 }
 
-/// Where a place goes on.
+/// The places at which the run may go on after a place.
 #[inline(always)]
 pub fn ways_at(program: &Program, section: usize, place: usize, spot: &Spot) -> Ways
     requires section { section < length program.now.sections }

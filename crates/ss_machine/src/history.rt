@@ -76,7 +76,7 @@ impl History {
 
     /// Makes room for at least `n` notes and one close.
     ///
-    /// Room grows by doubling. `AllocError` comes only where room was missing and a growth was
+    /// Room grows by doubling. `AllocError` comes only if room was missing and a growth was
     /// refused; other room may then have grown.
     pub fn reserve(&mut self, n: usize) -> Result<(), AllocError>
         ensures steps { self.new.steps ≡ self.old.steps }
@@ -120,7 +120,7 @@ impl History {
         self.tape.note_dropped(frame);
     }
 
-    /// Takes the newest change of the open step back; false where that step is empty.
+    /// Takes the newest change of the open step back; false if that step is empty.
     #[inline(always)]
     pub fn undo_newest<S: SetBoard>(&mut self, held: &mut State<S>) -> bool
         requires { FitsAll Fits unapply self.old.current held.old }
@@ -160,7 +160,7 @@ impl History {
         self.tape.kept.close();
     }
 
-    /// Makes the newest closed step the open one again; false where no step is closed, and then
+    /// Makes the newest closed step the open one again; false if no step is closed, and then
     /// nothing changes. The room of its close is free again.
     pub fn reopen_last(&mut self) -> bool
         requires { self.old.current ≡ [] }
@@ -182,8 +182,8 @@ impl History {
         self.tape.numbers.steps()
     }
 
-    /// Forgets the oldest closed steps, so that the newest `n` are left, or all where there are
-    /// fewer. The room of what is forgotten is free again once `reserve` needs it.
+    /// Forgets the oldest closed steps, so that the newest `n` are left, or all if there are fewer.
+    /// The room of the forgotten steps is free again once `reserve` needs it.
     ///
     /// It takes no memory, and its time is in proportion to the changes forgotten.
     pub fn keep_last(&mut self, n: usize)

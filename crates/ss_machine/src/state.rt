@@ -43,7 +43,7 @@ use std::alloc::{AllocError, Global};
 use std::marker::Model;
 use std::mem;
 
-/// The state of a run. Each call that writes gives what takes its change back.
+/// The state of a run. Each call that writes gives the change that takes it back.
 #[derive(Drop)]
 pub struct State<S: SetBoard> {
     variables: Vec<i64>,
@@ -128,7 +128,7 @@ impl<S: SetBoard> State<S> {
         })
     }
 
-    /// What an expression reads.
+    /// The view of the state that an expression reads.
     #[inline(always)]
     pub fn view(&self) -> View<'_, S>
         ensures { view_readings result ≡ readings self.now.beside.tables self.now.state }
@@ -169,7 +169,7 @@ impl<S: SetBoard> State<S> {
         &self.agenda
     }
 
-    /// The section of the last frame, and the place where it stands.
+    /// The section of the last frame, and its current place.
     #[inline(always)]
     pub fn place(&self) -> (usize, usize)
         ensures { result ≡ (self.now.state.frame.section, self.now.state.frame.place) }

@@ -1,4 +1,4 @@
-//! A room for each kind of statement: how it is run. Its definition has the same name in specs/.
+//! How each kind of statement is run, in a file of its own. Its definition in specs/ has that name.
 
 pub mod assigning;
 pub mod branching;

@@ -4,7 +4,7 @@ use Rattle.std.proofs.lemmas.List.{drop_all}
 use Rattle.std.specs.Io.KnownBytes.{Consumes}
 use Rattle.ss_messages.specs.Frames.{head, first_message, cut, GoesOn, HasLength}
 
--- where the bytes are told: what is left of them goes on as they began
+-- if the bytes are known: the bytes that are left continue the head as it began
 abbrev pub IsWithin : Option (List ℕ) → Option (List ℕ) → ℕ → Option ℕ → List ℕ → ℕ → Type 0
 IsWithin old new first said line byte =
     (text : List ℕ) → old ≡ Some text →

@@ -3,7 +3,7 @@ use Rattle.std.proofs.Common.{◌≡◌, List, [], ◌∷◌, ◌++◌, refl}
 use Rattle.ss_messages.specs.declared.request.Request.{Request}
 use Rattle.ss_messages.specs.Messages.{Sent, PostView, posted_with, posted_all}
 
--- some messages, and others behind them
+-- some messages, and others after them
 pub posted_both : (r : Request) (p : PostView) (ms ns : List Sent) →
     posted_all r p (ms ++ ns) ≡ posted_all r (posted_all r p ms) ns
 unfolding posted_all

@@ -13,12 +13,12 @@ without_last text = take (length text - 1) text
 unfoldable pub hit_at : ℕ → List ℕ
 hit_at id = codes ",\"hitBreakpointIds\":[" ++ decimal id ++ codes "]"
 
--- the same, if it did at one
+-- the same text, if it stopped at a break point; else no text
 unfoldable pub hit_text : Option ℕ → List ℕ
 hit_text None = []
 hit_text (Some id) = hit_at id
 
--- stopped: why, what is said of it, and at which break point
+-- stopped: its reason, its description, and the number of the break point, if it was at one
 unfoldable pub stopped_body : List ℕ → List ℕ → Option ℕ → List ℕ
 stopped_body reason text hit =
     codes "{\"reason\":\"" ++ reason ++ codes "\",\"threadId\":1,\"allThreadsStopped\":true,\"description\":"
@@ -29,7 +29,7 @@ unfoldable pub output_body : List ℕ → List ℕ → List ℕ
 output_body category text =
     codes "{\"category\":\"" ++ category ++ codes "\",\"output\":" ++ quoted_bytes text ++ codes "}"
 
--- what an expression says
+-- the value of an expression, as a text
 unfoldable pub result_body : List ℕ → List ℕ
 result_body text = codes "{\"result\":" ++ quoted_bytes text ++ codes ",\"variablesReference\":0}"
 
@@ -37,18 +37,18 @@ result_body text = codes "{\"result\":" ++ quoted_bytes text ++ codes ",\"variab
 unfoldable pub content_body : List ℕ → List ℕ
 content_body text = codes "{\"content\":" ++ quoted_bytes text ++ codes "}"
 
--- what a fault is, by its name and its sentence
+-- a fault, by its name and its sentence
 unfoldable pub exception_body : List ℕ → List ℕ → List ℕ
 exception_body name sentence =
     codes "{\"exceptionId\":" ++ quoted_bytes name ++ codes ",\"description\":" ++ quoted_bytes sentence
     ++ codes ",\"breakMode\":\"always\"}"
 
--- what stands after the last slash of a text; else this name
+-- the bytes after the last slash of a text; if it has none, this name
 unfoldable pub name_within : List ℕ → List ℕ → List ℕ
 name_within name [] = name
 name_within name (b ∷ rest) = if b == 47 then name_within rest rest else name_within name rest
 
--- the name of the file at a path: what stands after its last slash
+-- the name of the file at a path: the bytes after its last slash
 abbrev pub file_name : List ℕ → List ℕ
 file_name path = name_within path path
 
@@ -62,11 +62,11 @@ unfoldable pub sources_body : List ℕ → List ℕ
 sources_body path =
     codes "{\"sources\":[" ++ source_text path ++ codes ",{\"name\":\"report\",\"sourceReference\":1}]}"
 
--- some items, each behind a comma, as the list that is the one member of an object
+-- some items, each after a comma, as the list that is the only member of an object
 unfoldable pub list_body : List ℕ → List ℕ → List ℕ
 list_body name items = codes "{\"" ++ name ++ codes "\":[" ++ drop 1 items ++ codes "]}"
 
--- a comma and a variable with its value; what it refers to, or 0
+-- a comma and a variable with its value, and the reference of its variables, or 0
 unfoldable pub variable_item : List ℕ → List ℕ → ℕ → List ℕ
 variable_item name value reference =
     codes ",{\"name\":" ++ quoted_bytes name ++ codes ",\"value\":" ++ quoted_bytes value
@@ -86,7 +86,7 @@ set_item id line counting =
     codes ",{\"id\":" ++ decimal id
     ++ codes ",\"verified\":true,\"line\":" ++ decimal (shown counting.lines_from_one line) ++ codes "}"
 
--- a comma and a state as a target of goto: its number, what is said of it, and its line, as the editor counts
+-- a comma and a state as a target of goto: its number, its label, and its line for the editor
 unfoldable pub state_item : ℕ → List ℕ → ℕ → List ℕ
 state_item id label line =
     codes ",{\"id\":" ++ decimal id ++ codes ",\"label\":" ++ quoted_bytes label

@@ -10,13 +10,13 @@ hex_digit n = if nat_lt n 10 then 48 + n else 87 + n
 abbrev pub escape : ℕ → List ℕ
 escape b = codes "\\u00" ++ hex_digit (b / 16) ∷ hex_digit (b % 16) ∷ []
 
--- a byte in a string: quotation marks and backslashes stand behind a backslash, and control characters by their numbers
+-- a byte in a string: a backslash precedes a `"` or a `\`; control characters have their numbers
 abbrev pub escaped_byte : ℕ → List ℕ
 escaped_byte b =
     if b == 34 || b == 92 then 92 ∷ b ∷ [] else
     if nat_lt b 32 then escape b else b ∷ []
 
--- the same, where bytes past ASCII stand by their numbers too
+-- the same byte in a string; bytes past ASCII are written by their numbers too
 abbrev pub escaped_wide_byte : ℕ → List ℕ
 escaped_wide_byte b = if nat_lt 126 b then escape b else escaped_byte b
 

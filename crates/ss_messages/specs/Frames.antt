@@ -7,15 +7,15 @@ use Rattle.std.specs.Str.{bytes_eq}
 use Rattle.std.specs.Io.KnownBytes.{Consumes, IsAtEnd}
 use Rattle.ss_messages.specs.declared.frame.TheConstants.{LONGEST_MESSAGE, LONGEST_LINE}
 
--- what the bytes of a stream begin with: a message with a body, and the bytes behind it; no byte is left; they end
--- within a message; no message
+-- the beginning of a stream's bytes: a message with a body, and the bytes after it; or no byte is
+-- left; or they end within a message; or no message
 pub data Reading : Type 0 where
   message : List ℕ → List ℕ → Reading
   ended : Reading
   cut : Reading
   malformed : Reading
 
--- the number that digits say behind those that said n, where it is no longer than a body may be
+-- the number of these digits after the digits of n, if it is no longer than a body may be
 abbrev pub number_from : ℕ → List ℕ → Option ℕ
 number_from n [] = Some n
 number_from n (b ∷ bs) =
@@ -45,7 +45,7 @@ length_so_far said line = option_or said (length_in line)
 abbrev pub is_blank : List ℕ → Bool
 is_blank line = length (without_return line) == 0
 
--- the body behind a head
+-- the body after a head
 abbrev pub body : Option ℕ → List ℕ → Reading
 body None bytes = malformed
 body (Some n) bytes = if nat_lt (length bytes) n then cut else message (take n bytes) (drop n bytes)
@@ -57,23 +57,23 @@ head said line (b ∷ bytes) =
     if b == 10 then (if is_blank line then body said bytes else head (length_so_far said line) [] bytes) else
     if nat_lt (length line) LONGEST_LINE then head said (line ++ b ∷ []) bytes else malformed
 
--- what a stream begins with
+-- the beginning of a stream
 abbrev pub first_message : List ℕ → Reading
 first_message [] = ended
 first_message (b ∷ bytes) = head None [] (b ∷ bytes)
 
--- a stream that is told began with a message of this body, or was at its end
+-- a stream with known bytes began with a message of this body, or was at its end
 abbrev pub IsRead : Option (List ℕ) → Option (List ℕ) → Option (List ℕ) → Type 0
 IsRead None old new = (text : List ℕ) → old ≡ Some text → first_message text ≡ ended
 IsRead (Some bytes) old new =
     (text : List ℕ) → old ≡ Some text →
     (rest : List ℕ) × (new ≡ Some rest) × (first_message text ≡ message bytes rest)
 
--- a stream that is told began with no message
+-- a stream with known bytes began with no message
 abbrev pub IsMalformed : Option (List ℕ) → Type 0
 IsMalformed old = (text : List ℕ) → old ≡ Some text → first_message text ≡ malformed
 
--- the first message of a text: its body and what stands after it; or the text is empty
+-- the first message of a text: its body and the bytes after it; or the text is empty
 abbrev pub IsSplit : List ℕ → Option (List ℕ × List ℕ) → Type 0
 IsSplit text None = text ≡ []
 IsSplit text (Some (bytes, rest)) = first_message text ≡ message bytes rest
@@ -83,7 +83,7 @@ abbrev pub IsByte : Option ℕ → Option (List ℕ) → Option (List ℕ) → T
 IsByte None old new = Consumes old new [] × IsAtEnd new
 IsByte (Some b) old new = Consumes old new (b ∷ [])
 
--- the bytes of a head that are left, where they are told: behind it stand these
+-- if the bytes are known: a head of length n is read, and the bytes after it are left
 abbrev pub HasLength : Option (List ℕ) → Option (List ℕ) → ℕ → ℕ → Type 0
 HasLength old new first n =
     (text : List ℕ) → old ≡ Some text →
@@ -93,7 +93,7 @@ HasLength old new first n =
 abbrev pub HasNoLength : Option (List ℕ) → ℕ → Type 0
 HasNoLength old first = (text : List ℕ) → old ≡ Some text → head None [] (first ∷ text) ≡ malformed
 
--- a head goes on behind a byte, or ends with a length
+-- a head continues after a byte, or ends with a length
 abbrev pub GoesOn : Option ℕ → Option ℕ → List ℕ → ℕ → Option ℕ → List ℕ → Type 0
 GoesOn None said line b new more = (rest : List ℕ) → head said line (b ∷ rest) ≡ head new more rest
 GoesOn (Some n) said line b new more = (rest : List ℕ) → head said line (b ∷ rest) ≡ body (Some n) rest

@@ -1,3 +1,4 @@
+-- The definitions of the messages: their framing, the requests that they hold, and their replies.
 pub mod Escapes
 pub mod Frames
 pub mod Messages

@@ -30,8 +30,8 @@ event_text n name body =
 
 -- ---- messages in order
 
--- a message that answers a request, or an event beside it: the body of a reply, the reason of a refusal, an event's
--- name and body
+-- a message that answers a request, or an event that goes with it: the body of a reply, the reason
+-- of a refusal, an event's name and body
 pub data Sent : Type 0 where
   reply : List ℕ → Sent
   failure : List ℕ → Sent

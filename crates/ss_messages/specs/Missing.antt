@@ -4,7 +4,7 @@ use Rattle.ss_messages.specs.declared.missing.Argument.{Argument}
 use Rattle.ss_messages.specs.declared.missing.Argument.TheVariants.{Model, Expression, Name, Typed, Column}
 use Rattle.ss_messages.specs.declared.missing.Argument.TheVariants.{Line, Target}
 
--- which argument is missing, and what it must be
+-- the name of the missing argument, and the kind of value that it must be
 abbrev pub wanted_text : Argument → List ℕ
 wanted_text Model = codes "model: a path is wanted"
 wanted_text Expression = codes "expression: a text is wanted"

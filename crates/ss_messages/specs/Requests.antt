@@ -1,4 +1,4 @@
--- What a message asks for.
+-- The command that a message asks for.
 use Rattle.std.specs.Prelude.{ℕ, Bool, true, false, not, ◌&&◌, List, [], ◌∷◌, codes, Option, Some, None}
 use Rattle.std.specs.Prelude.{option_and_then, unwrap_or, if◌then◌else◌}
 use Rattle.std.specs.Str.{bytes_eq}
@@ -43,7 +43,7 @@ text_at key d = option_and_then as_str (get key d)
 abbrev pub flag_at : List ℕ → Bool → Data → Bool
 flag_at key other d = unwrap_or (option_and_then as_bool (get key d)) other
 
--- whether a text stands at a key
+-- whether the value at a key is this text; a missing text is empty
 abbrev pub is_text_at : List ℕ → List ℕ → Data → Bool
 is_text_at key text d = bytes_eq (unwrap_or (text_at key d) []) text
 
@@ -62,7 +62,7 @@ abbrev pub line_points_of : Items → List LinePoint
 line_points_of no_items = []
 line_points_of (item d ds) = line_point_of d ∷ line_points_of ds
 
--- the text at a key of a break point that stops each time, empty where it has none
+-- the text at a key of a break point that stops each time, empty if it has none there
 abbrev pub plain_text : List ℕ → Data → Option (List ℕ)
 plain_text key d = if is_plain d then Some (unwrap_or (text_at key d) []) else None
 
@@ -87,7 +87,7 @@ texts_at key d = texts_of key (points_at d)
 abbrev pub path_at : Data → Option (List ℕ)
 path_at d = option_and_then (text_at (codes "path")) (get (codes "source") d)
 
--- the arguments of a request; null where there are none
+-- the arguments of a request; null if there are none
 abbrev pub arguments_of : Data → Data
 arguments_of d = unwrap_or (get (codes "arguments") d) null
 
@@ -104,7 +104,7 @@ counting_of d = record {
 abbrev pub is_debugged : Data → Bool
 is_debugged d = not (flag_at (codes "noDebug") false d)
 
--- where a run stops: where it is debugged, at break points, and at its end unless it is said that it does not
+-- the stops of a run: if it is debugged, at break points, and at its end unless the request says no
 abbrev pub stops_of : Data → Stops
 stops_of d = record {
   at_start = is_debugged d && flag_at (codes "stopOnEntry") false d;
@@ -154,7 +154,7 @@ abbrev pub targets_with : Option (List ℕ) → Option ℕ → Command
 targets_with path None = Missing Line
 targets_with path (Some line) = GotoTargets path line
 
--- gotoTargets: of the source that it speaks of
+-- gotoTargets, for the source that it names
 abbrev pub targets_of : Data → Command
 targets_of d = targets_with (path_at d) (number_in (codes "line") d)
 
@@ -182,7 +182,7 @@ wanted_of d = record {
   filter = filter_of d;
 }
 
--- what a request says about the session
+-- the command of a request about the session
 unfoldable pub session_command : List ℕ → Data → Command
 session_command name d =
     if bytes_eq name (codes "initialize") then Initialize (counting_of d) else
@@ -191,7 +191,7 @@ session_command name d =
     if bytes_eq name (codes "disconnect") then Disconnect else
     if bytes_eq name (codes "terminate") then Terminate else Unknown
 
--- what it says about break points and the states on a line, else about the session
+-- its command about break points or the states on a line; else its command about the session
 unfoldable pub points_command : List ℕ → Data → Command
 points_command name d =
     if bytes_eq name (codes "setBreakpoints") then SetBreakpoints (path_at d) (line_points_at d) else
@@ -202,7 +202,7 @@ points_command name d =
     if bytes_eq name (codes "gotoTargets") then targets_of d else
     if bytes_eq name (codes "setExceptionBreakpoints") then SetExceptionBreakpoints else session_command name d
 
--- what it says that asks about the state, else about break points
+-- its command that asks about the state; else its command about break points
 unfoldable pub looking_command : List ℕ → Data → Command
 looking_command name d =
     if bytes_eq name (codes "threads") then Threads else
@@ -216,7 +216,7 @@ looking_command name d =
     if bytes_eq name (codes "loadedSources") then LoadedSources else
     if bytes_eq name (codes "exceptionInfo") then ExceptionInfo else points_command name d
 
--- what a request says
+-- the command of a request
 unfoldable pub command_of : List ℕ → Data → Command
 command_of name d =
     if bytes_eq name (codes "continue") then Continue else
@@ -238,6 +238,6 @@ request_with None name d = None
 request_with (Some n) name d =
     Some (record { number = n; name = name; command = command_of name (arguments_of d) })
 
--- what a message asks for
+-- the request that a message is
 abbrev pub request_of : Data → Option Request
 request_of d = request_with (number_in (codes "seq") d) (unwrap_or (text_at (codes "command") d) []) d

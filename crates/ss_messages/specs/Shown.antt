@@ -1,29 +1,30 @@
--- What an editor shows of a state, as it is written: frames, scopes, variables that are many, and break points.
+-- The parts of a state that an editor shows, as they are written: frames, scopes, variables that
+-- are many, and break points.
 use Rattle.std.specs.Prelude.{ℕ, Bool, false, List, ◌++◌, codes, decimal, drop, if◌then◌else◌}
 use Rattle.ss_messages.specs.Escapes.{quoted_bytes}
 use Rattle.ss_messages.specs.Bodies.{source_text}
 use Rattle.ss_messages.specs.Counting.{shown}
 use Rattle.ss_messages.specs.declared.counting.Counting.{Counting}
 
--- a comma and a variable that refers to so many others, which are asked for a page at a time
+-- a comma and a variable that refers to `count` others, which are requested a page at a time
 unfoldable pub paged_item : List ℕ → List ℕ → ℕ → ℕ → List ℕ
 paged_item name value reference count =
     codes ",{\"name\":" ++ quoted_bytes name ++ codes ",\"value\":" ++ quoted_bytes value
     ++ codes ",\"variablesReference\":" ++ decimal reference
     ++ codes ",\"indexedVariables\":" ++ decimal count ++ codes "}"
 
--- some frames, each behind a comma, of so many
+-- some frames, each after a comma, and the total number of frames
 unfoldable pub frames_body : List ℕ → ℕ → List ℕ
 frames_body items count =
     codes "{\"stackFrames\":[" ++ drop 1 items ++ codes "],\"totalFrames\":" ++ decimal count ++ codes "}"
 
--- a comma and a scope, and what it refers to
+-- a comma and a scope, and its reference
 unfoldable pub scope_item : List ℕ → ℕ → List ℕ
 scope_item name reference =
     codes ",{\"name\":" ++ quoted_bytes name ++ codes ",\"variablesReference\":" ++ decimal reference
     ++ codes ",\"expensive\":false}"
 
--- a comma and a word that may stand from a column on, in place of so many characters
+-- a comma and a word that may be written from a column on, in place of `count` characters
 unfoldable pub target_item : List ℕ → ℕ → ℕ → List ℕ
 target_item word start count =
     codes ",{\"label\":" ++ quoted_bytes word ++ codes ",\"start\":" ++ decimal start ++ codes ",\"length\":"
@@ -48,7 +49,7 @@ unfoldable pub point_text : ℕ → Bool → List ℕ
 point_text id is_verified =
     codes "{\"id\":" ++ decimal id ++ codes ",\"verified\":" ++ bool_text is_verified
 
--- breakpoint: one of this number is set on a line of the model, where a place stands or not
+-- breakpoint: one of this number is new on a line of the model; it is verified if a place is there
 unfoldable pub new_point_body : ℕ → Bool → ℕ → List ℕ → Counting → List ℕ
 new_point_body id is_verified line path counting =
     codes "{\"reason\":\"new\",\"breakpoint\":" ++ point_text id is_verified

@@ -5,7 +5,7 @@ use Rattle.std.specs.Prelude.{ℕ, ◌+◌, ◌-◌, List, [], ◌∷◌, nat_le
 abbrev pub units_of : ℕ → ℕ
 units_of b = if nat_lt b 128 then 1 else if nat_lt b 192 then 0 else if nat_lt b 240 then 1 else 2
 
--- what stands of a text within so many UTF-16 code units
+-- the first part of a text, as far as it is within n UTF-16 code units
 abbrev pub within_units : ℕ → List ℕ → List ℕ
 within_units n [] = []
 within_units n (b ∷ bs) = if nat_le (units_of b) n then b ∷ within_units (n - units_of b) bs else []

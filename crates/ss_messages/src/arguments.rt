@@ -43,7 +43,7 @@ fn flag_at(value: &Value, key: &'static str, other: bool) -> bool
     value.get(key).and_then(Value::as_bool).unwrap_or(other)
 }
 
-/// Whether a text stands at a key.
+/// Whether the value at a key is this text; a missing text is empty.
 pub fn is_text_at(value: &Value, key: &'static str, text: &'static [u8]) -> bool
     ensures { result ≡ is_text_at key.now text.now (view value.now) }
 {
@@ -67,8 +67,8 @@ fn is_debugged(arguments: &Value) -> bool
     !flag_at(arguments, "noDebug", false)
 }
 
-/// Where a run stops: where it is debugged, at break points, and at its end unless it is said that it
-/// does not.
+/// The stops of a run. A run that is debugged stops at break points. It stops at its end unless the
+/// request says that it does not.
 fn stops_of(arguments: &Value) -> Stops
     ensures { result ≡ stops_of (view arguments.now) }
 {
@@ -183,7 +183,7 @@ pub fn wanted(arguments: &Value) -> Wanted
     }
 }
 
-/// The text at a key, an empty one where there is none.
+/// The text at a key; it is empty if there is none.
 fn text_or_none(alloc: Global, value: &Value, key: &'static str) -> Result<Text, AllocError>
     ensures { IfOk result (λ text. text ≡ unwrap_or (text_at key.now (view value.now)) []) }
 {
@@ -200,7 +200,8 @@ fn is_plain(point: &Value) -> bool
         && is_text_at(point, "logMessage", b"")
 }
 
-/// The text at a key of a break point that stops each time, an empty one where it has none.
+/// The text at a key of a break point that stops each time; it is empty if the break point has
+/// none.
 fn plain_text(alloc: Global, point: &Value, key: &'static str) -> Result<Option<Text>, AllocError>
     ensures { IfOk result (λ text. text ≡ plain_text key.now (view point.now)) }
 {

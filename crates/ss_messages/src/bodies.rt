@@ -42,7 +42,7 @@ fn hit_text(alloc: Global, hit: Option<u64>) -> Result<Vec<u8>, AllocError>
     }
 }
 
-/// stopped: why, what is said of it, and at which break point, if it was at one.
+/// stopped: its reason, its description, and the number of the break point, if it was at one.
 #[tactic(auto, unfolding(crate::specs::Bodies::stopped_body))]
 pub fn stopped_body(
     alloc: Global,
@@ -75,7 +75,7 @@ pub fn output_body(alloc: Global, category: &[u8], text: &[u8]) -> Result<Vec<u8
     Ok(body)
 }
 
-/// What an expression says.
+/// The value of an expression, as a text.
 #[tactic(auto, unfolding(crate::specs::Bodies::result_body))]
 pub fn result_body(alloc: Global, text: &[u8]) -> Result<Vec<u8>, AllocError>
     ensures { IfOk result (λ body. body.items ≡ result_body text.now) }
@@ -97,7 +97,7 @@ pub fn content_body(alloc: Global, text: &[u8]) -> Result<Vec<u8>, AllocError>
     Ok(body)
 }
 
-/// What a fault is, by its name and its sentence.
+/// A fault, by its name and its sentence.
 #[tactic(auto, unfolding(crate::specs::Bodies::exception_body))]
 pub fn exception_body(alloc: Global, name: &[u8], sentence: &[u8]) -> Result<Vec<u8>, AllocError>
     ensures { IfOk result (λ body. body.items ≡ exception_body name.now sentence.now) }
@@ -122,7 +122,7 @@ pub fn sources_body(alloc: Global, path: &[u8]) -> Result<Vec<u8>, AllocError>
     Ok(body)
 }
 
-/// Items, each behind a comma, as the list that is the one member of an object.
+/// Items, each after a comma, as the list that is the only member of an object.
 #[tactic(auto, unfolding(crate::specs::Bodies::list_body))]
 pub fn list_body(alloc: Global, name: &[u8], items: &[u8]) -> Result<Vec<u8>, AllocError>
     ensures { IfOk result (λ body. body.items ≡ list_body name.now items.now) }
@@ -142,7 +142,7 @@ pub(crate) fn without_first(items: &[u8]) -> &[u8]
     if items.is_empty() { items } else { &items[1..] }
 }
 
-/// A comma and a variable with its value; what it refers to, or 0.
+/// A comma and a variable with its value, and the reference of its variables, or 0.
 #[tactic(auto, unfolding(crate::specs::Bodies::variable_item))]
 pub fn variable_item(
     alloc: Global,
@@ -207,8 +207,8 @@ pub fn set_item(
     Ok(item)
 }
 
-/// A comma and a state as a target of goto: its number, what is said of it, and its line, as the
-/// editor counts.
+/// A comma and a state as a target of goto: its number, its label, and its line, as the editor
+/// counts.
 #[tactic(auto, unfolding(crate::specs::Bodies::state_item))]
 pub fn state_item(alloc: Global, id: u64, label: &[u8], line: u64) -> Result<Vec<u8>, AllocError>
     ensures { IfOk result (λ item. item.items ≡ state_item id label.now line) }

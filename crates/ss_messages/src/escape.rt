@@ -34,7 +34,7 @@ fn push_byte(out: &mut Vec<u8>, byte: u8) -> Result<(), AllocError>
     out.extend_from_slice(&[byte])
 }
 
-/// Appends a byte of a string, by its number where it is past ASCII.
+/// Appends a byte of a string; a byte past ASCII is written by its number.
 fn push_wide_byte(out: &mut Vec<u8>, byte: u8) -> Result<(), AllocError>
     ensures { OnOk result (out.new.items ≡ out.old.items ++ escaped_wide_byte byte) }
 {

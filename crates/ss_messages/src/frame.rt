@@ -16,13 +16,13 @@ pub const LONGEST_MESSAGE: usize = 67_108_864;
 /// The most bytes of a line of a head.
 const LONGEST_LINE: usize = 4_096;
 
-/// The line of a head that tells the length of the body.
+/// The beginning of the line of a head that gives the length of the body.
 const LENGTH_KEY: &[u8] = b"Content-Length: ";
 
 /// Why no message was read.
 #[derive(Clone, Copy, Debug, Drop, PartialEq, Eq, Error)]
 pub enum FrameFault {
-    /// A head tells no length up to `LONGEST_MESSAGE`, or has a line of more than 4,096 bytes.
+    /// A head gives no length up to `LONGEST_MESSAGE`, or has a line of more than 4,096 bytes.
     #[error("no message")]
     Malformed,
     /// The stream ended within a message, or reading failed.
@@ -66,7 +66,7 @@ fn next_byte<R: Read>(reader: &mut R) -> Result<Option<u8>, FrameFault>
     Err(FrameFault::Read)
 }
 
-/// The number that digits say, where it is no longer than a body may be.
+/// The number that digits say, if it is no longer than a body may be.
 fn number_in(digits: &[u8]) -> Option<usize>
     ensures { result ≡ number_in digits.now }
 {
@@ -114,7 +114,7 @@ fn is_blank(line: &[u8]) -> bool
     without_return(line).is_empty()
 }
 
-/// What was read of a head: the length that its lines say, and a part of a line.
+/// The part of a head that was read: the length that its lines say, and a part of a line.
 #[derive(Drop)]
 struct Head {
     said: Option<usize>,
@@ -122,7 +122,7 @@ struct Head {
 }
 
 impl Head {
-    /// One byte more. The length that the head says, where the byte ends it.
+    /// Takes one byte more. Gives the length that the head says, if the byte ends the head.
     #[tactic(auto, unfolding(crate::specs::Frames::head))]
     fn take(&mut self, byte: u8) -> Result<Option<usize>, FrameFault>
         ensures ok { IfOk result (λ end. GoesOn end self.old.said self.old.line.items byte
@@ -182,7 +182,7 @@ fn read_head<R: Read>(alloc: Global, reader: &mut R, first: u8) -> Result<usize,
     Err(FrameFault::Read)
 }
 
-/// So many bytes.
+/// Reads `count` bytes.
 fn read_body<R: Read>(alloc: Global, reader: &mut R, count: usize) -> Result<Vec<u8>, FrameFault>
     ensures ok { IfOk result
         (λ body. Consumes (R.remaining reader.old) (R.remaining reader.new) body.items) }
@@ -211,8 +211,9 @@ pub fn read_message<R: Read>(alloc: Global, reader: &mut R) -> Result<Option<Vec
     Ok(Some(read_body(alloc, reader, length)?))
 }
 
-/// The body of the first message of a text, and what stands after it; `None` where the text is
-/// empty. `Read` where the text ends within a message.
+/// The body of the first message of a text, and the bytes after it; `None` if the text is empty.
+///
+/// `Read` if the text ends within a message.
 pub fn split_message<'a>(
     alloc: Global,
     text: &'a [u8],

@@ -22,7 +22,7 @@ pub enum Argument {
 }
 
 impl Argument {
-    /// Which one it is, and what it must be, as it is told where it is missing.
+    /// The sentence for a missing argument: its name, and the kind of value that it must be.
     pub fn wanted_text(self) -> &'static [u8]
         ensures { result.now ≡ wanted_text self }
     {

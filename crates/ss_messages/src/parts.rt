@@ -1,4 +1,4 @@
-//! What a request is made of.
+//! The parts of a request.
 use std::alloc::{AllocError, Global};
 use std::marker::Model;
 

@@ -7,8 +7,8 @@ use crate::request::Request;
 use std::alloc::{AllocError, Global};
 use std::marker::Model;
 
-/// Messages that are to be written. They are numbered from 1 on, also behind those that were
-/// written before.
+/// Messages that are to be written. They are numbered from 1 on. The numbers go on after those of
+/// the messages that were written before.
 #[derive(Drop)]
 pub struct Post {
     alloc: Global,

@@ -1,4 +1,4 @@
-//! What a message asks for.
+//! The command that a message asks for.
 ghost use Rattle.std.specs.Prelude.{◌≡◌, ◌⊎◌, Err, IfOk, Some, None, option_and_then};
 ghost use Rattle.std.specs.Str.{IsUtf8};
 ghost use Rattle.serde_json.specs.Read.{read};
@@ -30,7 +30,8 @@ pub enum Filter {
     Indexed,
 }
 
-/// The variables that a request wants: so many of a reference, from this one on; 0 are all.
+/// The variables that a request wants: `count` of those of a reference, from `start` on; a `count`
+/// of 0 means all.
 #[derive(Clone, Copy, Debug, PartialEq, Eq)]
 pub struct Wanted {
     pub reference: u64,
@@ -39,7 +40,7 @@ pub struct Wanted {
     pub filter: Filter,
 }
 
-/// Where a run stops.
+/// The stops of a run.
 #[derive(Clone, Copy, Debug, PartialEq, Eq)]
 pub struct Stops {
     /// At its start.
@@ -50,24 +51,24 @@ pub struct Stops {
     pub at_end: bool,
 }
 
-/// What a request says (docs/EDITORS.md).
+/// The command of a request (docs/EDITORS.md).
 #[derive(Drop)]
 pub enum Command {
     /// initialize: from which numbers the editor counts.
     Initialize(Counting),
-    /// launch: the path of a model, perhaps that of its data, and where the run stops.
+    /// launch: the path of a model, perhaps that of its data, and the stops of the run.
     Launch(Text, Option<Text>, Stops),
-    /// setBreakpoints: these of the source at this path, and no others of it; where no path is named,
+    /// setBreakpoints: these of the source at this path, and no others of it; if no path is named,
     /// of the model.
     SetBreakpoints(Option<Text>, LinePoints),
     /// setFunctionBreakpoints: the sections of these names, and no others.
     SetFunctionBreakpoints(Texts),
     /// setDataBreakpoints: these questions, and no others.
     SetDataBreakpoints(Texts),
-    /// dataBreakpointInfo: what is shown in a reference under a name; reference 0 is none.
+    /// dataBreakpointInfo: the variable that a reference shows under a name; reference 0 is none.
     DataBreakpointInfo(u64, Text),
-    /// gotoTargets: the states near by on this line, as the editor counts, of the source at this path;
-    /// where no path is named, of the model.
+    /// gotoTargets: the states near by on this line, as the editor counts, of the source at this
+    /// path; if no path is named, of the model.
     GotoTargets(Option<Text>, u64),
     /// setExceptionBreakpoints: a run stops at a fault whatever it says.
     SetExceptionBreakpoints,
@@ -75,7 +76,7 @@ pub enum Command {
     ConfigurationDone,
     /// threads.
     Threads,
-    /// stackTrace: so many frames, from this one on; 0 are all.
+    /// stackTrace: the first frame, and the number of frames from there on; 0 means all.
     StackTrace(u64, u64),
     /// scopes of a frame.
     Scopes(u64),
@@ -83,9 +84,9 @@ pub enum Command {
     Variables(Wanted),
     /// evaluate: a line of the debugger.
     Obey(Text),
-    /// evaluate, to be shown beside the model: a question.
+    /// evaluate, to be shown next to the model: a question.
     Ask(Text),
-    /// completions of what stands in a text before this column, as the editor counts.
+    /// completions of the part of a text before this column, as the editor counts.
     Completions(Text, u64),
     /// source of a reference.
     Source(u64),
@@ -101,7 +102,7 @@ pub enum Command {
     StepIn,
     /// stepOut.
     StepOut,
-    /// stepBack, of one step where it says so.
+    /// stepBack, of one step if it says so.
     StepBack(bool),
     /// reverseContinue.
     ReverseContinue,
@@ -121,7 +122,7 @@ pub enum Command {
     Unknown,
 }
 
-/// A request: its number, its command's name, and what it says.
+/// A request: its number, its command's name, and its command.
 #[derive(Drop)]
 pub struct Request {
     pub number: u64,
@@ -151,7 +152,7 @@ impl From<AllocError> for RequestFault {
     }
 }
 
-/// What a request says about the session.
+/// The command of a request about the session.
 #[tactic(auto, unfolding(crate::specs::Requests::session_command))]
 fn session_command(alloc: Global, name: &[u8], arguments: &Value) -> Result<Command, AllocError>
     ensures { IfOk result (λ command. command ≡ session_command name.now (view arguments.now)) }
@@ -174,7 +175,7 @@ fn session_command(alloc: Global, name: &[u8], arguments: &Value) -> Result<Comm
     Ok(Command::Unknown)
 }
 
-/// What a request says about break points and the states on a line; else what it says about the
+/// The command of a request about break points or the states on a line; else its command about the
 /// session.
 #[tactic(auto, unfolding(crate::specs::Requests::points_command))]
 fn points_command(alloc: Global, name: &[u8], arguments: &Value) -> Result<Command, AllocError>
@@ -201,7 +202,7 @@ fn points_command(alloc: Global, name: &[u8], arguments: &Value) -> Result<Comma
     session_command(alloc, name, arguments)
 }
 
-/// What a request says that asks about the state; else what it says about break points.
+/// The command of a request that asks about the state; else its command about break points.
 #[tactic(auto, unfolding(crate::specs::Requests::looking_command))]
 fn looking_command(alloc: Global, name: &[u8], arguments: &Value) -> Result<Command, AllocError>
     ensures { IfOk result (λ command. command ≡ looking_command name.now (view arguments.now)) }
@@ -237,7 +238,7 @@ fn looking_command(alloc: Global, name: &[u8], arguments: &Value) -> Result<Comm
     points_command(alloc, name, arguments)
 }
 
-/// What a request says.
+/// The command of a request.
 #[tactic(auto, unfolding(crate::specs::Requests::command_of))]
 fn named_command(alloc: Global, name: &[u8], arguments: &Value) -> Result<Command, AllocError>
     ensures { IfOk result (λ command. command ≡ command_of name.now (view arguments.now)) }
@@ -291,8 +292,8 @@ fn request_in(alloc: Global, value: &Value) -> Result<Option<Request>, AllocErro
     }))
 }
 
-/// The request that the body of a message is. `NoRequest` where it is no JSON in UTF-8, or has no
-/// number.
+/// The request that the body of a message is. Gives `NoRequest` if the body is no JSON in UTF-8, or
+/// has no number.
 pub fn read_request(alloc: Global, body: &[u8]) -> Result<Request, RequestFault>
     ensures ok { IfOk result (λ request.
         option_and_then request_of (read body.now) ≡ Some request) }

@@ -1,4 +1,5 @@
-//! What an editor shows of a state: frames, scopes, variables that are many, and break points.
+//! The parts of a state that an editor shows: frames, scopes, variables that are many, and break
+//! points.
 ghost use Rattle.std.specs.Prelude.{◌≡◌, IfOk};
 ghost use Rattle.ss_messages.specs.Shown.{paged_item, frames_body, scope_item, target_item, info_body, no_info_body};
 ghost use Rattle.ss_messages.specs.Shown.{bool_text, point_text, new_point_body, removed_point_body};
@@ -9,7 +10,7 @@ use crate::messages::push_number;
 use crate::sources::{Source, source_text};
 use std::alloc::{AllocError, Global};
 
-/// A comma and a variable that refers to so many others, which are asked for a page at a time.
+/// A comma and a variable that refers to `count` others, which are requested a page at a time.
 #[tactic(auto, unfolding(crate::specs::Shown::paged_item))]
 pub fn paged_item(
     alloc: Global,
@@ -32,7 +33,7 @@ pub fn paged_item(
     Ok(item)
 }
 
-/// Some frames, each behind a comma, of so many.
+/// Some frames, each after a comma, and the total number of frames.
 #[tactic(auto, unfolding(crate::specs::Shown::frames_body))]
 pub fn frames_body(alloc: Global, items: &[u8], count: u64) -> Result<Vec<u8>, AllocError>
     ensures { IfOk result (λ body. body.items ≡ frames_body items.now count) }
@@ -45,7 +46,7 @@ pub fn frames_body(alloc: Global, items: &[u8], count: u64) -> Result<Vec<u8>, A
     Ok(body)
 }
 
-/// A comma and a scope, and what it refers to.
+/// A comma and a scope, and its reference.
 #[tactic(auto, unfolding(crate::specs::Shown::scope_item))]
 pub fn scope_item(alloc: Global, name: &[u8], reference: u64) -> Result<Vec<u8>, AllocError>
     ensures { IfOk result (λ item. item.items ≡ scope_item name.now reference) }
@@ -58,7 +59,7 @@ pub fn scope_item(alloc: Global, name: &[u8], reference: u64) -> Result<Vec<u8>,
     Ok(item)
 }
 
-/// A comma and a word that may stand from a column on, in place of so many characters.
+/// A comma and a word that may be written from a column on, in place of `count` characters.
 #[tactic(auto, unfolding(crate::specs::Shown::target_item))]
 pub fn target_item(
     alloc: Global,
@@ -121,7 +122,8 @@ fn point_text(alloc: Global, id: u64, is_verified: bool) -> Result<Vec<u8>, Allo
     Ok(text)
 }
 
-/// breakpoint: one of this number is set on a line of the model, where a place stands or not.
+/// breakpoint: one of this number is new on a line of the model; it is verified if a place is
+/// there.
 #[tactic(auto, unfolding(crate::specs::Shown::new_point_body))]
 pub fn new_point_body(
     alloc: Global,

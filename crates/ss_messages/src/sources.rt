@@ -15,7 +15,7 @@ pub struct Source<'a> {
     pub counting: Counting,
 }
 
-/// The name of the file at a path: what stands after its last slash.
+/// The name of the file at a path: the bytes after its last slash.
 #[tactic(auto, unfolding(crate::specs::Bodies::name_within))]
 fn file_name(path: &[u8]) -> &[u8]
     ensures { result.now ≡ file_name path.now }

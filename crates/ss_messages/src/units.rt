@@ -17,7 +17,7 @@ fn units_of(byte: u8) -> u64
     if byte < 240 { 1 } else { 2 }
 }
 
-/// What stands of a text within so many UTF-16 code units.
+/// The first part of a text, as far as it is within `units` UTF-16 code units.
 pub fn within_units(alloc: Global, text: &[u8], units: u64) -> Result<Vec<u8>, AllocError>
     ensures { IfOk result (λ part. part.items ≡ within_units units text.now) }
 {
@@ -34,7 +34,7 @@ pub fn within_units(alloc: Global, text: &[u8], units: u64) -> Result<Vec<u8>, A
     Ok(part)
 }
 
-/// How many UTF-16 code units what stands of a text within so many has.
+/// The number of UTF-16 code units of the first part of a text that is within `units` of them.
 pub fn units_within(text: &[u8], units: u64) -> u64
     ensures count { result ≡ count_units (within_units units text.now) }
     ensures bound { result ≤ units }

@@ -1,4 +1,4 @@
--- Where the declaration of a name stands, and what declarations are with one more.
+-- The place of a name's declaration, and declarations with one more.
 use Rattle.std.proofs.Common.{◌≡◌, ◌+◌, suc, ◌||◌, ℕ, Bool, true, false, not, cond, List, [], ◌∷◌, ◌++◌, length, map}
 use Rattle.std.proofs.Common.{Option, Some, None, refl, sym, ap, ◌∙◌, arith}
 use Rattle.std.specs.Prelude.{bytes_eq, position, is_some, slice_get}
@@ -14,7 +14,7 @@ get_behind x xs k =
     let z : 1 + k ≡ suc k = omega arith in
     ap (λ (i : ℕ). slice_get (x ∷ xs) i) z
 
--- what stands at the place of a name is its declaration
+-- the entry at the place of a name is its declaration
 place_get : (n : List ℕ) (ds : List Declaration) →
     slice_get ds (position_or_len (bytes_eq n) (names_of ds)) ≡ declared_as ds n
 place_get n [] = refl
@@ -37,7 +37,7 @@ pub place_found : (ds : List Declaration) (n : List ℕ) (i : ℕ) (d : Declarat
 place_found ds n i d p e =
     sym e ∙ ap (slice_get ds) (found_first (bytes_eq n) (names_of ds) i p) ∙ place_get n ds
 
--- a name without a place has none
+-- a name without a place has no declaration
 pub place_missed : (ds : List Declaration) (n : List ℕ) → None ≡ position (bytes_eq n) (names_of ds) →
     None ≡ declared_as ds n
 place_missed ds n p =

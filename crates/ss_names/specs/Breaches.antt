@@ -1,4 +1,4 @@
--- What a name of a statement breaks of the rules of the checker, as far as the words round it tell.
+-- How a name of a statement breaks the rules of the checker, as far as the words around it show.
 use Rattle.std.specs.Prelude.{ℕ, ◌==◌, ◌&&◌, ◌||◌, Bool, true, false, not, nat_lt, List, [], ◌∷◌, length, map, bytes_eq}
 use Rattle.std.specs.Prelude.{Option, Some, None, is_some, if◌then◌else◌}
 use Rattle.ss_words.specs.declared.reserved.Reserved.{Reserved as AReserved}
@@ -18,28 +18,28 @@ use Rattle.ss_names.specs.declared.position.Position.TheVariants as p
 use Rattle.ss_names.specs.Known.{Knowledge, knowledge_of, knowledge_given}
 use Rattle.ss_names.specs.Meanings.{Declaration, declared_as, may_repeat}
 
--- what a text declares, and what its items say of sets and events
+-- the declarations of a text, and the facts in its items about sets and events
 pub record TextFacts : Type 0 where
-  -- what names are declared as
+  -- the declarations of names
   pub names : List Declaration
-  -- the sets behind OWNS
+  -- the sets after OWNS
   pub owned : List Declaration
-  -- the sets behind BELONGS TO
+  -- the sets after BELONGS TO
   pub joined : List Declaration
   -- the events that have a section
   pub sections : List Declaration
-  -- the names behind PRIORITY ORDER IS
+  -- the names after PRIORITY ORDER IS
   pub ordered : List Declaration
   -- the sets in their DEFINE
   pub disciplines : List Declaration
-  -- the events behind BREAK
+  -- the events after BREAK
   pub ties : List Declaration
-  -- the names behind EXTERNAL EVENTS ARE
+  -- the names after EXTERNAL EVENTS ARE
   pub externals : List Declaration
-  -- of each attribute its class
+  -- the class of each attribute
   pub attributes : List (List ℕ)
 
--- of a text that declares and says nothing
+-- the facts of a text that declares and says nothing
 abbrev pub no_facts : TextFacts
 no_facts = record {
   names = [];
@@ -53,28 +53,28 @@ no_facts = record {
   attributes = [];
 }
 
--- a name where it stands
+-- a name and its place in a statement
 pub record Standpoint : Type 0 where
   -- the name
   pub name : List ℕ
   -- the place of its word among the words of the text
   pub index : ℕ
-  -- how it stands
+  -- its position in its item, head or statement
   pub position : Position
-  -- what it is declared as here, if it is
+  -- its declared meaning here, if it is declared here
   pub declared : Option Meaning
   -- the reserved word that begins its item, head or statement
   pub begun : Option AReserved
-  -- the reserved word behind which it stands, alone or in a list
+  -- the reserved word after which it is, by itself or in a list
   pub last : Option AReserved
-  -- whether a parenthesis is opened directly behind it
+  -- whether a parenthesis is opened directly after it
   pub opens : Bool
-  -- whether it is a parameter that stands again in its head
+  -- whether it is a parameter that occurs again in its head
   pub repeated : Bool
-  -- the class whose attributes are keys here, empty where there is none
+  -- the class whose attributes are keys here, empty if there is none
   pub ranked : List ℕ
 
--- a name of the code where it stands
+-- a name of the code and its place in a statement
 abbrev pub standing_at : CodeStandpoint → Standpoint
 standing_at a = record {
   name = a.name.now;
@@ -88,7 +88,7 @@ standing_at a = record {
   ranked = a.ranked.now;
 }
 
--- the rule beside this code in a table, if it is there
+-- the rule next to this code in a table, if it is there
 abbrev pub rule_beside : List ℕ → List (List ℕ × NameRule) → Option NameRule
 rule_beside code [] = None
 rule_beside code (row ∷ rows) = if bytes_eq row.0 code then Some row.1 else rule_beside code rows
@@ -97,23 +97,23 @@ rule_beside code (row ∷ rows) = if bytes_eq row.0 code then Some row.1 else ru
 unfoldable pub rule_of : List ℕ → Option NameRule
 rule_of code = rule_beside code (map (λ row. (row.0.now, row.1)) NAME_RULES)
 
--- what is wrong, where it is so
+-- this error, if it is so
 abbrev pub where_so : Bool → Wrong → Option Wrong
 where_so true wrong = Some wrong
 where_so false wrong = None
 
--- what a name is
+-- the kind of a name
 abbrev pub known_in : TextFacts → List ℕ → Knowledge
 known_in facts n = knowledge_of facts.names n
 
 -- ---- C1
 
--- declared nowhere
+-- a kind that is declared nowhere
 abbrev pub is_undeclared_as : What → Bool
 is_undeclared_as k.Undeclared = true
 is_undeclared_as _ = false
 
--- declared nowhere
+-- a name that is declared nowhere
 abbrev pub is_undeclared : Knowledge → Bool
 is_undeclared knowledge = is_undeclared_as knowledge.what
 
@@ -126,18 +126,18 @@ repeats first None = false
 abbrev pub is_given : TextFacts → List ℕ → Bool
 is_given facts n = not (is_undeclared (knowledge_given facts.names n))
 
--- what is declared here conflicts with this first declaration of its name
+-- the declaration here conflicts with this first declaration of its name
 abbrev pub conflicts_with : TextFacts → Standpoint → Option Declaration → Bool
 conflicts_with facts standpoint (Some d) =
     if not (d.index == standpoint.index) then not (repeats d.meaning standpoint.declared)
     else is_given facts standpoint.name
 conflicts_with facts standpoint None = false
 
--- a name that is declared here is declared before as what does not go with that, or is given
+-- a name that is declared here has an earlier declaration that does not go with it, or is given
 abbrev pub conflicts : TextFacts → Standpoint → Bool
 conflicts facts standpoint = conflicts_with facts standpoint (declared_as facts.names standpoint.name)
 
--- the first of some places of a name stands before this one
+-- the first of some places of a name is before this one
 abbrev pub stands_before : Standpoint → Option Declaration → Bool
 stands_before standpoint (Some d) = nat_lt d.index standpoint.index
 stands_before standpoint None = false
@@ -152,7 +152,7 @@ abbrev pub is_define : Option AReserved → Bool
 is_define (Some r.Define) = true
 is_define _ = false
 
--- a set stands in its DEFINE here
+-- a set is in its DEFINE here
 abbrev pub is_in_define : Standpoint → Bool
 is_in_define standpoint = is_set_here standpoint.declared && is_define standpoint.last
 
@@ -163,13 +163,13 @@ wrong_declaration facts standpoint = if conflicts facts standpoint
     else where_so (is_in_define standpoint
     && stands_before standpoint (declared_as facts.disciplines standpoint.name)) w.DisciplinedTwice
 
--- a parameter is declared or given, or stands again
+-- a parameter is declared or given, or occurs again
 abbrev pub wrong_parameter : TextFacts → Standpoint → Option Wrong
 wrong_parameter facts standpoint =
     if not (is_undeclared (known_in facts standpoint.name)) then Some w.DeclaredTwice
     else where_so standpoint.repeated w.ParameterTwice
 
--- an event of an item that this word begins: behind BREAK its ties are broken before; it is named external before
+-- an event of the item of this word: BREAK broke its ties before, or EXTERNAL named it before
 abbrev pub wrong_item : TextFacts → Standpoint → Option AReserved → Option Wrong
 wrong_item facts standpoint (Some r.Break) =
     where_so (stands_before standpoint (declared_as facts.ties standpoint.name)) w.BrokenTwice
@@ -177,7 +177,7 @@ wrong_item facts standpoint (Some r.External) =
     where_so (stands_before standpoint (declared_as facts.externals standpoint.name)) w.ExternalTwice
 wrong_item facts standpoint _ = None
 
--- what is wrong with a declaration, a parameter, an event of an item, or an event with a section before
+-- the error of a declaration, a parameter, an item's event, or an event with an earlier section
 abbrev pub second_at : TextFacts → Standpoint → Position → Option Wrong
 second_at facts standpoint p.Declared = wrong_declaration facts standpoint
 second_at facts standpoint p.Local = wrong_parameter facts standpoint
@@ -192,18 +192,18 @@ second_declaration facts standpoint = second_at facts standpoint standpoint.posi
 
 -- ---- C2
 
--- what serves as a class of permanent entities
+-- a kind that serves as a class of permanent entities
 abbrev pub is_permanent : What → Bool
 is_permanent (k.Declared m.Permanent) = true
 is_permanent _ = false
 
--- as a class whose entities can end
+-- a kind that serves as a class whose entities can end
 abbrev pub can_end : What → Bool
 can_end (k.Declared m.Temporary) = true
 can_end (k.Declared m.Event) = true
 can_end _ = false
 
--- as a class of event notices
+-- a kind that serves as a class of event notices
 abbrev pub is_event_class : What → Bool
 is_event_class (k.Declared m.Event) = true
 is_event_class _ = false
@@ -213,7 +213,7 @@ abbrev pub is_headless : What → Bool
 is_headless (k.Declared m.Class) = true
 is_headless _ = false
 
--- what a name is serves where it stands, if a class is needed there
+-- the kind of a name serves at its position, if a class is needed there
 abbrev pub serves : Position → What → Bool
 serves p.PermanentClass what = is_permanent what
 serves p.EndingClass what = can_end what
@@ -256,8 +256,9 @@ owns_none None = false
 abbrev pub is_of_system : TextFacts → List ℕ → Bool
 is_of_system facts s = owns_none (declared_as facts.owned s)
 
--- what may stand before a parenthesis: an attribute, a function, what is kept of members, or of owners that are no
--- system; and a set, since IS EMPTY may stand behind its subscript
+-- a kind that may be before a parenthesis: an attribute, a function, a name that is kept of
+-- members, or one that is kept of owners other than the system; and a set, since IS EMPTY may be
+-- after its subscript
 abbrev pub takes_as : TextFacts → What → List ℕ → Bool
 takes_as facts (k.Declared m.Attribute) of = true
 takes_as facts (k.Declared m.Set) of = true
@@ -266,16 +267,16 @@ takes_as facts k.Function of = true
 takes_as facts k.OfOwners of = not (is_of_system facts of)
 takes_as facts _ of = false
 
--- the same of what a name is
+-- a name whose kind may be before a parenthesis
 abbrev pub takes_subscript : TextFacts → Knowledge → Bool
 takes_subscript facts knowledge = takes_as facts knowledge.what knowledge.of
 
--- a name is no value, or stands before a parenthesis and takes none
+-- a name is no value, or is before a parenthesis and takes no subscript
 abbrev pub is_wrong_value : TextFacts → Knowledge → Bool → Bool
 is_wrong_value facts knowledge opens =
     if opens then not (takes_subscript facts knowledge) else is_valueless knowledge.what
 
--- a name that is this is used as what it is not
+-- a name of this kind is used as another kind
 abbrev pub is_misused_as : TextFacts → Standpoint → Knowledge → Position → Bool
 is_misused_as facts standpoint knowledge p.Routine = not (is_routine knowledge.what)
 is_misused_as facts standpoint knowledge p.InSet =
@@ -300,7 +301,7 @@ abbrev pub is_to : Option AReserved → Bool
 is_to (Some r.To) = true
 is_to _ = false
 
--- of a set with this first OWNS: a second one is wrong; without one it has no owner
+-- the error of a set with this first OWNS: a second one is wrong; without one it has no owner
 abbrev pub wrong_owner_by : Standpoint → Option Declaration → Option Wrong
 wrong_owner_by standpoint (Some d) = where_so (is_owns standpoint.last && nat_lt d.index standpoint.index) w.OwnedTwice
 wrong_owner_by standpoint None = Some w.Ownerless
@@ -311,13 +312,13 @@ wrong_owner facts standpoint =
     if not (is_set_here standpoint.declared) then None
     else wrong_owner_by standpoint (declared_as facts.owned standpoint.name)
 
--- of a set with this first BELONGS TO: that of the system gives no members, and a second one is wrong
+-- the error of a set with this first BELONGS TO: the system's gives no members, a second is wrong
 abbrev pub wrong_joining : Declaration → Standpoint → Option Wrong
 wrong_joining declaration standpoint = if is_no_name declaration.of
     then Some w.Memberless
     else where_so (is_to standpoint.last && nat_lt declaration.index standpoint.index) w.JoinedTwice
 
--- without one it has no members
+-- the error of a set with this first BELONGS TO, if there is one; without one it has no members
 abbrev pub wrong_member_by : Standpoint → Option Declaration → Option Wrong
 wrong_member_by standpoint (Some d) = wrong_joining d standpoint
 wrong_member_by standpoint None = Some w.Memberless
@@ -340,7 +341,7 @@ abbrev pub is_attribute : What → Bool
 is_attribute (k.Declared m.Attribute) = true
 is_attribute _ = false
 
--- what a name is is no attribute of a class
+-- the kind of a name is no attribute of a class
 abbrev pub is_no_attribute_of : List ℕ → Knowledge → Bool
 is_no_attribute_of class knowledge = not (is_attribute knowledge.what) || not (bytes_eq knowledge.of class)
 
@@ -372,12 +373,12 @@ wrong_event_at facts standpoint _ = None
 abbrev pub wrong_event : TextFacts → Standpoint → Option Wrong
 wrong_event facts standpoint = wrong_event_at facts standpoint standpoint.position
 
--- behind PRIORITY ORDER IS
+-- after PRIORITY ORDER IS
 abbrev pub is_ordered : Position → Bool
 is_ordered p.Ordered = true
 is_ordered _ = false
 
--- a name there is no event class, or stands there before
+-- a name there is no event class, or is there before
 abbrev pub wrong_ordered : TextFacts → Standpoint → Option Wrong
 wrong_ordered facts standpoint = if not (is_event facts standpoint.name)
     then Some w.NoEvent
@@ -389,7 +390,7 @@ wrong_priority facts standpoint = if not (is_ordered standpoint.position) then N
 
 -- ---- C9
 
--- has a value and is never assigned
+-- a kind that has a value and is never assigned
 abbrev pub is_kept : What → Bool
 is_kept k.OfOwners = true
 is_kept k.OfMembers = true
@@ -413,7 +414,7 @@ is_variable k.Count = true
 is_variable (k.Declared x) = is_global x
 is_variable _ = false
 
--- what a name is cannot be assigned, or is no variable, where it is a loop's
+-- a name of this kind cannot be assigned; or it is a loop's, and is no variable
 abbrev pub wrong_target_at : What → Position → Option Wrong
 wrong_target_at what p.Target = where_so (is_kept what) w.Fixed
 wrong_target_at what p.LoopVariable = where_so (not (is_variable what)) w.NoVariable
@@ -425,7 +426,7 @@ wrong_target facts standpoint = wrong_target_at (known_in facts standpoint.name)
 
 -- ---- all of them
 
--- what a name breaks of a rule where it stands, if it does
+-- how a name breaks a rule at its place, if it does
 abbrev pub wrong : TextFacts → NameRule → Standpoint → Option Wrong
 wrong facts rule.DeclaredTwice standpoint = second_declaration facts standpoint
 wrong facts rule.WrongClass standpoint = where_so (is_wrong_class facts standpoint) w.WrongClass

@@ -1,4 +1,4 @@
--- What a text declares, and what its items say of sets and events.
+-- The declarations of a text, and the facts in its items about sets and events.
 use Rattle.std.specs.Prelude.{ℕ, Bool, true, false, ◌&&◌, ◌||◌, List, [], ◌∷◌, Option, Some, None, if◌then◌else◌}
 use Rattle.ss_words.specs.declared.mark.Mark.{Mark}
 use Rattle.ss_words.specs.declared.mark.Mark.TheVariants.{Reserved}
@@ -16,7 +16,7 @@ use Rattle.ss_names.specs.declared.values.List.TheVariants as l
 use Rattle.ss_names.specs.Meanings.{Declaration, with_declaration}
 use Rattle.ss_names.specs.Values.{given_count, in_list}
 
--- what a name directly behind this last word is: a set that is owned
+-- the meaning of a name directly after this last word: a set that is owned
 abbrev pub owned_behind : Option AReserved → Option Meaning → Option Meaning
 owned_behind (Some r.Owns) names = names
 owned_behind _ names = None
@@ -31,15 +31,15 @@ abbrev pub section_behind : Option Mark → Option Meaning
 section_behind (Some (Reserved r.Event)) = Some m.Event
 section_behind _ = None
 
--- in the list behind OWNS
+-- in the list after OWNS
 abbrev pub behind_owns : Here → Option Meaning
 behind_owns here = owned_behind here.last here.names
 
--- in the list behind BELONGS TO
+-- in the list after BELONGS TO
 abbrev pub behind_belongs : Here → Option Meaning
 behind_belongs here = joined_behind here.last here.names
 
--- directly behind EVENT
+-- directly after EVENT
 abbrev pub behind_event : Here → Option Meaning
 behind_event here = section_behind here.before
 
@@ -54,7 +54,7 @@ abbrev pub is_define : Option AReserved → Bool
 is_define (Some r.Define) = true
 is_define _ = false
 
--- what is declared, if it is a set
+-- the declared meaning, if it is a set
 abbrev pub set_only : Option Meaning → Option Meaning
 set_only (Some m.Set) = Some m.Set
 set_only _ = None
@@ -68,7 +68,7 @@ abbrev pub ordered_in : Option AReserved → Option Meaning
 ordered_in (Some r.Priority) = Some m.Event
 ordered_in _ = None
 
--- in the list behind PRIORITY ORDER IS
+-- in the list after PRIORITY ORDER IS
 abbrev pub behind_priority : Here → Option Meaning
 behind_priority here = ordered_in here.begun
 
@@ -81,7 +81,7 @@ abbrev pub broken_behind : Option AReserved → Option Meaning
 broken_behind (Some r.Break) = Some m.Event
 broken_behind _ = None
 
--- directly behind BREAK
+-- directly after BREAK
 abbrev pub behind_break : Here → Option Meaning
 behind_break here = broken_behind here.last
 
@@ -90,11 +90,11 @@ abbrev pub external_in : Option AReserved → Option Meaning
 external_in (Some r.External) = Some m.Event
 external_in _ = None
 
--- in the list behind EXTERNAL EVENTS ARE
+-- in the list after EXTERNAL EVENTS ARE
 abbrev pub behind_external : Here → Option Meaning
 behind_external here = external_in here.begun
 
--- what a name is collected as here, if it is wanted
+-- the meaning as which a name is collected here, if it is wanted
 abbrev pub collected_as : Wanted → Here → Option Meaning
 collected_as Declared here = here.names
 collected_as Owned here = behind_owns here
@@ -106,7 +106,7 @@ collected_as Disciplines here = behind_define here
 collected_as Ties here = behind_break here
 collected_as Externals here = behind_external here
 
--- what stands before a word, where a name may begin an assignment
+-- the place of a word, at which a name may begin an assignment
 abbrev pub here_at : Here → PlainAt → Here
 here_at here word =
     elim word.word [ name n ↦ at_name here word.line | number n ↦ here | mark k ↦ here | picture ls ↦ here ]
@@ -116,22 +116,22 @@ abbrev pub is_every : Option AReserved → Bool
 is_every (Some r.Every) = true
 is_every _ = false
 
--- the class of EVERY, or the last set of DEFINE, behind a word: its own, where the word is that
+-- the class of EVERY, or the last set of DEFINE, after a word: the word itself, if it is that
 abbrev pub class_at : Here → List ℕ → PlainAt → List ℕ
 class_at here class word = if is_every here.last || is_define here.last
     then elim word.word [ name n ↦ n | number n ↦ class | mark k ↦ class | picture ls ↦ class ]
     else class
 
--- the class by whose clause a name is declared here, or the set that a key ranks, empty where there is none
+-- the class whose clause declares a name here, or the set that a key ranks; empty if there is none
 abbrev pub class_of : Here → List ℕ → List ℕ
 class_of here class = if is_every here.begun || is_rank here.last then class else []
 
--- how many values a routine is given by its head, before these words; another name 0
+-- how many values the head of a routine is given, before these words; 0 for another name
 abbrev pub head_given : Meaning → List PlainAt → ℕ
 head_given m.Routine ws = given_count ws
 head_given _ ws = 0
 
--- how many values it yields by its head
+-- how many values the head of a routine yields, before these words; 0 for another name
 abbrev pub head_yielded : Meaning → List PlainAt → ℕ
 head_yielded m.Routine ws = in_list l.Yielded ws
 head_yielded _ ws = 0
@@ -148,7 +148,7 @@ declaration here class n word ws meaning = record {
   yielded = head_yielded meaning ws;
 }
 
--- a name put to what is collected, if it is wanted
+-- the collected declarations, with a name put to them if it is wanted
 abbrev pub with_name :
     List Declaration → Wanted → Here → List ℕ → List ℕ → PlainAt → List PlainAt → List Declaration
 with_name ds wanted h class n w ws = elim (collected_as wanted h) [
@@ -156,7 +156,7 @@ with_name ds wanted h class n w ws = elim (collected_as wanted h) [
   | None ↦ ds
 ]
 
--- a word put to it, before these
+-- the collected declarations, with a word put to them, before these words
 abbrev pub with_word : List Declaration → Wanted → Here → List ℕ → PlainAt → List PlainAt → List Declaration
 with_word ds wanted here class word ws = elim word.word [
   | name n ↦ with_name ds wanted here class n word ws
@@ -165,7 +165,7 @@ with_word ds wanted here class word ws = elim word.word [
   | picture ls ↦ ds
 ]
 
--- what is collected behind others of words, the first place of each name
+-- the collected declarations, with the first place of each wanted name among words after others
 unfoldable pub collection : Wanted → List Declaration → Here → List ℕ → List PlainAt → List Declaration
 collection wanted ds here class [] = ds
 collection wanted ds here class (w ∷ ws) =

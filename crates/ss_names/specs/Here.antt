@@ -1,4 +1,5 @@
--- What stands before a word: whether names are declared there, and of which item, head or statement it is.
+-- The place of a word, by the words before it: whether names are declared there, and of which item,
+-- head or statement it is.
 use Rattle.std.specs.Prelude.{ℕ, ◌+◌, ◌-◌, ◌==◌, ◌&&◌, ◌||◌, Bool, true, false, not, nat_lt, List, [], ◌∷◌, Option}
 use Rattle.std.specs.Prelude.{Some, None, if◌then◌else◌}
 use Rattle.ss_words.specs.declared.limits.TheConstants.{MOST_PARENTHESES}
@@ -26,7 +27,7 @@ at_start = record {
   depth = 0;
 }
 
--- ---- where items, heads and statements begin
+-- ---- the beginnings of items, heads and statements
 
 -- a word that begins an item of the preamble, or its END
 abbrev pub begins_item : AReserved → Bool
@@ -88,7 +89,7 @@ begins_control _ = false
 abbrev pub begins_place : AReserved → Bool
 begins_place word = begins_frame word || begins_simple word || begins_control word
 
--- SAVING, behind which EVENT begins nothing
+-- SAVING, after which EVENT begins nothing
 abbrev pub is_saving : Option Mark → Bool
 is_saving (Some (Reserved r.Saving)) = true
 is_saving _ = false
@@ -125,7 +126,7 @@ abbrev pub is_close : ASign → Bool
 is_close s.Close = true
 is_close _ = false
 
--- a statement, phrase or head can end here: with a name, a number, a picture, a parenthesis or such a word
+-- a statement, phrase or head can end here: a name, number, picture, parenthesis or such a word
 abbrev pub ends_statement : Option Mark → Bool
 ends_statement None = true
 ends_statement (Some (Sign x)) = is_close x
@@ -135,7 +136,7 @@ ends_statement (Some (Reserved w)) = ends_form w
 abbrev pub begins_assignment : Here → Bool
 begins_assignment here = not here.in_preamble && here.depth == 0 && ends_statement here.before
 
--- at a name on this line: where it begins an assignment, that has begun
+-- at a name on this line: if it begins an assignment, that has begun
 abbrev pub at_name : Here → ℕ → Here
 at_name here line = if begins_assignment here then record here {
   names = None;
@@ -145,7 +146,7 @@ at_name here line = if begins_assignment here then record here {
   last = Some r.Let;
 } else here
 
--- ---- what names are declared as
+-- ---- the declared meanings of names
 
 -- DEFINE
 abbrev pub is_define : AReserved → Bool
@@ -159,7 +160,7 @@ tells_sets r.Variables = Some false
 tells_sets r.Define = Some false
 tells_sets _ = None
 
--- a DEFINE before these words is of sets: SETS stands among them before VARIABLES and a further DEFINE
+-- a DEFINE before these words is of sets: SETS is among them before VARIABLES and a further DEFINE
 unfoldable pub defines_sets : List PlainAt → Bool
 defines_sets [] = false
 defines_sets (w ∷ ws) = elim w.word [
@@ -178,24 +179,24 @@ opens_preamble r.Preamble b = true
 opens_preamble r.End b = false
 opens_preamble _ b = b
 
--- what EVERY and INCLUDE declare behind a word
+-- the meaning that EVERY and INCLUDE declare after a word
 abbrev pub class_behind : AReserved → Meaning → Meaning
 class_behind r.Permanent c = m.Permanent
 class_behind r.Temporary c = m.Temporary
 class_behind r.Event c = m.Event
 class_behind _ c = c
 
--- behind ROUTINE a routine
+-- after ROUTINE: a routine
 abbrev pub declared_by_head : AReserved → Option Meaning
 declared_by_head r.Routine = Some m.Routine
 declared_by_head _ = None
 
--- behind HAS variables of SYSTEM, and else attributes
+-- after HAS: variables of SYSTEM, and else attributes
 abbrev pub declared_by_has : Option AReserved → Meaning
 declared_by_has (Some r.System) = m.Variable
 declared_by_has _ = m.Attribute
 
--- in a DEFINE sets or variables
+-- in a DEFINE: sets or variables
 abbrev pub declared_by_define : Bool → Meaning
 declared_by_define true = m.Set
 declared_by_define false = m.Variable
@@ -210,23 +211,23 @@ declared_by_item r.To begun c sets = Some m.Set
 declared_by_item r.Define begun c sets = Some (declared_by_define sets)
 declared_by_item _ begun c sets = None
 
--- what names behind a word are declared as
+-- the declared meaning of names after a word
 abbrev pub declared_behind : AReserved → Bool → Option AReserved → Meaning → Bool → Option Meaning
 declared_behind word true begun c sets = declared_by_item word begun c sets
 declared_behind word false begun c sets = declared_by_head word
 
--- one name stands behind EVERY and ROUTINE, and a list behind the others
+-- one name is after EVERY and ROUTINE, and a list is after the others
 abbrev pub names_behind_name : Option Meaning → Option AReserved → Option Meaning
 names_behind_name names (Some r.Every) = None
 names_behind_name names (Some r.Routine) = None
 names_behind_name names _ = names
 
--- the list goes on behind a comma
+-- the list goes on after a comma
 abbrev pub names_behind_sign : Option Meaning → ASign → Option Meaning
 names_behind_sign names s.Comma = names
 names_behind_sign names _ = None
 
--- ---- behind a further word
+-- ---- after a further word
 
 -- how many parentheses are open, up to the most of a text
 abbrev pub depth_behind : ℕ → ASign → ℕ
@@ -234,11 +235,11 @@ depth_behind d s.Open = if nat_lt d MOST_PARENTHESES then d + 1 else d
 depth_behind d s.Close = d - 1
 depth_behind d _ = d
 
--- behind a name
+-- after a name
 abbrev pub behind_name : Here → Here
 behind_name here = record here { names = names_behind_name here.names here.last; before = None }
 
--- behind a sign
+-- after a sign
 abbrev pub behind_sign : Here → ASign → Here
 behind_sign here x = record here {
   names = names_behind_sign here.names x;
@@ -246,7 +247,7 @@ behind_sign here x = record here {
   depth = depth_behind here.depth x;
 }
 
--- behind a reserved word on this line, a DEFINE being of sets or not
+-- after a reserved word on this line, a DEFINE being of sets or not
 abbrev pub behind_reserved : Here → AReserved → ℕ → Bool → Here
 behind_reserved here word line sets =
     let starts = begins word here.in_preamble here.before in
@@ -263,12 +264,12 @@ behind_reserved here word line sets =
       depth = if starts then 0 else here.depth;
     }
 
--- behind a reserved word or sign on this line, before these words
+-- after a reserved word or sign on this line, before these words
 abbrev pub behind_mark : Here → Mark → ℕ → List PlainAt → Here
 behind_mark here (Sign x) line ws = behind_sign here x
 behind_mark here (Reserved w) line ws = behind_reserved here w line (is_define w && defines_sets ws)
 
--- behind a word on this line, before these words
+-- after a word on this line, before these words
 abbrev pub behind : Here → Plain → ℕ → List PlainAt → Here
 behind here (name n) line ws = behind_name here
 behind here (number n) line ws = record here { before = None }

@@ -1,4 +1,4 @@
--- Where the names of a model stand.
+-- The names of a model, and the places at which they occur.
 use Rattle.std.specs.Prelude.{ℕ, Bool, true, false, ◌==◌, ◌&&◌, nat_lt, if◌then◌else◌, List, [], ◌∷◌, ◌++◌, codes}
 use Rattle.std.specs.Prelude.{decimal, count_by, bytes_eq, Ok, Err}
 use Rattle.ss_words.specs.Plain.{PlainAt, name, number, mark, picture}
@@ -15,20 +15,20 @@ use Rattle.ss_names.specs.Names.{names_in}
 use Rattle.ss_names.specs.Roles.{at_start, lines_with, names_with}
 use Rattle.ss_names.specs.Unread.{is_only}
 
--- a name, how often it stands, and the line on which it stands first
+-- a name, how often it occurs, and the line of its first place
 abbrev pub name_line : List ℕ → ℕ → ℕ → List ℕ
 name_line n count line = n ++ codes ": " ++ decimal count ++ codes ", first on line " ++ decimal line ++ codes "\n"
 
--- a name, of those to be shown, stands here first
+-- a name, one of those to be shown, occurs here first
 unfoldable pub is_shown : List (List ℕ) → List (List ℕ) → List ℕ → Bool
 is_shown shown before n = count_by (bytes_eq n) before == 0 && nat_lt 0 (count_by (bytes_eq n) shown)
 
--- the row of a name that stands on this line behind names, of all names, if it is shown
+-- the row of a name on this line, after the names `before`, if it is shown; `all` are all names
 abbrev pub name_row : List (List ℕ) → List (List ℕ) → List (List ℕ) → List ℕ → ℕ → List ℕ
 name_row all shown before n line =
     elim (is_shown shown before n) [ true ↦ name_line n (count_by (bytes_eq n) all) line | false ↦ [] ]
 
--- the rows of those among words behind names, of all names, that are to be shown
+-- the rows of the names to be shown among words, after the names `before`; `all` are all names
 unfoldable pub name_rows : List (List ℕ) → List (List ℕ) → List (List ℕ) → List PlainAt → List ℕ
 name_rows all shown before [] = []
 name_rows all shown before (w ∷ ws) = elim w.word [
@@ -55,17 +55,17 @@ names_on_line line ws =
     let plain = plain_words_of ws in
     name_rows (names_in plain) (names_in (words_on line plain)) [] plain
 
--- the names of a model, each once, in the order in which they stand first; none where a rule L refuses it
+-- the names of a model, each once, in the order of first places; none if a rule L refuses it
 abbrev pub names_text : List ℕ → List ℕ
 names_text model = elim (words_of model) [ Ok ws ↦ names_of_words ws | Err f ↦ [] ]
 
--- the names on a line of a model, in the order in which they stand first in it; none where a rule L refuses it
+-- the names on a line of a model, in the order of first places in it; none if a rule L refuses it
 abbrev pub line_text : List ℕ → ℕ → List ℕ
 line_text model line = elim (words_of model) [ Ok ws ↦ names_on_line line ws | Err f ↦ [] ]
 
 -- ---- one name
 
--- lines behind what is said of them; nothing where there is none
+-- lines after the text about them; nothing if there is none
 abbrev pub if_any : List ℕ → List ℕ → List ℕ
 if_any said [] = []
 if_any said (b ∷ bs) = said ++ b ∷ bs
@@ -74,29 +74,29 @@ if_any said (b ∷ bs) = said ++ b ∷ bs
 unfoldable pub role_part : List PlainAt → List ℕ → Role → List ℕ → List ℕ
 role_part plain n role said = if_any said (lines_with role n at_start plain)
 
--- a remark, where it is so
+-- a remark, if it is so
 unfoldable pub remark : Bool → List ℕ → List ℕ
 remark true said = said
 remark false said = []
 
--- whether the words use a name in one way alone, but that they declare it
+-- whether the words use a name in one way only, but that they declare it
 unfoldable pub only_with : List PlainAt → List ℕ → Role → Bool
 only_with plain n role =
     is_only (names_in plain) (names_with Declared at_start plain) (names_with role at_start plain) n
 
--- a name, and how often it stands
+-- a name, and how often it occurs
 abbrev pub name_head : List ℕ → ℕ → List ℕ
 name_head n count = n ++ codes ": " ++ decimal count
 
--- what it is, and where it is declared
+-- its kind, and the line of its declaration
 abbrev pub what_told : List PlainAt → List ℕ → List ℕ
 what_told plain n = codes ", " ++ known_text (knowledge_of (collection wanted.Declared [] here.at_start [] plain) n)
 
--- a name, how often it stands, and what it is
+-- a name, how often it occurs, and its kind
 unfoldable pub name_front : List PlainAt → List ℕ → ℕ → List ℕ
 name_front plain n count = name_head n count ++ what_told plain n
 
--- where it has each role
+-- the lines on which it has each role
 abbrev pub roles_told : List PlainAt → List ℕ → List ℕ
 roles_told plain n =
     role_part plain n Declared (codes ", declared on")
@@ -104,35 +104,35 @@ roles_told plain n =
     ++ role_part plain n Read (codes ", read on")
     ++ role_part plain n Named (codes ", named on")
 
--- that it stands once
+-- the remark that it occurs once
 unfoldable pub once_remark : ℕ → List ℕ
 once_remark count = remark (count == 1) (codes ", ONLY ONCE")
 
--- that it is used in one way alone
+-- the remark that it is used in one way only
 unfoldable pub only_remark : List PlainAt → List ℕ → Role → List ℕ → List ℕ
 only_remark plain n role said = remark (only_with plain n role) said
 
--- what is remarkable of it
+-- the remarks about it
 abbrev pub remarks : List PlainAt → List ℕ → ℕ → List ℕ
 remarks plain n count =
     once_remark count
     ++ only_remark plain n Read (codes ", NEVER SET")
     ++ only_remark plain n Set (codes ", NEVER READ")
 
--- what is told of a name that stands so often
+-- the report on a name that occurs `count` times
 abbrev pub told_of_name : List PlainAt → List ℕ → ℕ → List ℕ
 told_of_name plain n count =
     name_front plain n count ++ roles_told plain n ++ remarks plain n count ++ codes "\n"
 
--- that there is no such name
+-- the report that there is no such name
 abbrev pub no_name : List ℕ → List ℕ
 no_name n = codes "NO NAME " ++ n ++ codes "\n"
 
--- what is told of a name of these words
+-- the report on a name of these words
 abbrev pub name_told : List PlainAt → List ℕ → List ℕ
 name_told plain n = let count = count_by (bytes_eq n) (names_in plain) in
     elim (count == 0) [ true ↦ no_name n | false ↦ told_of_name plain n count ]
 
--- what is told of a name of a model; nothing where a rule L refuses it
+-- the report on a name of a model; nothing if a rule L refuses the model
 abbrev pub name_text : List ℕ → List ℕ → List ℕ
 name_text model n = elim (words_of model) [ Ok ws ↦ name_told (plain_words_of ws) n | Err f ↦ [] ]

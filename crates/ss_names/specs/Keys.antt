@@ -16,11 +16,11 @@ abbrev pub is_end : Option Mark → Bool
 is_end (Some (Reserved r.End)) = true
 is_end _ = false
 
--- the section behind a word, told by the place of the END before it
+-- the section after a word, given by the place of the END before it
 abbrev pub section_behind : ℕ → PlainAt → ℕ
 section_behind section word = if is_end (mark_in word.word) then word.index else section
 
--- what a name is counted as: itself where it is declared, else with its section before it
+-- the key of a name: the name itself if it is declared, else with its section before it
 abbrev pub key : List Declaration → ℕ → List ℕ → List ℕ
 key ds section n = if is_some (declared_as ds n) then n else decimal section ++ 32 ∷ n
 
@@ -29,7 +29,7 @@ abbrev pub is_counted : Option Role → Standing → Bool
 is_counted (Some role) standing = same_role (role_at standing) role
 is_counted None standing = true
 
--- what each name with a role among words is counted as, or each name, behind others
+-- the key of each name with a role among words, or of each name, after others
 unfoldable pub keys_with : List Declaration → Option Role → ℕ → Standing → List PlainAt → List (List ℕ)
 keys_with ds role section standing [] = []
 keys_with ds role section standing (w ∷ ws) =

@@ -1,4 +1,4 @@
--- What a name is, as it is told.
+-- The kind of a name, and the text that says it.
 use Rattle.std.specs.Prelude.{ℕ, ◌==◌, Bool, true, false, nat_lt, List, [], ◌++◌, length, map, take, drop, codes}
 use Rattle.std.specs.Prelude.{decimal, Option, Some, None, if◌then◌else◌}
 use Rattle.ss_columns.specs.Reserved.{is_among}
@@ -10,16 +10,16 @@ use Rattle.ss_names.specs.declared.meaning.Meaning.{Meaning}
 use Rattle.ss_names.specs.declared.meaning.Meaning.TheVariants as m
 use Rattle.ss_names.specs.Meanings.{Declaration, declared_as}
 
--- what a name is, of which class or set, and the line of the declaration, 0 where there is none
+-- the kind of a name, its class or set, and the line of the declaration, 0 if there is none
 pub record Knowledge : Type 0 where
-  -- what it is
+  -- its kind
   pub what : What
-  -- of which class or set
+  -- its class or set
   pub of : List ℕ
   -- the line of the declaration
   pub line : ℕ
 
--- what the code knows of a name
+-- the knowledge of the code about a name
 abbrev pub known_at : Known → Knowledge
 known_at a = record { what = a.what; of = a.of.now; line = a.line }
 
@@ -56,27 +56,27 @@ abbrev pub companion_by : List ℕ → Option Declaration → Knowledge
 companion_by front (Some d) = companion_of front d
 companion_by front None = no_knowledge
 
--- a name that begins as those do that are kept of a set or class
+-- a name that begins like the names that are kept of a set or class
 abbrev pub companion : List Declaration → List ℕ → Knowledge
 companion ds n = if nat_lt (length n) 3 then no_knowledge else companion_by (take 2 n) (declared_as ds (drop 2 n))
 
--- what the language, a set or a class gives a name, whatever else it is declared as
+-- the kind that the language, a set or a class gives a name, whatever else it is declared as
 abbrev pub knowledge_given : List Declaration → List ℕ → Knowledge
 knowledge_given ds n = if is_among n (map (λ row. row.now) CLOCK) then of_language k.Clock else
     if is_among n (map (λ row. row.now) FUNCTIONS) then of_language k.Function else companion ds n
 
--- by its own declaration, if it has one, and else by what is given
+-- the kind by a name's own declaration, if it has one, and else the given kind
 abbrev pub known_by : List Declaration → List ℕ → Option Declaration → Knowledge
 known_by ds n (Some d) = record { what = k.Declared d.meaning; of = d.of; line = d.line }
 known_by ds n None = knowledge_given ds n
 
--- what a name is
+-- the kind of a name
 abbrev pub knowledge_of : List Declaration → List ℕ → Knowledge
 knowledge_of ds n = known_by ds n (declared_as ds n)
 
--- ---- as it is told
+-- ---- the text about a name
 
--- what a meaning is called
+-- the text for a meaning
 abbrev pub meaning_text : Meaning → List ℕ
 meaning_text m.Class = codes "a class under no heading"
 meaning_text m.Permanent = codes "a class of permanent entities"
@@ -87,7 +87,7 @@ meaning_text m.Variable = codes "a variable"
 meaning_text m.Set = codes "a set"
 meaning_text m.Routine = codes "a routine"
 
--- what a name is called, before what it is of
+-- the text for a kind, before its class or set
 abbrev pub what_text : What → List ℕ
 what_text k.Undeclared = codes "declared nowhere"
 what_text (k.Declared x) = meaning_text x
@@ -97,7 +97,7 @@ what_text k.Count = codes "the count of the class "
 what_text k.Clock = codes "the clock"
 what_text k.Function = codes "a function of the language"
 
--- an attribute is of a class, what is kept of a set or class
+-- the kinds whose text gives a class or set: an attribute, and a name kept of a set or class
 abbrev pub tells_of : What → Bool
 tells_of (k.Declared m.Attribute) = true
 tells_of k.OfOwners = true
@@ -105,7 +105,7 @@ tells_of k.OfMembers = true
 tells_of k.Count = true
 tells_of _ = false
 
--- of which class or set it is
+-- the class or set of a name, if its text gives one
 abbrev pub of_text : Bool → List ℕ → List ℕ
 of_text true of = of
 of_text false of = []
@@ -114,7 +114,7 @@ of_text false of = []
 abbrev pub line_text : ℕ → List ℕ
 line_text line = if line == 0 then [] else codes ", line " ++ decimal line
 
--- what a name is, of which class or set, and where that is declared
+-- the kind of a name, its class or set, and the line of its declaration
 abbrev pub known_text : Knowledge → List ℕ
 known_text knowledge =
     what_text knowledge.what ++ of_text (tells_of knowledge.what) knowledge.of ++ line_text knowledge.line

@@ -1,3 +1,4 @@
+-- The definitions of this crate's calls: names, their kinds and roles, warnings, and breaches.
 pub mod Names
 pub mod Saying
 pub mod Roles

@@ -1,25 +1,25 @@
--- What names are declared as.
+-- The meanings with which names are declared, and lists of declarations.
 use Rattle.std.specs.Prelude.{ℕ, Bool, true, false, List, [], ◌∷◌, ◌++◌, map, bytes_eq, Option, Some, None, is_some}
 use Rattle.std.specs.Prelude.{if◌then◌else◌}
 use Rattle.ss_names.specs.declared.meaning.Meaning.{Meaning}
 use Rattle.ss_names.specs.declared.meaning.Meaning.TheVariants as m
 use Rattle.ss_names.specs.declared.meaning.Row.{Row}
 
--- a name, what it is declared as, and where
+-- a name, its declared meaning, and its place
 pub record Declaration : Type 0 where
   -- the name
   pub name : List ℕ
-  -- what it is declared as
+  -- its declared meaning
   pub meaning : Meaning
-  -- the class of EVERY by whose clause it is declared, empty where there is none
+  -- the class of EVERY by whose clause it is declared, empty if there is none
   pub of : List ℕ
   -- its line
   pub line : ℕ
   -- the place of its word among the words of the text
   pub index : ℕ
-  -- of a routine how many values its head is given, of another name 0
+  -- how many values the head of a routine is given, 0 for another name
   pub given : ℕ
-  -- the same of those that it yields
+  -- how many values the head of a routine yields, 0 for another name
   pub yielded : ℕ
 
 -- a declaration of the code
@@ -38,7 +38,7 @@ declaration_at row = record {
 abbrev pub names_of : List Declaration → List (List ℕ)
 names_of ds = map (λ d. d.name) ds
 
--- two declarations of a name may stand side by side: of one set, or of classes under one kind of heading
+-- a name may have two declarations: of one set, or of classes under one kind of heading
 abbrev pub may_repeat : Meaning → Meaning → Bool
 may_repeat m.Set m.Set = true
 may_repeat m.Class m.Class = true
@@ -61,7 +61,7 @@ abbrev pub is_attribute : Meaning → Bool
 is_attribute m.Attribute = true
 is_attribute _ = false
 
--- of each attribute its class
+-- the class of each attribute
 unfoldable pub attribute_classes : List Declaration → List (List ℕ)
 attribute_classes [] = []
 attribute_classes (d ∷ ds) = if is_attribute d.meaning then d.of ∷ attribute_classes ds else attribute_classes ds

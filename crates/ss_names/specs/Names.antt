@@ -10,11 +10,11 @@ is_companion [] = false
 is_companion (b ∷ []) = false
 is_companion (b ∷ c ∷ bs) = is_among (b ∷ c ∷ []) (map (λ row. row.now) COMPANIONS)
 
--- the language gives this name: the clock, a function, or what is kept of a class or a set
+-- the language gives this name: the clock, a function, or a name that is kept of a class or a set
 unfoldable pub is_of_language : List ℕ → Bool
 is_of_language n = is_among n (map (λ row. row.now) LANGUAGE_NAMES) || is_companion n
 
--- the names among plain words, in their order, as often as they stand
+-- the names among plain words, in their order, as often as they occur
 unfoldable pub names_in : List PlainAt → List (List ℕ)
 names_in [] = []
 names_in (w ∷ ws) = elim w.word [

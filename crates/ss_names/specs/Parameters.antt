@@ -1,4 +1,4 @@
--- Parameters that stand twice in the head of a section.
+-- Parameters that occur twice in the head of a section.
 use Rattle.std.specs.Prelude.{ℕ, ◌&&◌, ◌||◌, Bool, true, false, not, List, [], ◌∷◌, bytes_eq, Option, Some}
 use Rattle.ss_words.specs.declared.mark.Mark.{Mark}
 use Rattle.ss_words.specs.declared.mark.Mark.TheVariants.{Reserved, Sign}
@@ -17,12 +17,12 @@ goes_on (Reserved r.Given) = true
 goes_on (Reserved r.Yielding) = true
 goes_on _ = false
 
--- no name of the list stands behind a closing parenthesis
+-- no name of the list is after a closing parenthesis
 abbrev pub closes : Mark → Bool
 closes (Sign s.Close) = true
 closes _ = false
 
--- a parameter stands again among words, where a name of its list may stand or not
+-- a parameter occurs again among words, whose first may be a name of its list or not
 unfoldable pub stands_again : List ℕ → Bool → List PlainAt → Bool
 stands_again told may_stand [] = false
 stands_again told may_stand (w ∷ ws) = elim w.word [
@@ -38,6 +38,6 @@ is_head (Some r.Routine) = true
 is_head (Some r.Event) = true
 is_head _ = false
 
--- a name here is a parameter that stands again in its head, before these words
+-- a name here is a parameter that occurs again in its head, before these words
 abbrev pub is_repeated : Here → List ℕ → List PlainAt → Bool
 is_repeated here n ws = not here.in_preamble && is_head here.begun && stands_again n false ws

@@ -20,7 +20,7 @@ abbrev pub is_thus : Option Mark → Bool
 is_thus (Some (Reserved r.Thus)) = true
 is_thus _ = false
 
--- how many values a PRINT has before these words: those of the list behind WITH, before THUS
+-- how many values a PRINT has before these words: those of the list after WITH, before THUS
 unfoldable pub value_count : List PlainAt → ℕ
 value_count [] = 0
 value_count (w ∷ ws) = let j = mark_in w.word in
@@ -40,9 +40,9 @@ first_picture (w ∷ ws) = elim w.word [
 abbrev pub fields_in : List (List ℕ) → Option ℕ
 fields_in ls = if has_decimal_field ls then None else Some (field_count ls)
 
--- what is said of values and fields
+-- the text about values and fields
 abbrev pub picture_text : ℕ → Option ℕ → List ℕ
-picture_text values None = codes "A field of the picture has decimals: a stop stands between two asterisks.\n"
+picture_text values None = codes "A field of the picture has decimals: a stop is between two asterisks.\n"
 picture_text values (Some fields) =
     number_text (codes "Values: ") values (codes ". ")
     ++ number_text (codes "Fields of the picture: ") fields (codes ".\n")

@@ -1,4 +1,4 @@
--- How a name stands in its item, head or statement, by the words round it.
+-- The position of a name in its item, head or statement, by the words around it.
 use Rattle.std.specs.Prelude.{◌==◌, ◌&&◌, ◌||◌, Bool, true, false, not, is_some, List, [], ◌∷◌, Option, Some, None}
 use Rattle.std.specs.Prelude.{if◌then◌else◌}
 use Rattle.ss_words.specs.declared.mark.Mark.{Mark}
@@ -12,14 +12,14 @@ use Rattle.ss_names.specs.declared.here.Here.{Here}
 use Rattle.ss_names.specs.declared.position.Position.{Position}
 use Rattle.ss_names.specs.declared.position.Position.TheVariants as p
 
--- ---- what stands behind a name
+-- ---- the words after a name
 
 -- the reserved word or sign that words begin with
 abbrev pub first_mark : List PlainAt → Option Mark
 first_mark [] = None
 first_mark (w ∷ ws) = mark_in w.word
 
--- the words behind the first
+-- the words after the first
 abbrev pub behind_first : List PlainAt → List PlainAt
 behind_first [] = []
 behind_first (w ∷ ws) = ws
@@ -60,14 +60,14 @@ asks_empty ws =
     is_is (first_mark ws)
     && (is_empty (first_mark behind) || (is_not (first_mark behind) && is_empty (first_mark (behind_first behind))))
 
--- ---- directly behind a word
+-- ---- directly after a word
 
--- TO: what ADD adds to
+-- TO: the name to which ADD adds
 abbrev pub behind_to : Option AReserved → Position
 behind_to (Some r.Add) = p.Target
 behind_to _ = p.Value
 
--- FROM: what SUBTRACT takes from, or the set of REMOVE
+-- FROM: the name from which SUBTRACT takes, or the set of REMOVE
 abbrev pub behind_from : Option AReserved → Position
 behind_from (Some r.Subtract) = p.Target
 behind_from (Some r.Remove) = p.InSet
@@ -85,19 +85,19 @@ abbrev pub behind_every : Option AReserved → Bool → Position
 behind_every (Some r.For) true = p.LoopVariable
 behind_every _ before_in = p.PermanentClass
 
--- CALLED: a loop's variable, or what CREATE and SCHEDULE assign
+-- CALLED: a loop's variable, or the name that CREATE and SCHEDULE assign
 abbrev pub behind_called : Option AReserved → Position
 behind_called (Some r.For) = p.LoopVariable
 behind_called (Some r.Create) = p.Target
 behind_called (Some r.Schedule) = p.Target
 behind_called _ = p.Value
 
--- FIRST or LAST: what REMOVE assigns
+-- FIRST or LAST: the name that REMOVE assigns
 abbrev pub behind_end : Option AReserved → Position
 behind_end (Some r.Remove) = p.Target
 behind_end _ = p.Value
 
--- a reserved word of a statement that begins with another; whether IN stands behind the name
+-- a reserved word of a statement that begins with another; whether IN is after the name
 abbrev pub behind_word : AReserved → Option AReserved → Bool → Position
 behind_word r.Let begun before_in = p.Target
 behind_word r.Read begun before_in = p.Target
@@ -144,7 +144,7 @@ abbrev pub is_of : Option AReserved → Bool
 is_of (Some r.In) = true
 is_of _ = false
 
--- a comma at the top of a statement: the lists of READ, of a CALL's YIELDING, of COMPUTE before OF are assigned
+-- a comma at the top of a statement: READ, a CALL's YIELDING, and COMPUTE before OF assign lists
 abbrev pub in_list : Option AReserved → Option AReserved → Position
 in_list begun last =
     if is_read begun || (is_call begun && is_yielding last) || (is_compute begun && not (is_of last))
@@ -153,7 +153,7 @@ in_list begun last =
 
 -- ---- in items, heads and statements
 
--- in a statement, behind this word or sign
+-- in a statement, after this word or sign
 abbrev pub behind_mark : Here → Option Mark → Bool → Position
 behind_mark here (Some (Reserved w)) before_in = behind_word w here.begun before_in
 behind_mark here (Some (Sign s.Comma)) before_in = if here.depth == 0 then in_list here.begun here.last else p.Value
@@ -178,7 +178,7 @@ abbrev pub in_break : Option AReserved → Position
 in_break (Some r.Break) = p.EventClass
 in_break _ = p.Key
 
--- in what this word begins, before these words
+-- in the item, head or statement that this word begins, before these words
 abbrev pub in_begun : Here → Option AReserved → List PlainAt → Position
 in_begun here (Some r.Routine) ws = in_head here.before
 in_begun here (Some r.Event) ws = in_head here.before
@@ -188,6 +188,6 @@ in_begun here (Some r.External) ws = p.EventClass
 in_begun here (Some r.Priority) ws = p.Ordered
 in_begun here _ ws = in_statement here ws
 
--- how a name stands here, before these words
+-- the position of a name here, before these words
 abbrev pub position : Here → List PlainAt → Position
 position here ws = if is_some here.names then p.Declared else in_begun here here.begun ws

@@ -1,4 +1,4 @@
--- Keys of ranked sets that are set of an entity behind its FILE.
+-- Keys of ranked sets that are set for an entity after its FILE.
 use Rattle.std.specs.Prelude.{ℕ, ◌==◌, ◌&&◌, ◌||◌, Bool, true, false, not, List, [], ◌∷◌, ◌++◌, length}
 use Rattle.std.specs.Prelude.{bytes_eq, Option, Some, None, if◌then◌else◌}
 use Rattle.ss_words.specs.declared.mark.Mark.{Mark}
@@ -17,16 +17,16 @@ use Rattle.ss_names.specs.Meanings.{Declaration, declared_as}
 use Rattle.ss_names.specs.Positions.{opens, position}
 use Rattle.ss_names.specs.Saying.{warning_line}
 
--- ---- what was filed last
+-- ---- the entity that was filed last
 
--- directly behind FILE, FIRST or LAST
+-- directly after FILE, FIRST or LAST
 abbrev pub is_file_end : Option Mark → Bool
 is_file_end (Some (Reserved r.File)) = true
 is_file_end (Some (Reserved r.First)) = true
 is_file_end (Some (Reserved r.Last)) = true
 is_file_end _ = false
 
--- directly behind IN
+-- directly after IN
 abbrev pub is_behind_in : Option Mark → Bool
 is_behind_in (Some (Reserved r.In)) = true
 is_behind_in _ = false
@@ -36,7 +36,7 @@ abbrev pub is_file : Option AReserved → Bool
 is_file (Some r.File) = true
 is_file _ = false
 
--- a name here is what FILE files
+-- a name here is the entity that FILE files
 abbrev pub is_member : Here → Bool
 is_member here = is_file here.begun && is_file_end here.before
 
@@ -44,7 +44,7 @@ is_member here = is_file here.begun && is_file_end here.before
 abbrev pub is_filed_set : Here → Bool
 is_filed_set here = is_file here.begun && is_behind_in here.before
 
--- a REMOVE, and the end of a branch, a loop or a section, end what is known of a FILE
+-- a REMOVE, and the end of a branch, a loop or a section, end the knowledge of a FILE
 abbrev pub forgets : AReserved → Bool
 forgets r.Remove = true
 forgets r.Else = true
@@ -53,12 +53,12 @@ forgets r.Loop = true
 forgets r.End = true
 forgets _ = false
 
--- the same of a reserved word or sign, if there is one
+-- a reserved word or sign, if there is one, ends the knowledge of a FILE
 abbrev pub forgets_at : Option Mark → Bool
 forgets_at (Some (Reserved w)) = forgets w
 forgets_at _ = false
 
--- the same of a word
+-- a word ends the knowledge of a FILE
 abbrev pub is_forgetting : PlainAt → Bool
 is_forgetting word = forgets_at (mark_in word.word)
 
@@ -66,19 +66,19 @@ is_forgetting word = forgets_at (mark_in word.word)
 abbrev pub name_or : PlainAt → List ℕ → List ℕ
 name_or word ns = elim word.word [ name n ↦ n | number n ↦ ns | mark j ↦ ns | picture ls ↦ ns ]
 
--- the name of the member that was filed last, behind a word, empty where none was
+-- the name of the member that was filed last, after a word, empty if none was
 abbrev pub member_behind : List ℕ → Here → PlainAt → List ℕ
 member_behind member here word =
     if is_forgetting word then [] else if is_member here then name_or word member else member
 
--- the name of the set into which it was filed, behind a word, empty where none is named yet
+-- the name of the set into which it was filed, after a word, empty if none is named yet
 abbrev pub set_behind : List ℕ → Here → PlainAt → List ℕ
 set_behind set here word =
     if is_forgetting word || is_member here then [] else if is_filed_set here then name_or word set else set
 
 -- ---- the entity of an attribute
 
--- the name directly behind the first word, empty where there is none
+-- the name directly after the first word, empty if there is none
 abbrev pub subscript : List PlainAt → List ℕ
 subscript [] = []
 subscript (v ∷ []) = []
@@ -89,7 +89,7 @@ abbrev pub class_in : Option Declaration → List ℕ
 class_in (Some d) = d.of
 class_in None = []
 
--- its subscript where that begins with a name, or its class where it has none
+-- its subscript if that begins with a name, or its class if it has none
 abbrev pub entity : List Declaration → List ℕ → List PlainAt → List ℕ
 entity names n ws = if opens ws then subscript ws else class_in (declared_as names n)
 
@@ -109,18 +109,18 @@ abbrev pub is_target : Position → Bool
 is_target p.Target = true
 is_target _ = false
 
--- a name is a key that is set of an entity behind its FILE
+-- a name is a key that is set for an entity after its FILE
 abbrev pub is_told : List Declaration → List Declaration → List ℕ → List ℕ → Here → List ℕ → List PlainAt → Bool
 is_told names keys member set here n ws =
     is_target (position here ws) && not (length set == 0) && ranks keys n set && bytes_eq (entity names n ws) member
 
--- what is said of a name
+-- the warning about a name, if it is such a key
 abbrev pub ranked_name :
     List Declaration → List Declaration → List ℕ → List ℕ → Here → List ℕ → ℕ → List PlainAt → List ℕ
 ranked_name names keys member set h n line ws =
     elim (is_told names keys member set h n ws) [ true ↦ warning_line line n RANKED.now | false ↦ [] ]
 
--- what is said of a word
+-- the warning about a word, if it is such a key
 abbrev pub ranked_word :
     List Declaration → List Declaration → List ℕ → List ℕ → Here → PlainAt → List PlainAt → List ℕ
 ranked_word names keys member set h w ws = elim w.word [
@@ -130,8 +130,8 @@ ranked_word names keys member set h w ws = elim w.word [
   | picture ls ↦ []
 ]
 
--- each key among words that is set of an entity behind its FILE, with its line; behind others, the last of which filed
--- this member into this set
+-- each key among words that is set for an entity after its FILE, with its line. The words are after
+-- others, the last of which filed this member into this set
 unfoldable pub ranked_text :
     List Declaration → List Declaration → List ℕ → List ℕ → Here → List PlainAt → List ℕ
 ranked_text names keys member set h [] = []

@@ -1,4 +1,4 @@
--- How a name is used, as far as the words directly before it tell.
+-- How a name is used, as far as the words directly before it show.
 use Rattle.std.specs.Prelude.{ℕ, Bool, true, false, List, [], ◌∷◌, ◌++◌, Option, Some, None, decimal}
 use Rattle.std.specs.Prelude.{bytes_eq, ◌&&◌, ◌||◌}
 use Rattle.ss_words.specs.declared.mark.Mark.{Mark}
@@ -12,7 +12,7 @@ use Rattle.ss_names.specs.declared.roles.Role.{Role}
 use Rattle.ss_names.specs.declared.roles.Role.TheVariants.{Declared, Set, Read, Named}
 use Rattle.ss_names.specs.declared.roles.Standing.{Standing}
 
--- ---- what stands before a word
+-- ---- the words before a word
 
 -- at the start of the text
 abbrev pub at_start : Standing
@@ -28,14 +28,14 @@ abbrev pub is_has : AReserved → Bool
 is_has r.Has = true
 is_has _ = false
 
--- whether a CALL is open behind this word: YIELDING then yields, and in a head it declares
+-- whether a CALL is open after this word: YIELDING then yields, and in a head it declares
 abbrev pub calls : AReserved → Bool → Bool
 calls r.Call b = true
 calls r.Routine b = false
 calls r.Event b = false
 calls _ b = b
 
--- behind a reserved word or a sign; DEFINE and HAS are open up to the next reserved word
+-- after a reserved word or a sign; DEFINE and HAS are open up to the next reserved word
 abbrev pub behind_mark : Standing → Mark → Standing
 behind_mark standing (Sign x) =
     record {
@@ -51,15 +51,15 @@ behind_mark standing (Reserved w) = record {
   in_call = calls w standing.in_call;
 }
 
--- behind a word
+-- after a word
 abbrev pub behind : Standing → Option Mark → Standing
 behind standing None =
     record { before = None; in_define = standing.in_define; in_has = standing.in_has; in_call = standing.in_call }
 behind standing (Some m) = behind_mark standing m
 
--- ---- what a name is there
+-- ---- the role of a name there
 
--- a reserved word that sets the name directly behind it
+-- a reserved word that sets the name directly after it
 abbrev pub sets_name : AReserved → Bool → Bool
 sets_name r.Let in_call = true
 sets_name r.Read in_call = true
@@ -67,7 +67,7 @@ sets_name r.Compute in_call = true
 sets_name r.Yielding in_call = in_call
 sets_name _ in_call = false
 
--- one behind which a name is read
+-- a reserved word after which a name is read
 abbrev pub reads_name : AReserved → Bool
 reads_name r.Ne = true
 reads_name r.If = true
@@ -79,7 +79,7 @@ reads_name r.Or = true
 reads_name r.And = true
 reads_name _ = false
 
--- a sign behind which a name is read
+-- a sign after which a name is read
 abbrev pub sign_reads : ASign → Bool
 sign_reads s.Open = false
 sign_reads s.Close = false
@@ -96,13 +96,13 @@ abbrev pub set_or : Bool → Role → Role
 set_or true other = Set
 set_or false other = other
 
--- directly behind a mark, if one stands there
+-- the role directly after a mark, if one is there
 abbrev pub role_behind : Bool → Option Mark → Role
 role_behind in_call None = Named
 role_behind in_call (Some (Sign x)) = read_or_named (sign_reads x)
 role_behind in_call (Some (Reserved w)) = set_or (sets_name w in_call) (read_or_named (reads_name w))
 
--- what a name is at this place
+-- the role of a name at this place
 abbrev pub role_at : Standing → Role
 role_at standing =
     elim (standing.in_define
@@ -113,8 +113,8 @@ abbrev pub is_for : Option Mark → Bool
 is_for (Some (Reserved r.For)) = true
 is_for _ = false
 
--- a name may well stand once here: as an attribute, which may only carry a value given in its place, or as the variable
--- of a loop that only counts
+-- a name may well occur once here: as an attribute, which may only carry a value given in its
+-- place, or as the variable of a loop that only counts
 abbrev pub may_stand_once : Standing → Bool
 may_stand_once standing = standing.in_has || is_for standing.before
 
@@ -128,7 +128,7 @@ same_role _ _ = false
 
 -- ---- names and lines
 
--- the names with this role among words, behind others
+-- the names with this role among words, after others
 unfoldable pub names_with : Role → Standing → List PlainAt → List (List ℕ)
 names_with role standing [] = []
 names_with role standing (w ∷ ws) = elim w.word [
@@ -141,7 +141,7 @@ names_with role standing (w ∷ ws) = elim w.word [
   | picture ls ↦ names_with role (behind standing None) ws
 ]
 
--- the lines on which this name stands with this role, each behind a blank
+-- the lines on which this name has this role, each after a blank
 unfoldable pub lines_with : Role → List ℕ → Standing → List PlainAt → List ℕ
 lines_with role name_told standing [] = []
 lines_with role name_told standing (w ∷ ws) = elim w.word [

@@ -1,4 +1,4 @@
--- Which name of a statement a breach of the checker's rules is about, and what is said of it.
+-- The name of a statement that a breach of the checker's rules is about, and the text about it.
 use Rattle.std.specs.Prelude.{ℕ, ◌==◌, not, List, [], ◌∷◌, ◌++◌, codes, Option, Some, None}
 use Rattle.std.specs.Prelude.{option_map, Ok, Err, if◌then◌else◌}
 use Rattle.ss_words.specs.Plain.{PlainAt, name, number, mark, picture}
@@ -27,25 +27,25 @@ use Rattle.ss_names.specs.Positions.{opens, position}
 use Rattle.ss_names.specs.Statements.{statement_breach, statement_rule}
 use Rattle.ss_names.specs.declared.statements.StatementRule.{StatementRule}
 
--- a name, and what is wrong with it
+-- a name, and its error
 pub record Subject : Type 0 where
   -- the name
   pub name : List ℕ
-  -- what is wrong
+  -- its error
   pub wrong : Wrong
 
 -- a subject of the code
 abbrev pub subject_at : CodeSubject → Subject
 subject_at a = record { name = a.name.now; wrong = a.wrong }
 
--- facts, and what a text declares
+-- facts, with the declarations of a text
 abbrev pub with_names : TextFacts → List PlainAt → TextFacts
 with_names facts ws = let names = collection Declared facts.names at_start [] ws in record facts {
   names = names;
   attributes = facts.attributes ++ attribute_classes names;
 }
 
--- facts, and what a text says of sets
+-- facts, with those of a text about sets
 abbrev pub with_sets : TextFacts → List PlainAt → TextFacts
 with_sets facts ws = record facts {
   owned = collection Owned facts.owned at_start [] ws;
@@ -53,7 +53,7 @@ with_sets facts ws = record facts {
   disciplines = collection Disciplines facts.disciplines at_start [] ws;
 }
 
--- facts, and what a text says of events
+-- facts, with those of a text about events
 abbrev pub with_events : TextFacts → List PlainAt → TextFacts
 with_events facts ws = record facts {
   sections = collection Sections facts.sections at_start [] ws;
@@ -62,15 +62,15 @@ with_events facts ws = record facts {
   externals = collection Externals facts.externals at_start [] ws;
 }
 
--- facts, and what a text declares and says of sets and events
+-- facts, with the declarations of a text and its facts about sets and events
 abbrev pub with_facts : TextFacts → List PlainAt → TextFacts
 with_facts facts ws = with_events (with_sets (with_names facts ws) ws) ws
 
--- what a text declares, and what it says of sets and events
+-- the declarations of a text, and its facts about sets and events
 abbrev pub facts_of : List PlainAt → TextFacts
 facts_of ws = with_facts no_facts ws
 
--- a name where it stands, before these words
+-- a name and its place in a statement, before these words
 abbrev pub standpoint : Here → List ℕ → List ℕ → ℕ → List PlainAt → Standpoint
 standpoint here ranked n index ws = record {
   name = n;
@@ -91,22 +91,22 @@ abbrev pub class_in : Option Declaration → List ℕ
 class_in (Some d) = d.of
 class_in None = []
 
--- the class of a set's members, empty where there is none
+-- the class of a set's members, empty if there is none
 abbrev pub members_of : TextFacts → List ℕ → List ℕ
 members_of facts s = class_in (declared_as facts.joined s)
 
--- behind a name in a list behind this word: of a set that DEFINE names its members', of an event that BREAK names the
--- event
+-- the class after a name in a list after this word. For a set that DEFINE names it is the class of
+-- its members, and for an event that BREAK names it is the event
 abbrev pub ranked_behind_word : TextFacts → Option AReserved → List ℕ → List ℕ → List ℕ
 ranked_behind_word facts (Some r.Define) ranked n = members_of facts n
 ranked_behind_word facts (Some r.Break) ranked n = n
 ranked_behind_word facts _ ranked n = ranked
 
--- behind a name
+-- the class after a name
 abbrev pub ranked_behind : TextFacts → Here → List ℕ → List ℕ → List ℕ
 ranked_behind facts here ranked n = ranked_behind_word facts here.last ranked n
 
--- behind a word
+-- the class after a word
 abbrev pub ranked_at : TextFacts → Here → List ℕ → PlainAt → List ℕ
 ranked_at facts here ranked word = elim word.word [
   | name n ↦ ranked_behind facts here ranked n
@@ -117,23 +117,23 @@ ranked_at facts here ranked word = elim word.word [
 
 -- ---- the first name that breaks a rule
 
--- a name with what is wrong with it
+-- a name with its error, if it has one
 abbrev pub subject_with : List ℕ → Option Wrong → Option Subject
 subject_with n (Some x) = Some (record { name = n; wrong = x })
 subject_with n None = None
 
--- what a name breaks of a rule, before these words
+-- how a name breaks a rule, before these words, if it does
 abbrev pub wrong_before : TextFacts → NameRule → Standpoint → List PlainAt → Option Wrong
 wrong_before facts rule.WrongCount standpoint ws = where_so (has_wrong_count facts standpoint ws) w.WrongCount
 wrong_before facts rule standpoint ws = wrong facts rule standpoint
 
--- what a name breaks, if it is one of what begins on a line
+-- how a name breaks a rule, if it is in the item, head or statement that begins on a line
 abbrev pub name_subject : TextFacts → NameRule → ℕ → Here → List ℕ → List ℕ → ℕ → List PlainAt → Option Subject
 name_subject facts rule line here ranked n index ws =
     if not (here.line == line) then None
     else subject_with n (wrong_before facts rule (standpoint here ranked n index ws) ws)
 
--- what a word breaks
+-- how a word breaks a rule, if it is such a name
 abbrev pub word_subject : TextFacts → NameRule → ℕ → Here → List ℕ → PlainAt → List PlainAt → Option Subject
 word_subject facts rule line here ranked word ws = elim word.word [
   | name n ↦ name_subject facts rule line here ranked n word.index ws
@@ -142,7 +142,7 @@ word_subject facts rule line here ranked word ws = elim word.word [
   | picture ls ↦ None
 ]
 
--- the first name of what begins on a line of a text that breaks a rule
+-- the first name that breaks a rule in an item, head or statement that begins on a line of a text
 unfoldable pub subject : TextFacts → NameRule → ℕ → Here → List ℕ → List PlainAt → Option Subject
 subject facts rule line here ranked [] = None
 subject facts rule line here ranked (w ∷ ws) =
@@ -152,13 +152,13 @@ subject facts rule line here ranked (w ∷ ws) =
       | None ↦ subject facts rule line (behind at w.word w.line ws) (ranked_at facts at ranked w) ws
     ]
 
--- ---- as it is told
+-- ---- the text about it
 
--- what is said of what is wrong
+-- the text about an error
 abbrev pub wrong_text : Wrong → List ℕ
 wrong_text w.DeclaredTwice = codes ": it is declared a second time here.\n"
 wrong_text w.WrongClass = codes ": it is not the class that is needed here.\n"
-wrong_text w.WrongUse = codes ": it is used here as what it is not.\n"
+wrong_text w.WrongUse = codes ": it is used here as something that it is not.\n"
 wrong_text w.Ownerless = codes ": no OWNS names it.\n"
 wrong_text w.OwnedTwice = codes ": it is owned a second time here.\n"
 wrong_text w.Memberless = codes ": no BELONGS TO of a class names it.\n"
@@ -175,16 +175,16 @@ wrong_text w.WrongCount = codes ": it has another count of values here than it t
 wrong_text w.Fixed = codes ": it cannot be set.\n"
 wrong_text w.NoVariable = codes ": it is no variable, as a loop needs.\n"
 
--- what is given, if something is, or else what a name is
+-- the given knowledge of a name, if there is one, or else that of its declaration
 abbrev pub knowledge_or : What → Knowledge → Knowledge → Knowledge
 knowledge_or k.Undeclared a b = b
 knowledge_or _ a b = a
 
--- what the language, a set or a class gives a name, or else what it is declared as
+-- the kind that the language, a set or a class gives a name, or else its declared kind
 abbrev pub first_known : TextFacts → List ℕ → Knowledge
 first_known facts n = let a = knowledge_given facts.names n in knowledge_or a.what a (knowledge_of facts.names n)
 
--- what is known, with this line, if there is one
+-- the knowledge of a name, with this line, if there is one
 abbrev pub told_place : Knowledge → Option ℕ → Knowledge
 told_place knowledge (Some line) = record knowledge { line = line }
 told_place knowledge None = knowledge
@@ -193,7 +193,7 @@ told_place knowledge None = knowledge
 abbrev pub line_in : Option Declaration → Option ℕ
 line_in declaration = option_map (λ x. x.line) declaration
 
--- the first place of a name that stands a second time: behind OWNS, BELONGS TO, PRIORITY, DEFINE, BREAK, EXTERNAL
+-- the first place of a repeated name: after OWNS, BELONGS TO, PRIORITY, DEFINE, BREAK, EXTERNAL
 abbrev pub first_place : TextFacts → List ℕ → Wrong → Option Declaration
 first_place facts n w.OwnedTwice = declared_as facts.owned n
 first_place facts n w.JoinedTwice = declared_as facts.joined n
@@ -203,35 +203,35 @@ first_place facts n w.BrokenTwice = declared_as facts.ties n
 first_place facts n w.ExternalTwice = declared_as facts.externals n
 first_place facts n _ = None
 
--- what a name is, with the line of that place, if it has one; where its declaration is wrong, what it is first
+-- a name's kind, with the line of that place, if any; its first kind if its declaration is wrong
 abbrev pub told_by : TextFacts → List ℕ → Wrong → Knowledge
 told_by facts n w.DeclaredTwice = first_known facts n
 told_by facts n wrong = told_place (knowledge_of facts.names n) (line_in (first_place facts n wrong))
 
--- what the name of a subject is
+-- the kind of the name of a subject
 abbrev pub told_as : TextFacts → Subject → Knowledge
 told_as facts subject = told_by facts subject.name subject.wrong
 
--- what is said of a subject, if there is one
+-- the text about a subject, if there is one
 abbrev pub subject_text : TextFacts → Option Subject → List ℕ
 subject_text facts (Some x) = x.name ++ codes " is " ++ known_text (told_as facts x) ++ wrong_text x.wrong
 subject_text facts None = []
 
--- what a breach of a rule on a line is about, among these words, if the rule is about names
+-- the text about a breach of a rule on a line, among these words, if the rule is about names
 abbrev pub name_breach : List PlainAt → ℕ → Option NameRule → List ℕ
 name_breach ws line (Some x) = let f = facts_of ws in subject_text f (subject f x line at_start [] ws)
 name_breach ws line None = []
 
--- the same, if it is about statements
+-- the text about a breach of a rule on a line, among these words, if it is about statements
 abbrev pub place_breach : List PlainAt → ℕ → Option StatementRule → List ℕ
 place_breach ws line (Some x) = statement_breach x line ws
 place_breach ws line None = []
 
--- what the breach of the rule with this code is about: its name, and its statement
+-- the text about a breach of the rule with this code: about its name, and about its statement
 abbrev pub breach_of_words : List PlainAt → List ℕ → ℕ → List ℕ
 breach_of_words ws code line = name_breach ws line (rule_of code) ++ place_breach ws line (statement_rule code)
 
--- the same on a line of a model; nothing where a rule L refuses it
+-- the text about a breach on a line of a model; nothing if a rule L refuses the model
 unfoldable pub breach_text : List ℕ → List ℕ → ℕ → List ℕ
 breach_text model code line = elim (words_of model) [
   | Ok ws ↦ breach_of_words (plain_words_of ws) code line

@@ -53,7 +53,7 @@ unfoldable pub scheduling_line : List SectionTable → Option ℕ
 scheduling_line [] = None
 scheduling_line (section ∷ rest) = first_there (scheduling_spot section.places) (scheduling_line rest)
 
--- what is said of it, if there is one
+-- the warning about it, if there is one
 abbrev pub unstarted_line : Option ℕ → List ℕ
 unstarted_line None = []
 unstarted_line (Some line) = warning_line line SCHEDULING_WORD.now UNSTARTED.now

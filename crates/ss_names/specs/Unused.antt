@@ -62,7 +62,7 @@ abbrev pub is_unscheduled : ProgramTable → ℕ → ClassTable → Bool
 is_unscheduled program c row =
     is_event row.kind && not (event_of_kind row.kind).external && not (any_schedules c program.sections)
 
--- the line on which a name stands first among words, 0 where it does not
+-- the line on which a name occurs first among words, 0 if it does not occur
 unfoldable pub first_line : List ℕ → List PlainAt → ℕ
 first_line n [] = 0
 first_line n (w ∷ ws) = elim w.word [
@@ -88,7 +88,7 @@ unscheduled_text program ws c (t ∷ ts) = elim (is_unscheduled program c t) [
   | false ↦ unscheduled_text program ws (c + 1) ts
 ]
 
--- the warnings of a program, with the lines on which its names stand first in a model
+-- the warnings of a program, with the lines on which its names occur first in a model
 abbrev pub program_warnings : ProgramTable → List ℕ → List ℕ
 program_warnings program model = elim (words_of model) [
   | Ok ws ↦ unfiled_text program (plain_words_of ws) 0 program.sets

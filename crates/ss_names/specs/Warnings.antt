@@ -1,4 +1,4 @@
--- Warnings of what is suspicious in the words of a model. Each says what is so, and not that it is wrong.
+-- Warnings of suspicious words of a model. Each says a fact, and not that it is wrong.
 use Rattle.std.specs.Prelude.{ℕ, Bool, true, false, not, ◌==◌, ◌&&◌, ◌||◌, List, [], ◌∷◌, ◌++◌, map}
 use Rattle.std.specs.Prelude.{count_by, bytes_eq, Option, Some, None, Ok, Err}
 use Rattle.std.specs.Borrow.{Bor}
@@ -26,17 +26,17 @@ use Rattle.ss_names.specs.Printed.{printed_text}
 use Rattle.ss_names.specs.Ranked.{ranked_text}
 use Rattle.ss_names.specs.Unread.{uses_text}
 
--- ---- names that stand once
+-- ---- names that occur once
 
--- a name, of these, that stands once and is not the language's
+-- a name, one of these, that occurs once and is not the language's
 abbrev pub is_once : List (List ℕ) → List ℕ → Bool
 is_once names n = count_by (bytes_eq n) names == 1 && not (is_of_language n)
 
--- what is said of a name
+-- the warning about a name, if it occurs once
 abbrev pub once_name : List (List ℕ) → ℕ → List ℕ → List ℕ
 once_name names line n = elim (is_once names n) [ true ↦ warning_line line n ONCE.now | false ↦ [] ]
 
--- what is said of a word, where its name may not well stand once
+-- the warning about a word, unless its name may well occur once
 abbrev pub once_word : List (List ℕ) → Standing → PlainAt → List ℕ
 once_word names standing word = elim word.word [
   | name n ↦ elim (may_stand_once standing) [ true ↦ [] | false ↦ once_name names word.line n ]
@@ -45,12 +45,12 @@ once_word names standing word = elim word.word [
   | picture ls ↦ []
 ]
 
--- each name of these words, behind others, that stands once among the names, with its line
+-- each name of these words, after others, that occurs once among the names, with its line
 unfoldable pub once_text : List (List ℕ) → Standing → List PlainAt → List ℕ
 once_text names standing [] = []
 once_text names standing (w ∷ ws) = once_word names standing w ++ once_text names (behind standing (mark_in w.word)) ws
 
--- ---- words that are dropped where a name could have stood
+-- ---- words that are dropped where a name could be
 
 -- a sign
 abbrev pub is_sign : Option Kind → Bool
@@ -67,8 +67,8 @@ abbrev pub is_scheduling : Option Kind → Bool
 is_scheduling None = false
 is_scheduling (Some k) = is_kind_among scheduling_words k
 
--- A, AN or OUTPUT beside a sign, or THE, THIS or MAY before one, not directly before a name nor behind SCHEDULE: all of
--- these are dropped, and no name follows to which they could belong
+-- A, AN or OUTPUT next to a sign, or THE, THIS or MAY before one, not directly before a name nor
+-- after SCHEDULE or CAUSE: all of these are dropped, and no name follows to which they could belong
 abbrev pub is_suspect : Option Kind → Kind → Option Kind → Bool
 is_suspect before kind behind =
     not (is_scheduling before) && not (is_plain_name behind)
@@ -87,19 +87,19 @@ abbrev pub kind_seen : Option (Bor WordKind) → Option Kind
 kind_seen None = None
 kind_seen (Some k) = Some (kind_of k.now)
 
--- what the first of some words is
+-- the kind of the first of some words, if there is one
 abbrev pub first_kind : List WordAt → Option Kind
 first_kind [] = None
 first_kind (w ∷ ws) = Some w.kind
 
--- what is said of a word between two others
+-- the warning about a word between two others
 abbrev pub dropped_word : Option Kind → WordAt → Option Kind → List ℕ
 dropped_word before word behind = elim (is_suspect before word.kind behind) [
   | true ↦ warning_line word.line (name_bytes word.kind) DROPPED_HERE.now
   | false ↦ []
 ]
 
--- each of these words that is dropped where a name could have stood, behind this word
+-- each of these words that is dropped where a name could be, after this word
 unfoldable pub dropped_text : Option Kind → List WordAt → List ℕ
 dropped_text before [] = []
 dropped_text before (w ∷ ws) = dropped_word before w (first_kind ws) ++ dropped_text (Some w.kind) ws
@@ -127,6 +127,6 @@ plain_warnings ws =
 abbrev pub warnings_of_words : List WordAt → List ℕ
 warnings_of_words ws = plain_warnings (plain_words_of ws) ++ dropped_text None ws ++ printed_text ws
 
--- the warnings of a model; none where a rule L refuses it
+-- the warnings of a model; none if a rule L refuses it
 abbrev pub warnings : List ℕ → List ℕ
 warnings model = elim (words_of model) [ Ok ws ↦ warnings_of_words ws | Err f ↦ [] ]

@@ -1,4 +1,4 @@
-//! What a name of a statement breaks of the rules of the checker, as far as the words round it tell.
+//! How a name of a statement breaks the rules of the checker, as far as the words around it show.
 ghost use Rattle.std.specs.Prelude.{◌≡◌, map};
 ghost use Rattle.ss_names.specs.Breaches as spec;
 ghost use Rattle.ss_names.specs.Known.{known_at};
@@ -15,26 +15,26 @@ use ss_words::Reserved;
 use std::alloc::Global;
 use std::marker::Model;
 
-/// What a text declares and says of sets and events.
+/// The declarations of a text, and its facts about sets and events.
 #[derive(Drop)]
 pub struct Facts<'a> {
-    /// What names are declared as.
+    /// The declarations of names.
     pub names: Declarations<'a>,
-    /// The sets behind OWNS, with the class that owns each; of the system it is empty.
+    /// The sets after OWNS, with the class that owns each; the class is empty for the system.
     pub owned: Declarations<'a>,
-    /// The sets behind BELONGS TO, with the class of their members.
+    /// The sets after BELONGS TO, with the class of their members.
     pub joined: Declarations<'a>,
     /// The events that have a section.
     pub sections: Declarations<'a>,
-    /// The names behind PRIORITY ORDER IS.
+    /// The names after PRIORITY ORDER IS.
     pub ordered: Declarations<'a>,
     /// The sets in their DEFINE.
     pub disciplines: Declarations<'a>,
-    /// The events behind BREAK.
+    /// The events after BREAK.
     pub ties: Declarations<'a>,
-    /// The names behind EXTERNAL EVENTS ARE.
+    /// The names after EXTERNAL EVENTS ARE.
     pub externals: Declarations<'a>,
-    /// Of each attribute its class.
+    /// The class of each attribute.
     pub attributes: NameCounts,
 }
 
@@ -57,7 +57,7 @@ impl<'a> Model for Facts<'a> {
 }
 
 impl<'a> Facts<'a> {
-    /// A text that declares and says nothing.
+    /// The facts of a text that declares and says nothing.
     pub fn new(alloc: Global) -> Self
         ensures { result ≡ spec.no_facts }
     {
@@ -75,28 +75,28 @@ impl<'a> Facts<'a> {
     }
 }
 
-/// A name where it stands.
+/// A name and its place in a statement.
 #[derive(Clone, Copy)]
 pub struct Standpoint<'a> {
     pub name: &'a [u8],
     /// The place of its word among the words of the text, from 0.
     pub index: u32,
     pub position: Position,
-    /// What it is declared as here, if it is.
+    /// Its declared meaning here, if it is declared here.
     pub declared: Option<Meaning>,
     /// The reserved word that begins its item, head or statement.
     pub begun: Option<Reserved>,
-    /// The reserved word behind which it stands, alone or in a list.
+    /// The reserved word after which it is, by itself or in a list.
     pub last: Option<Reserved>,
-    /// Whether a parenthesis is opened directly behind it.
+    /// Whether a parenthesis is opened directly after it.
     pub opens: bool,
-    /// Whether it is a parameter that stands again in its head.
+    /// Whether it is a parameter that occurs again in its head.
     pub repeated: bool,
-    /// The class whose attributes are keys here; empty where there is none.
+    /// The class whose attributes are keys here; empty if there is none.
     pub ranked: &'a [u8],
 }
 
-/// What is wrong with a name.
+/// The error of a name.
 #[derive(Clone, Copy)]
 pub enum Wrong {
     DeclaredTwice,
@@ -178,8 +178,8 @@ fn rule_beside(code: &[u8], mut rows: &'static [(&'static [u8], NameRule)]) -> O
     None
 }
 
-/// What a name breaks of a rule where it stands, if it does; C7 is asked elsewhere, since it is about
-/// the words behind.
+/// How a name breaks a rule at its place, if it does. C7 is asked elsewhere, since it is about the
+/// words after the name.
 pub fn breaks(facts: &Facts<'_>, rule: NameRule, at: Standpoint<'_>) -> Option<Wrong>
     ensures { result ≡ spec.wrong facts.now rule (spec.standing_at at.entry) }
 {
@@ -205,14 +205,14 @@ pub fn where_so(is_so: bool, wrong: Wrong) -> Option<Wrong>
 
 // ---- C2
 
-/// Whether a name stands as a class that is not of the kind needed there.
+/// Whether a name is used as a class that is not of the kind needed there.
 fn is_wrong_class(facts: &Facts<'_>, at: Standpoint<'_>) -> bool
     ensures { result ≡ spec.is_wrong_class facts.now (spec.standing_at at.entry) }
 {
     !serves(at.position, known_as(&facts.names, at.name).what)
 }
 
-/// Whether what a name is serves where it stands, if a class is needed there.
+/// Whether the kind of a name serves at its position, if a class is needed there.
 fn serves(position: Position, what: What) -> bool
     ensures { result ≡ spec.serves position what }
 {
@@ -229,7 +229,7 @@ fn serves(position: Position, what: What) -> bool
 
 // ---- C3
 
-/// Whether a name is used as what it is not.
+/// Whether a name is used as another kind than its own.
 fn is_misused(facts: &Facts<'_>, at: Standpoint<'_>) -> bool
     ensures { result ≡ spec.is_misused facts.now (spec.standing_at at.entry) }
 {
@@ -245,7 +245,7 @@ fn is_misused(facts: &Facts<'_>, at: Standpoint<'_>) -> bool
     }
 }
 
-/// Whether a name is no value, or stands before a parenthesis and takes none.
+/// Whether a name is no value, or is before a parenthesis and takes no subscript.
 fn is_wrong_value(facts: &Facts<'_>, known: Known<'_>, opens: bool) -> bool
     ensures { result ≡ spec.is_wrong_value facts.now (known_at known.entry) opens }
 {
@@ -255,8 +255,9 @@ fn is_wrong_value(facts: &Facts<'_>, known: Known<'_>, opens: bool) -> bool
     matches!(known.what, What::Declared(Meaning::Set | Meaning::Routine))
 }
 
-/// Whether a name may stand before a parenthesis: an attribute, a function, what is kept of members,
-/// or of owners that are no system; and a set, since IS EMPTY may stand behind its subscript.
+/// Whether a name may be before a parenthesis: an attribute, a function, a name that is kept of
+/// members, or one that is kept of owners other than the system; and a set, since IS EMPTY may be
+/// after its subscript.
 fn takes_subscript(facts: &Facts<'_>, known: Known<'_>) -> bool
     ensures { result ≡ spec.takes_subscript facts.now (known_at known.entry) }
 {
@@ -281,7 +282,7 @@ fn is_of_system(facts: &Facts<'_>, set: &[u8]) -> bool
 
 // ---- C4 and C5
 
-/// What is wrong with the owner of a set that is named here.
+/// The error of the owner of a set that is named here.
 fn wrong_owner(facts: &Facts<'_>, at: Standpoint<'_>) -> Option<Wrong>
     ensures { result ≡ spec.wrong_owner facts.now (spec.standing_at at.entry) }
 {
@@ -294,7 +295,7 @@ fn wrong_owner(facts: &Facts<'_>, at: Standpoint<'_>) -> Option<Wrong>
     }
 }
 
-/// What is wrong with the members of a set that is named here.
+/// The error of the members of a set that is named here.
 fn wrong_member(facts: &Facts<'_>, at: Standpoint<'_>) -> Option<Wrong>
     ensures { result ≡ spec.wrong_member facts.now (spec.standing_at at.entry) }
 {
@@ -307,7 +308,7 @@ fn wrong_member(facts: &Facts<'_>, at: Standpoint<'_>) -> Option<Wrong>
     }
 }
 
-/// What is wrong with the members of a set that is named here, whose first BELONGS TO is this.
+/// The error of the members of a set that is named here, whose first BELONGS TO is this.
 fn wrong_joining(row: Row<'_>, at: Standpoint<'_>) -> Option<Wrong>
     ensures { result ≡ spec.wrong_joining (declaration_at row.entry) (spec.standing_at at.entry) }
 {
@@ -356,7 +357,7 @@ fn is_key(position: Position) -> bool
 
 // ---- C9
 
-/// What is wrong with a name that is assigned, or is a loop's variable.
+/// The error of a name that is assigned, or is a loop's variable.
 fn wrong_target(facts: &Facts<'_>, at: Standpoint<'_>) -> Option<Wrong>
     ensures { result ≡ spec.wrong_target facts.now (spec.standing_at at.entry) }
 {

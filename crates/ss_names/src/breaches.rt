@@ -20,14 +20,14 @@ use crate::statements::{StatementRule, push_statement_breach, statement_rule};
 use ss_words::{Plain, PlainWord, Reserved, TextFault, plain_words, words};
 use std::alloc::{AllocError, Global};
 
-/// What a breach is about: a name, and what is wrong with it.
+/// The subject of a breach: a name, and its error.
 #[derive(Clone, Copy)]
 struct Subject<'a> {
     name: &'a [u8],
     wrong: Wrong,
 }
 
-/// Collects what a text declares.
+/// Collects the declarations of a text.
 fn collect_names<'a>(words: &[PlainWord<'a>], facts: &mut Facts<'a>) -> Result<(), AllocError>
     ensures { OnOk result (facts.new ≡ spec.with_names facts.old (map plain_at words.now)) }
 {
@@ -35,7 +35,7 @@ fn collect_names<'a>(words: &[PlainWord<'a>], facts: &mut Facts<'a>) -> Result<(
     add_attribute_classes(&facts.names, &mut facts.attributes)
 }
 
-/// Collects what a text says of sets.
+/// Collects a text's facts about sets.
 fn collect_sets<'a>(words: &[PlainWord<'a>], facts: &mut Facts<'a>) -> Result<(), AllocError>
     ensures { OnOk result (facts.new ≡ spec.with_sets facts.old (map plain_at words.now)) }
 {
@@ -44,7 +44,7 @@ fn collect_sets<'a>(words: &[PlainWord<'a>], facts: &mut Facts<'a>) -> Result<()
     collect_into(Wanted::Disciplines, words, &mut facts.disciplines)
 }
 
-/// Collects what a text says of events.
+/// Collects a text's facts about events.
 fn collect_events<'a>(words: &[PlainWord<'a>], facts: &mut Facts<'a>) -> Result<(), AllocError>
     ensures { OnOk result (facts.new ≡ spec.with_events facts.old (map plain_at words.now)) }
 {
@@ -54,7 +54,7 @@ fn collect_events<'a>(words: &[PlainWord<'a>], facts: &mut Facts<'a>) -> Result<
     collect_into(Wanted::Externals, words, &mut facts.externals)
 }
 
-/// Collects what a text declares and says of sets and events.
+/// Collects the declarations of a text, and its facts about sets and events.
 fn collect_facts<'a>(words: &[PlainWord<'a>], facts: &mut Facts<'a>) -> Result<(), AllocError>
     ensures { OnOk result (facts.new ≡ spec.with_facts facts.old (map plain_at words.now)) }
 {
@@ -63,7 +63,7 @@ fn collect_facts<'a>(words: &[PlainWord<'a>], facts: &mut Facts<'a>) -> Result<(
     collect_events(words, facts)
 }
 
-/// A name where it stands, before these words.
+/// A name and its place in a statement, before these words.
 fn standpoint<'a>(
     here: Here,
     ranked: &'a [u8],
@@ -87,8 +87,8 @@ fn standpoint<'a>(
     }
 }
 
-/// The class whose attributes are keys behind a name: of a set that DEFINE names its members', of an
-/// event that BREAK names itself.
+/// The class whose attributes are keys after a name. For a set that DEFINE names it is the class of
+/// its members, and for an event that BREAK names it is the event itself.
 fn ranked_behind<'a>(facts: &Facts<'a>, here: Here, ranked: &'a [u8], name: &'a [u8]) -> &'a [u8]
     ensures { result.now ≡ spec.ranked_behind facts.now here ranked.now name.now }
 {
@@ -99,7 +99,7 @@ fn ranked_behind<'a>(facts: &Facts<'a>, here: Here, ranked: &'a [u8], name: &'a 
     }
 }
 
-/// The class of a set's members; empty where there is none.
+/// The class of a set's members; empty if there is none.
 fn members_of<'a>(facts: &Facts<'a>, set: &[u8]) -> &'a [u8]
     ensures { result.now ≡ spec.members_of facts.now set.now }
 {
@@ -109,7 +109,7 @@ fn members_of<'a>(facts: &Facts<'a>, set: &[u8]) -> &'a [u8]
     }
 }
 
-/// What a name breaks of a rule, before these words.
+/// How a name breaks a rule, before these words, if it does.
 fn wrong_before(
     facts: &Facts<'_>,
     rule: NameRule,
@@ -125,7 +125,7 @@ fn wrong_before(
     }
 }
 
-/// What a word breaks of a rule, if it is a name of what begins on a line.
+/// How a word breaks a rule, if it is a name in the item, head or statement that begins on a line.
 fn word_subject<'a>(
     facts: &Facts<'a>,
     rule: NameRule,
@@ -155,7 +155,7 @@ fn word_subject<'a>(
     }
 }
 
-/// The class whose attributes are keys behind a word.
+/// The class whose attributes are keys after a word.
 fn ranked_at<'a>(facts: &Facts<'a>, here: Here, ranked: &'a [u8], word: &PlainWord<'a>) -> &'a [u8]
     ensures { result.now ≡ spec.ranked_at facts.now here ranked.now (plain_at word.now) }
 {
@@ -165,7 +165,7 @@ fn ranked_at<'a>(facts: &Facts<'a>, here: Here, ranked: &'a [u8], word: &PlainWo
     }
 }
 
-/// The first name of what begins on a line that breaks a rule.
+/// The first name that breaks a rule in an item, head or statement that begins on a line.
 #[tactic(auto, unfolding(crate::specs::Subjects::subject))]
 fn first_subject<'a>(
     facts: &Facts<'a>,
@@ -191,14 +191,14 @@ fn first_subject<'a>(
     None
 }
 
-/// What is said of what is wrong.
+/// The text about an error.
 fn wrong_text(wrong: Wrong) -> &'static [u8]
     ensures { result.now ≡ spec.wrong_text wrong }
 {
     match wrong {
         Wrong::DeclaredTwice => b": it is declared a second time here.\n",
         Wrong::WrongClass => b": it is not the class that is needed here.\n",
-        Wrong::WrongUse => b": it is used here as what it is not.\n",
+        Wrong::WrongUse => b": it is used here as something that it is not.\n",
         Wrong::Ownerless => b": no OWNS names it.\n",
         Wrong::OwnedTwice => b": it is owned a second time here.\n",
         Wrong::Memberless => b": no BELONGS TO of a class names it.\n",
@@ -217,7 +217,7 @@ fn wrong_text(wrong: Wrong) -> &'static [u8]
     }
 }
 
-/// What a name is: what is given, where it is declared beside that.
+/// The kind of a subject's name: the given kind, if the name is both given and declared.
 fn told_as<'a>(facts: &Facts<'a>, subject: Subject<'a>) -> Known<'a>
     ensures { known_at result ≡ spec.told_as facts.now (spec.subject_at subject.entry) }
 {
@@ -230,7 +230,7 @@ fn told_as<'a>(facts: &Facts<'a>, subject: Subject<'a>) -> Known<'a>
     }
 }
 
-/// The first place of a name that stands a second time in such a list.
+/// The first place of a name that occurs a second time in such a list.
 fn first_place<'a>(facts: &Facts<'a>, subject: Subject<'a>) -> Option<Row<'a>>
     ensures { option_map declaration_at result
         ≡ spec.first_place facts.now subject.entry.name.now subject.entry.wrong }
@@ -246,7 +246,7 @@ fn first_place<'a>(facts: &Facts<'a>, subject: Subject<'a>) -> Option<Row<'a>>
     }
 }
 
-/// What the language, a set or a class gives a name, or else what it is declared as.
+/// The kind that the language, a set or a class gives a name, or else its declared kind.
 fn first_known<'a>(facts: &Facts<'a>, name: &[u8]) -> Known<'a>
     ensures { known_at result ≡ spec.first_known facts.now name.now }
 {
@@ -257,7 +257,7 @@ fn first_known<'a>(facts: &Facts<'a>, name: &[u8]) -> Known<'a>
     }
 }
 
-/// The same, with the line of this place.
+/// The knowledge of a name, with the line of this place, if there is one.
 fn told_place<'a>(known: Known<'a>, row: Option<Row<'a>>) -> Known<'a>
     ensures { known_at result ≡ spec.told_place (known_at known.entry)
         (spec.line_in (option_map declaration_at row.entry)) }
@@ -271,7 +271,7 @@ fn told_place<'a>(known: Known<'a>, row: Option<Row<'a>>) -> Known<'a>
     }
 }
 
-/// Appends what a breach is about.
+/// Appends the text about a subject, if there is one.
 fn push_subject(
     text: &mut Vec<u8>,
     facts: &Facts<'_>,
@@ -289,7 +289,7 @@ fn push_subject(
     text.extend_from_slice(wrong_text(subject.wrong))
 }
 
-/// Appends what a breach of a rule on names is about, of facts of nothing that are lent for it.
+/// Appends the text about a breach of a rule on names. The facts are empty, and are lent for it.
 fn push_fact_breach<'a>(
     words: &[PlainWord<'a>],
     rule: NameRule,
@@ -305,7 +305,7 @@ fn push_fact_breach<'a>(
     push_subject(text, facts, first_subject(facts, rule, line, words))
 }
 
-/// Appends what a breach of a rule on names is about, if it is one.
+/// Appends the text about a breach of a rule on names, if it is one.
 fn push_name_breach(
     alloc: Global,
     words: &[PlainWord<'_>],
@@ -326,7 +326,7 @@ fn push_name_breach(
     pushed
 }
 
-/// Appends what a breach of a rule on statements is about, if it is one.
+/// Appends the text about a breach of a rule on statements, if it is one.
 fn push_place_breach(
     alloc: Global,
     words: &[PlainWord<'_>],
@@ -357,11 +357,11 @@ fn push_breach_of_words(
     push_place_breach(alloc, words, statement_rule(code), line, text)
 }
 
-/// Appends what the breach of the rule of the checker with this code, as `C10`, is about
-/// (docs/SENTENCES.md): of the first name of the statement on this line that breaks it what it is,
-/// where it is declared and what is wrong with it; of the statement that breaks it what stands round
-/// it. Nothing where the words tell of none, for another code, and where a rule L refuses the model.
-/// The only error is that memory was refused.
+/// Appends the text about a breach of the checker's rule with this code, as `C10`
+/// (docs/SENTENCES.md). For the first name of the statement on this line that breaks the rule, the
+/// text gives its kind, the place of its declaration, and its error. For a statement that breaks
+/// the rule, the text gives its surroundings. It appends nothing if the words show no breach, for
+/// another code, and if a rule L refuses the model. The only error is that memory was refused.
 #[tactic(auto, unfolding(crate::specs::Subjects::breach_text))]
 pub fn push_breach(
     alloc: Global,

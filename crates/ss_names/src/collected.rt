@@ -1,4 +1,4 @@
-//! What a text declares, and what its items say of sets and events.
+//! The declarations of a text, and the facts in its items about sets and events.
 ghost use Rattle.std.specs.Prelude.{◌≡◌, [], IfOk, OnOk, map};
 ghost use Rattle.ss_words.specs.Plain.{plain_at};
 ghost use Rattle.ss_names.specs.Collected as spec;
@@ -14,27 +14,27 @@ use std::alloc::{AllocError, Global};
 /// Which names are collected.
 #[derive(Clone, Copy)]
 pub enum Wanted {
-    /// Those that are declared, and as what.
+    /// Those that are declared, with their meanings.
     Declared,
-    /// The sets behind OWNS.
+    /// The sets after OWNS.
     Owned,
-    /// The sets behind BELONGS TO.
+    /// The sets after BELONGS TO.
     Joined,
     /// The events that have a section.
     Sections,
     /// The keys of sets, in their DEFINE.
     Keys,
-    /// The names behind PRIORITY ORDER IS.
+    /// The names after PRIORITY ORDER IS.
     Ordered,
     /// The sets in their DEFINE.
     Disciplines,
-    /// The events behind BREAK.
+    /// The events after BREAK.
     Ties,
-    /// The names behind EXTERNAL EVENTS ARE.
+    /// The names after EXTERNAL EVENTS ARE.
     Externals,
 }
 
-/// What a name is collected as here, if it is.
+/// The meaning as which a name is collected here, if it is.
 fn collected_as(wanted: Wanted, here: Here) -> Option<Meaning>
     ensures { result ≡ spec.collected_as wanted here }
 {
@@ -135,7 +135,7 @@ fn is_define(word: Option<Reserved>) -> bool
     matches!(word, Some(Reserved::Define))
 }
 
-/// What stands before a word, where a name may begin an assignment.
+/// The place of a word, at which a name may begin an assignment.
 pub fn here_at(here: Here, word: &PlainWord<'_>) -> Here
     ensures { result ≡ spec.here_at here (plain_at word.now) }
 {
@@ -145,7 +145,7 @@ pub fn here_at(here: Here, word: &PlainWord<'_>) -> Here
     }
 }
 
-/// The class of EVERY, or the last set of DEFINE, behind a word: its own, where the word is that.
+/// The class of EVERY, or the last set of DEFINE, after a word: the word itself, if it is that.
 fn class_at<'a>(here: Here, class: &'a [u8], word: &PlainWord<'a>) -> &'a [u8]
     ensures { result.now ≡ spec.class_at here class.now (plain_at word.now) }
 {
@@ -164,8 +164,8 @@ fn is_every(last: Option<Reserved>) -> bool
     matches!(last, Some(Reserved::Every))
 }
 
-/// The class by whose clause a name is declared here, or the set that a key ranks; empty where there
-/// is none.
+/// The class whose clause declares a name here, or the set that a key ranks; empty if there is
+/// none.
 fn class_of<'a>(here: Here, class: &'a [u8]) -> &'a [u8]
     ensures { result.now ≡ spec.class_of here class.now }
 {
@@ -175,7 +175,7 @@ fn class_of<'a>(here: Here, class: &'a [u8]) -> &'a [u8]
     b""
 }
 
-/// How many values a routine is given by its head, before these words; another name 0.
+/// How many values the head of a routine is given, before these words; 0 for another name.
 fn head_given(meaning: Meaning, behind: &[PlainWord<'_>]) -> usize
     ensures { result ≡ spec.head_given meaning (map plain_at behind.now) }
 {
@@ -185,7 +185,7 @@ fn head_given(meaning: Meaning, behind: &[PlainWord<'_>]) -> usize
     }
 }
 
-/// How many values it yields by its head.
+/// How many values the head of a routine yields, before these words; 0 for another name.
 fn head_yielded(meaning: Meaning, behind: &[PlainWord<'_>]) -> usize
     ensures { result ≡ spec.head_yielded meaning (map plain_at behind.now) }
 {
@@ -195,7 +195,7 @@ fn head_yielded(meaning: Meaning, behind: &[PlainWord<'_>]) -> usize
     }
 }
 
-/// Puts a word to what is collected, if it is wanted, before these words.
+/// Puts a word to the collected declarations, if it is wanted, before these words.
 fn collect_word<'a>(
     found: &mut Declarations<'a>,
     wanted: Wanted,
@@ -225,7 +225,7 @@ fn collect_word<'a>(
     }
 }
 
-/// Adds the first place of each name that is wanted among the plain words of a text, if it has none.
+/// Adds the first place of each wanted name among the plain words of a text, if the name has none.
 #[tactic(auto, unfolding(crate::specs::Collected::collection))]
 pub fn collect_into<'a>(
     wanted: Wanted,

@@ -1,4 +1,4 @@
-//! How many values a name takes, and whether as many stand behind it.
+//! How many values a name takes, and whether that number is after it.
 ghost use Rattle.std.specs.Prelude.{◌≡◌, map};
 ghost use Rattle.ss_words.specs.Plain.{plain_at};
 ghost use Rattle.ss_names.specs.Breaches.{standing_at};
@@ -19,15 +19,15 @@ pub const OF_ONE: [&[u8]; 1] = [b"ABS.F"];
 /// The functions of two values or more.
 pub const OF_SEVERAL: [&[u8]; 2] = [b"MAX.F", b"MIN.F"];
 
-/// Whether a CALL, with these words behind the name, has other counts than the head of the routine
-/// that is declared so.
+/// Whether a CALL, with these words after the name, has other counts than the head of the declared
+/// routine.
 fn differs(row: Row<'_>, behind: &[PlainWord<'_>]) -> bool
     ensures { result ≡ spec.differs (declaration_at row.entry) (map plain_at behind.now) }
 {
     given_count(behind) != row.given || in_list(List::Yielded, behind) != row.yielded
 }
 
-/// Whether a function takes so many values.
+/// Whether a function takes `count` values.
 fn takes(name: &[u8], count: usize) -> bool
     ensures { result ≡ spec.takes name.now count }
 {
@@ -54,7 +54,7 @@ fn has_wrong_arguments(facts: &Facts<'_>, at: Standpoint<'_>, behind: &[PlainWor
     }
 }
 
-/// Whether a routine that a CALL names, if it is one, has other counts.
+/// Whether a CALL has other counts than the routine that it names, if it names one.
 fn is_wrong_call(facts: &Facts<'_>, at: Standpoint<'_>, behind: &[PlainWord<'_>]) -> bool
     ensures { result ≡ spec.is_wrong_call facts.now (standing_at at.entry)
         (map plain_at behind.now) }
@@ -65,7 +65,7 @@ fn is_wrong_call(facts: &Facts<'_>, at: Standpoint<'_>, behind: &[PlainWord<'_>]
     }
 }
 
-/// Whether a name has another count of values behind it than it takes (C7).
+/// Whether a name has another count of values after it than it takes (C7).
 pub fn has_wrong_count(facts: &Facts<'_>, at: Standpoint<'_>, behind: &[PlainWord<'_>]) -> bool
     ensures { result ≡ spec.has_wrong_count facts.now (standing_at at.entry)
         (map plain_at behind.now) }

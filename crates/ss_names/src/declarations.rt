@@ -8,7 +8,7 @@ use ss_program::{NameCounts, NameTable};
 use std::alloc::{AllocError, Global};
 use std::marker::Model;
 
-/// The first declaration of each name, in their order. A name's is found in time that grows with the
+/// The first declaration of each name, in their order. The time to find a name's grows with the
 /// logarithm of their number.
 #[derive(Drop)]
 pub struct Declarations<'a> {
@@ -94,7 +94,7 @@ impl<'a> Declarations<'a> {
     }
 }
 
-/// Appends of each attribute among declarations its class.
+/// Appends the class of each attribute among declarations.
 pub fn add_attribute_classes(
     declarations: &Declarations<'_>,
     names: &mut NameCounts,
@@ -104,7 +104,7 @@ pub fn add_attribute_classes(
     add_classes(declarations.rows(), names)
 }
 
-/// Appends of each attribute among rows its class.
+/// Appends the class of each attribute among rows.
 #[tactic(auto, unfolding(crate::specs::Meanings::attribute_classes))]
 fn add_classes(rows: &[Row<'_>], names: &mut NameCounts) -> Result<(), AllocError>
     ensures { OnOk result (names.new

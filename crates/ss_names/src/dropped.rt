@@ -1,4 +1,4 @@
-//! Words that are dropped where a name could have stood.
+//! Words that are dropped where a name could be.
 ghost use Rattle.std.specs.Prelude.{◌≡◌, ◌++◌, None, OnOk, map};
 ghost use Rattle.ss_words.specs.Words.{kind_of, word_at};
 ghost use Rattle.ss_names.specs.Warnings as spec;
@@ -8,14 +8,14 @@ use ss_columns::{SCHEDULING, is_kind_among};
 use ss_words::{Word, WordKind, is_reserved_name};
 use std::alloc::AllocError;
 
-/// Those that are told beside a sign. The definitions read these tables too.
+/// Those that are reported next to a sign. The definitions read these tables too.
 pub const ARTICLES: [&[u8]; 3] = [b"A", b"AN", b"OUTPUT"];
-/// Those that are told before a sign.
+/// Those that are reported before a sign.
 pub const FILLERS: [&[u8]; 3] = [b"THE", b"THIS", b"MAY"];
-/// What is said of a dropped word. The definitions read it too.
+/// The text about a dropped word. The definitions read it too.
 pub const DROPPED_HERE: &[u8] = b" is dropped here: it can be no name.\n";
 
-/// Whether a word is a sign; `None` where there is none.
+/// Whether a word is a sign; `None` if there is no word.
 fn is_sign(kind: Option<&WordKind>) -> bool
     ensures { result ≡ spec.is_sign (spec.kind_seen kind.entry) }
 {
@@ -32,7 +32,7 @@ fn is_plain_name(kind: Option<&WordKind>) -> bool
     }
 }
 
-/// Whether a word keeps an article directly behind it.
+/// Whether a word keeps an article directly after it.
 #[tactic(auto, unfolding(ss_columns::specs::Reserved::scheduling_words))]
 fn is_scheduling(kind: Option<&WordKind>) -> bool
     ensures { result ≡ spec.is_scheduling (spec.kind_seen kind.entry) }
@@ -43,7 +43,7 @@ fn is_scheduling(kind: Option<&WordKind>) -> bool
     }
 }
 
-/// Whether a word between two others is dropped where a name could have stood.
+/// Whether a word between two others is dropped where a name could be.
 fn is_suspect(before: Option<&WordKind>, kind: &WordKind, behind: Option<&WordKind>) -> bool
     ensures { result ≡ spec.is_suspect
         (spec.kind_seen before.entry) (kind_of kind.now) (spec.kind_seen behind.entry) }
@@ -55,7 +55,7 @@ fn is_suspect(before: Option<&WordKind>, kind: &WordKind, behind: Option<&WordKi
         || (is_kind_among(kind, &FILLERS) && is_sign(behind))
 }
 
-/// Appends what is said of a word between two others.
+/// Appends the warning about a word between two others.
 fn push_dropped_word(
     text: &mut Vec<u8>,
     before: Option<&WordKind>,
@@ -75,7 +75,7 @@ fn push_dropped_word(
     }
 }
 
-/// What the first of some words is.
+/// The kind of the first of some words, if there is one.
 fn first_kind(words: &[Word]) -> Option<&WordKind>
     ensures { spec.kind_seen result ≡ spec.first_kind (map word_at words.now) }
 {
@@ -85,7 +85,7 @@ fn first_kind(words: &[Word]) -> Option<&WordKind>
     }
 }
 
-/// Appends each of these words that is dropped where a name could have stood, with its line.
+/// Appends each of these words that is dropped where a name could be, with its line.
 #[tactic(auto, unfolding(crate::specs::Warnings::dropped_text))]
 pub fn push_dropped(text: &mut Vec<u8>, words: &[Word]) -> Result<(), AllocError>
     ensures { OnOk result (text.new.items

@@ -1,4 +1,4 @@
-//! What a name breaks of the rules on events: their sections, and PRIORITY.
+//! How a name breaks the rules on events: their sections, and PRIORITY.
 ghost use Rattle.std.specs.Prelude.{◌≡◌};
 ghost use Rattle.ss_names.specs.Breaches as spec;
 
@@ -9,7 +9,7 @@ use crate::meaning::Meaning;
 use crate::position::Position;
 use crate::second::stands_before;
 
-/// What is wrong with an event that is named here: it has no section, or its section is of no event.
+/// The error of an event that is named here: it has no section, or its section is of no event.
 pub fn wrong_event(facts: &Facts<'_>, at: Standpoint<'_>) -> Option<Wrong>
     ensures { result ≡ spec.wrong_event facts.now (spec.standing_at at.entry) }
 {
@@ -33,7 +33,7 @@ fn is_event(facts: &Facts<'_>, name: &[u8]) -> bool
     )
 }
 
-/// What is wrong with a name of PRIORITY: it is no event, or stands there before.
+/// The error of a name of PRIORITY: it is no event, or is there before.
 pub fn wrong_priority(facts: &Facts<'_>, at: Standpoint<'_>) -> Option<Wrong>
     ensures { result ≡ spec.wrong_priority facts.now (spec.standing_at at.entry) }
 {

@@ -1,5 +1,5 @@
-//! What stands before a word: whether names are declared there, and of which item, head or statement
-//! it is.
+//! The place of a word, by the words before it: whether names are declared there, and of which
+//! item, head or statement it is.
 ghost use Rattle.std.specs.Prelude.{◌≡◌, map};
 ghost use Rattle.ss_words.specs.Plain.{plain_at, plain_of};
 ghost use Rattle.ss_names.specs.Here as spec;
@@ -8,16 +8,16 @@ use crate::meaning::Meaning;
 use ss_words::limits::MOST_PARENTHESES;
 use ss_words::{Mark, Plain, PlainWord, Reserved, Sign};
 
-/// What stands before a word.
+/// The place of a word, by the words before it.
 #[derive(Clone, Copy)]
 pub struct Here {
     /// Whether the preamble is open.
     pub in_preamble: bool,
-    /// What EVERY and INCLUDE declare.
+    /// The meaning that EVERY and INCLUDE declare.
     pub class: Meaning,
-    /// What a name here is declared as, if it is.
+    /// The declared meaning of a name here, if it is declared.
     pub names: Option<Meaning>,
-    /// The word that begins the item, head or statement; LET where a name begins it.
+    /// The word that begins the item, head or statement; LET if a name begins it.
     pub begun: Option<Reserved>,
     /// The line on which it begins.
     pub line: usize,
@@ -46,7 +46,7 @@ impl Here {
         }
     }
 
-    /// Behind a further word, which stands on this line.
+    /// After a further word, which is on this line.
     pub fn behind(self, kind: Plain<'_>, line: usize, rest: &[PlainWord<'_>]) -> Self
         ensures { result ≡ spec.behind self (plain_of kind.entry) line (map plain_at rest.now) }
     {
@@ -64,7 +64,7 @@ impl Here {
         }
     }
 
-    /// At a name on this line: where it stands as an assignment's first word, that has begun.
+    /// At a name on this line: if it is an assignment's first word, that has begun.
     pub fn at_name(self, line: usize) -> Self
         ensures { result ≡ spec.at_name self line }
     {
@@ -134,7 +134,7 @@ fn is_define(word: Reserved) -> bool
     matches!(word, Reserved::Define)
 }
 
-/// Whether a DEFINE before these words is of sets: SETS stands among them before VARIABLES and a
+/// Whether a DEFINE before these words is of sets: SETS is among them before VARIABLES and a
 /// further DEFINE.
 #[tactic(auto, unfolding(crate::specs::Here::defines_sets))]
 fn defines_sets(words: &[PlainWord<'_>]) -> bool
@@ -162,7 +162,7 @@ fn tells_sets(word: Reserved) -> Option<bool>
     }
 }
 
-/// Whether a statement, phrase or head can end with this word, so that a name behind it begins an
+/// Whether a statement, phrase or head can end with this word, so that a name after it begins an
 /// assignment: with a name, number, picture or parenthesis, or one of the last words of a form.
 fn ends_statement(before: Option<Mark>) -> bool
     ensures { result ≡ spec.ends_statement before }
@@ -244,7 +244,7 @@ fn begins(word: Reserved, in_preamble: bool, before: Option<Mark>) -> bool
     begins_place(word) && !is_saving(before)
 }
 
-/// Whether it is SAVING, behind which EVENT begins nothing.
+/// Whether it is SAVING, after which EVENT begins nothing.
 fn is_saving(before: Option<Mark>) -> bool
     ensures { result ≡ spec.is_saving before }
 {
@@ -353,7 +353,7 @@ fn class_behind(word: Reserved, class: Meaning) -> Meaning
     }
 }
 
-/// What names behind a word are declared as.
+/// The declared meaning of names after a word.
 fn declared_behind(
     word: Reserved,
     in_preamble: bool,

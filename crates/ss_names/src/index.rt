@@ -1,4 +1,4 @@
-//! Where the names of a model stand.
+//! The names of a model, and the places at which they occur.
 ghost use Rattle.std.specs.Prelude.{◌≡◌, ◌++◌, [], IfOk, OnOk, map};
 ghost use Rattle.ss_words.specs.Plain.{plain_at};
 ghost use Rattle.ss_names.specs.Index as spec;
@@ -15,8 +15,8 @@ use ss_words::{Plain, PlainWord, TextFault, Words, plain_words, words};
 use std::alloc::{AllocError, Global};
 
 /// Appends the names of a model (docs/SENTENCES.md), each once, in the order of their first places:
-/// how often each stands, and the line on which it stands first; nothing where a rule L refuses it.
-/// The only error is that memory was refused.
+/// how often each occurs, and the line on which it occurs first. It appends nothing if a rule L
+/// refuses the model. The only error is that memory was refused.
 pub fn push_names(alloc: Global, model: &[u8], text: &mut Vec<u8>) -> Result<(), AllocError>
     ensures { OnOk result (text.new.items ≡ text.old.items ++ spec.names_text model.now) }
 {
@@ -36,9 +36,9 @@ fn push_names_of_words(alloc: Global, words: &Words, text: &mut Vec<u8>) -> Resu
     push_rows(alloc, &all, &all, &plain, text)
 }
 
-/// Appends the names on a line of a model (docs/SENTENCES.md), each once: how often each stands in
-/// the model, and the line on which it stands first; nothing where a rule L refuses the model. The
-/// only error is that memory was refused.
+/// Appends the names on a line of a model (docs/SENTENCES.md), each once: how often each occurs in
+/// the model, and the line on which it occurs first. It appends nothing if a rule L refuses the
+/// model. The only error is that memory was refused.
 pub fn push_line_names(
     alloc: Global,
     model: &[u8],
@@ -69,7 +69,7 @@ fn push_line_of_words(
     push_rows(alloc, &all, &shown, &plain, text)
 }
 
-/// How often each name stands on a line.
+/// How often each name occurs on a line.
 #[tactic(auto, unfolding(crate::specs::Index::words_on, crate::specs::Names::names_in))]
 fn names_on(alloc: Global, line: usize, words: &[PlainWord<'_>]) -> Result<NameCounts, AllocError>
     ensures { IfOk result (λ names. names
@@ -88,7 +88,7 @@ fn names_on(alloc: Global, line: usize, words: &[PlainWord<'_>]) -> Result<NameC
     Ok(names)
 }
 
-/// Appends a row for each name among these words that is to be shown, where it stands first.
+/// Appends a row for each name among these words that is to be shown, at its first place.
 #[tactic(auto, unfolding(crate::specs::Index::name_rows))]
 fn push_rows(
     alloc: Global,
@@ -112,7 +112,7 @@ fn push_rows(
     Ok(())
 }
 
-/// Whether a name, of those to be shown, stands here first.
+/// Whether a name, one of those to be shown, occurs here first.
 #[tactic(auto, unfolding(crate::specs::Index::is_shown))]
 fn is_shown(shown: &NameCounts, before: &NameCounts, name: &[u8]) -> bool
     ensures { result ≡ spec.is_shown shown.now before.now name.now }
@@ -120,7 +120,7 @@ fn is_shown(shown: &NameCounts, before: &NameCounts, name: &[u8]) -> bool
     before.count(name) == 0 && shown.count(name) > 0
 }
 
-/// Appends the row of a name, where it stands first and is to be shown.
+/// Appends the row of a name, if it occurs here first and is to be shown.
 fn push_row(
     text: &mut Vec<u8>,
     all: &NameCounts,
@@ -144,11 +144,11 @@ fn push_row(
     text.extend_from_slice(b"\n")
 }
 
-/// Appends what is told of a name of a model, in upper case (docs/SENTENCES.md): how often it
-/// stands, what it is and where that is declared, the lines on which it stands in a DEFINE or HAS,
-/// is set, read and else named, and whether it stands only once, or is never set or never read;
-/// `NO NAME` where it does not stand, and nothing
-/// where a rule L refuses the model. The only error is that memory was refused.
+/// Appends the report on a name of a model, in upper case (docs/SENTENCES.md): how often it occurs,
+/// its kind and the line of its declaration, the lines on which it is in a DEFINE or HAS, is set,
+/// read and else named, and whether it occurs only once, or is never set or never read. The report
+/// is `NO NAME` if it does not occur, and nothing if a rule L refuses the model. The only error is
+/// that memory was refused.
 pub fn push_name(
     alloc: Global,
     model: &[u8],
@@ -187,7 +187,7 @@ fn push_name_of_words(
     push_told(alloc, words, name, count, text)
 }
 
-/// Appends what is told of a name that stands so often.
+/// Appends the report on a name that occurs `count` times.
 fn push_told(
     alloc: Global,
     words: &[PlainWord<'_>],
@@ -204,7 +204,7 @@ fn push_told(
     text.extend_from_slice(b"\n")
 }
 
-/// Appends a name, how often it stands, and what it is.
+/// Appends a name, how often it occurs, and its kind.
 #[tactic(auto, unfolding(crate::specs::Index::name_front))]
 fn push_front(
     alloc: Global,
@@ -220,7 +220,7 @@ fn push_front(
     push_what(alloc, words, name, text)
 }
 
-/// Appends a name, and how often it stands.
+/// Appends a name, and how often it occurs.
 fn push_head(text: &mut Vec<u8>, name: &[u8], count: usize) -> Result<(), AllocError>
     ensures { OnOk result (text.new.items ≡ text.old.items ++ spec.name_head name.now count) }
 {
@@ -230,7 +230,7 @@ fn push_head(text: &mut Vec<u8>, name: &[u8], count: usize) -> Result<(), AllocE
     text.extend_from_slice(buffer.format(count).as_bytes())
 }
 
-/// Appends what a name is.
+/// Appends the kind of a name.
 fn push_what(
     alloc: Global,
     words: &[PlainWord<'_>],
@@ -245,7 +245,7 @@ fn push_what(
     push_known(text, known_as(&declarations, name))
 }
 
-/// Appends where a name has each role.
+/// Appends the lines on which a name has each role.
 fn push_roles(
     alloc: Global,
     words: &[PlainWord<'_>],
@@ -261,7 +261,7 @@ fn push_roles(
     push_role_part(alloc, words, name, Role::Named, b", named on", text)
 }
 
-/// Appends what is remarkable of a name that stands so often.
+/// Appends the remarks about a name that occurs `count` times.
 fn push_remarks(
     alloc: Global,
     words: &[PlainWord<'_>],
@@ -277,7 +277,7 @@ fn push_remarks(
     push_only_remark(alloc, words, name, Role::Set, b", NEVER READ", text)
 }
 
-/// Appends that a name stands once, where it does.
+/// Appends that a name occurs once, if it does.
 #[tactic(auto, unfolding(crate::specs::Index::once_remark))]
 fn push_once_remark(text: &mut Vec<u8>, count: usize) -> Result<(), AllocError>
     ensures { OnOk result (text.new.items ≡ text.old.items ++ spec.once_remark count) }
@@ -285,7 +285,7 @@ fn push_once_remark(text: &mut Vec<u8>, count: usize) -> Result<(), AllocError>
     push_remark(text, count == 1, b", ONLY ONCE")
 }
 
-/// Appends that words use a name in one way alone, where they do.
+/// Appends that words use a name in one way only, if they do.
 #[tactic(auto, unfolding(crate::specs::Index::only_remark))]
 fn push_only_remark(
     alloc: Global,
@@ -302,7 +302,7 @@ fn push_only_remark(
     push_remark(text, is_so, said)
 }
 
-/// Whether words use a name in one way alone, but that they declare it.
+/// Whether words use a name in one way only, but that they declare it.
 #[tactic(auto, unfolding(crate::specs::Index::only_with))]
 fn only_with(
     alloc: Global,
@@ -318,7 +318,7 @@ fn only_with(
     Ok(is_only(&all, &declared, &used, name))
 }
 
-/// Appends a remark, where it is so.
+/// Appends a remark, if it is so.
 #[tactic(auto, unfolding(crate::specs::Index::remark))]
 fn push_remark(text: &mut Vec<u8>, is_so: bool, said: &[u8]) -> Result<(), AllocError>
     ensures { OnOk result (text.new.items ≡ text.old.items ++ spec.remark is_so said.now) }
@@ -329,7 +329,7 @@ fn push_remark(text: &mut Vec<u8>, is_so: bool, said: &[u8]) -> Result<(), Alloc
     Ok(())
 }
 
-/// Appends the lines on which a name has a role, behind what is said of them.
+/// Appends the lines on which a name has a role, after the text about them.
 #[tactic(auto, unfolding(crate::specs::Index::role_part))]
 fn push_role_part(
     alloc: Global,

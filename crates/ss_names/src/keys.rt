@@ -11,7 +11,7 @@ use ss_program::NameCounts;
 use ss_words::{Mark, Plain, PlainWord, Reserved};
 use std::alloc::{AllocError, Global};
 
-/// The section behind a word: told by the place of the END before it.
+/// The section after a word, given by the place of the END before it.
 pub fn section_behind(section: u32, word: &PlainWord<'_>) -> u32
     ensures { result ≡ spec.section_behind section (plain_at word.now) }
 {
@@ -21,7 +21,7 @@ pub fn section_behind(section: u32, word: &PlainWord<'_>) -> u32
     }
 }
 
-/// What a name is counted as: itself where it is declared; else with its section before it.
+/// The key of a name: the name itself if it is declared; else with its section before it.
 pub fn key(
     alloc: Global,
     declarations: &Declarations<'_>,
@@ -51,7 +51,7 @@ fn is_counted(role: Option<Role>, standing: Standing) -> bool
     }
 }
 
-/// What each name with this role is counted as, or each name.
+/// The key of each name with this role, or of each name.
 #[tactic(auto, unfolding(crate::specs::Keys::keys_with))]
 pub fn keys_with(
     alloc: Global,

@@ -1,4 +1,4 @@
-//! What a name is, as it is told.
+//! The kind of a name, and the text that says it.
 ghost use Rattle.std.specs.Prelude.{◌≡◌, ◌++◌, map, OnOk};
 ghost use Rattle.ss_names.specs.Known as spec;
 ghost use Rattle.ss_names.specs.Known.{known_at};
@@ -16,16 +16,16 @@ pub const CLOCK: [&[u8]; 1] = [b"TIME.V"];
 /// The functions of the language.
 pub const FUNCTIONS: [&[u8]; 5] = [b"ABS.F", b"MAX.F", b"MIN.F", b"DIV.F", b"MOD.F"];
 
-/// How the names begin of what a set keeps of its owners.
+/// The beginnings of the names that a set keeps of its owners.
 pub const OF_OWNERS: [&[u8]; 3] = [b"F.", b"L.", b"N."];
 
-/// The same of its members.
+/// The beginnings of the names that a set keeps of its members.
 pub const OF_MEMBERS: [&[u8]; 3] = [b"P.", b"S.", b"M."];
 
-/// The same of the count of a permanent class.
+/// The beginning of the name of the count of a permanent class.
 pub const OF_CLASS: [&[u8]; 1] = [b"N."];
 
-/// What a name is.
+/// The kind of a name.
 #[derive(Clone, Copy)]
 pub enum What {
     /// No declaration gives it: in a section, a local variable.
@@ -35,13 +35,13 @@ pub enum What {
     OfOwners,
     /// Kept of the members of a set.
     OfMembers,
-    /// `N.class` of a permanent class.
+    /// The count of a permanent class, `N.class`.
     Count,
     Clock,
     Function,
 }
 
-/// What a name is, of which class or set, and where that is declared: line 0 where it is not.
+/// The kind of a name, its class or set, and the line of its declaration: 0 if there is none.
 #[derive(Clone, Copy)]
 pub struct Known<'a> {
     pub what: What,
@@ -49,7 +49,7 @@ pub struct Known<'a> {
     pub line: usize,
 }
 
-/// What a name is that begins as those do that are kept of a set or class.
+/// The kind of a name that begins like the names that are kept of a set or class.
 fn companion<'a>(declarations: &Declarations<'a>, name: &[u8]) -> Known<'a>
     ensures { known_at result ≡ spec.companion declarations.now name.now }
 {
@@ -73,7 +73,7 @@ fn undeclared<'a>() -> Known<'a>
     }
 }
 
-/// What a name is that begins so, before a declared name.
+/// The kind of a name that begins so, before a declared name.
 fn companion_of<'a>(front: &[u8], row: Row<'a>) -> Known<'a>
     ensures { known_at result ≡ spec.companion_of front.now (declaration_at row.entry) }
 {
@@ -116,7 +116,7 @@ fn count_what(front: &[u8]) -> What
     }
 }
 
-/// What the language, a set or a class gives a name, whatever else it is declared as.
+/// The kind that the language, a set or a class gives a name, whatever else it is declared as.
 pub fn given<'a>(declarations: &Declarations<'a>, name: &[u8]) -> Known<'a>
     ensures { known_at result ≡ spec.knowledge_given declarations.now name.now }
 {
@@ -129,7 +129,7 @@ pub fn given<'a>(declarations: &Declarations<'a>, name: &[u8]) -> Known<'a>
     companion(declarations, name)
 }
 
-/// What a name is: by its own declaration, if it has one, or else what is given.
+/// The kind of a name: by its own declaration, if it has one, or else the given kind.
 pub fn known_as<'a>(declarations: &Declarations<'a>, name: &[u8]) -> Known<'a>
     ensures { known_at result ≡ spec.knowledge_of declarations.now name.now }
 {
@@ -153,7 +153,7 @@ fn of_language<'a>(what: What) -> Known<'a>
     }
 }
 
-/// What a meaning is called.
+/// The text for a meaning.
 fn meaning_text(meaning: Meaning) -> &'static [u8]
     ensures { result.now ≡ spec.meaning_text meaning }
 {
@@ -169,7 +169,7 @@ fn meaning_text(meaning: Meaning) -> &'static [u8]
     }
 }
 
-/// What a name is called, before what it is of.
+/// The text for a kind, before its class or set.
 fn what_text(what: What) -> &'static [u8]
     ensures { result.now ≡ spec.what_text what }
 {
@@ -183,7 +183,7 @@ fn what_text(what: What) -> &'static [u8]
     }
 }
 
-/// Whether it is told of what a name is.
+/// Whether the text for a kind gives its class or set.
 fn tells_of(what: What) -> bool
     ensures { result ≡ spec.tells_of what }
 {
@@ -193,7 +193,7 @@ fn tells_of(what: What) -> bool
     )
 }
 
-/// Appends what a name is, of which class or set, and the line of its declaration, if it has one.
+/// Appends the kind of a name, its class or set, and the line of its declaration, if it has one.
 pub fn push_known(text: &mut Vec<u8>, known: Known<'_>) -> Result<(), AllocError>
     ensures { OnOk result (text.new.items
         ≡ text.old.items ++ spec.known_text (known_at known.entry)) }

@@ -1,4 +1,4 @@
-//! What stands before a word of the text: the first MAIN and PRIORITY, and the head of its section.
+//! The landmarks before a word: the first MAIN and PRIORITY, and the head of its section.
 ghost use Rattle.std.specs.Prelude.{◌≡◌};
 ghost use Rattle.ss_words.specs.Plain.{plain_at};
 ghost use Rattle.ss_names.specs.Landmarks as spec;
@@ -6,7 +6,7 @@ ghost use Rattle.ss_names.specs.Landmarks as spec;
 use crate::here::Here;
 use ss_words::{Mark, Plain, PlainWord, Reserved};
 
-/// The line that was found first: this, where there is none.
+/// The line that was found first; this line, if there is none.
 fn first_or(first: usize, line: usize) -> usize
     ensures { result ≡ spec.first_or first line }
 {
@@ -25,7 +25,7 @@ fn is_priority(mark: Option<Mark>) -> bool
     matches!(mark, Some(Mark::Reserved(Reserved::Priority)))
 }
 
-/// The line of the first MAIN behind a word; 0 where there is none.
+/// The line of the first MAIN after a word; 0 if there is none.
 pub fn main_behind(main: usize, word: &PlainWord<'_>) -> usize
     ensures { result ≡ spec.main_behind main (plain_at word.now) }
 {
@@ -35,7 +35,7 @@ pub fn main_behind(main: usize, word: &PlainWord<'_>) -> usize
     main
 }
 
-/// The line of the first PRIORITY behind a word; 0 where there is none.
+/// The line of the first PRIORITY after a word; 0 if there is none.
 pub fn priority_behind(priority: usize, word: &PlainWord<'_>) -> usize
     ensures { result ≡ spec.priority_behind priority (plain_at word.now) }
 {
@@ -45,7 +45,7 @@ pub fn priority_behind(priority: usize, word: &PlainWord<'_>) -> usize
     priority
 }
 
-/// Whether a name here is that of a section, behind ROUTINE or EVENT.
+/// Whether a name here is that of a section, after ROUTINE or EVENT.
 fn names_section(here: Here) -> bool
     ensures { result ≡ spec.names_section here }
 {
@@ -56,7 +56,7 @@ fn names_section(here: Here) -> bool
         )
 }
 
-/// The name of the section behind a word: its own, where that is the word; empty behind MAIN.
+/// The name of the section after a word: the word itself, if it is that; empty after MAIN.
 pub fn section_behind<'a>(section: &'a [u8], here: Here, word: &PlainWord<'a>) -> &'a [u8]
     ensures { result.now ≡ spec.section_behind section.now here (plain_at word.now) }
 {
@@ -69,14 +69,14 @@ pub fn section_behind<'a>(section: &'a [u8], here: Here, word: &PlainWord<'a>) -
     }
 }
 
-/// A name here, where it is that of a section; or else this.
+/// A name here, if it is that of a section; or else this.
 fn section_or<'a>(section: &'a [u8], here: Here, name: &'a [u8]) -> &'a [u8]
     ensures { result.now ≡ spec.section_or section.now here name.now }
 {
     if names_section(here) { name } else { section }
 }
 
-/// The line of the head of the section behind a word.
+/// The line of the head of the section after a word.
 pub fn head_behind(head: usize, here: Here, word: &PlainWord<'_>) -> usize
     ensures { result ≡ spec.head_behind head here (plain_at word.now) }
 {
@@ -86,7 +86,7 @@ pub fn head_behind(head: usize, here: Here, word: &PlainWord<'_>) -> usize
     }
 }
 
-/// The line of a head, where a name here is that of a section; or else this.
+/// The line of a head, if a name here is that of a section; or else this.
 fn head_or(head: usize, here: Here) -> usize
     ensures { result ≡ spec.head_or head here }
 {

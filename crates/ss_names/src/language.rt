@@ -9,7 +9,7 @@ pub const LANGUAGE_NAMES: [&[u8]; 6] = [
     b"TIME.V", b"ABS.F", b"MAX.F", b"MIN.F", b"DIV.F", b"MOD.F",
 ];
 
-/// How the names begin of what is kept of a class or a set.
+/// The beginnings of the names that are kept of a class or a set.
 pub const COMPANIONS: [&[u8]; 6] = [b"N.", b"F.", b"L.", b"P.", b"S.", b"M."];
 
 fn is_companion(name: &[u8]) -> bool
@@ -21,7 +21,8 @@ fn is_companion(name: &[u8]) -> bool
     }
 }
 
-/// Whether the language gives this name: the clock, a function, or what is kept of a class or a set.
+/// Whether the language gives this name: the clock, a function, or a name that is kept of a class
+/// or a set.
 #[tactic(auto, unfolding(crate::specs::Names::is_of_language))]
 pub fn is_of_language(name: &[u8]) -> bool
     ensures { result ≡ spec.is_of_language name.now }

@@ -1,4 +1,4 @@
-//! The names of a model, and warnings of what is suspicious in its words.
+//! The names of a model, and warnings of suspicious words in it.
 #![tactic(auto)]
 
 mod breach;

@@ -1,41 +1,40 @@
-//! What names are declared as.
+//! The meanings with which names are declared.
 ghost use Rattle.std.specs.Prelude.{◌≡◌};
 ghost use Rattle.ss_names.specs.Meanings as spec;
 
-/// What a name is declared as, by the words round it.
+/// The meaning with which a name is declared, by the words around it.
 #[derive(Clone, Copy)]
 pub enum Meaning {
-    /// A class behind EVERY under no heading.
+    /// A class after EVERY under no heading.
     Class,
     Permanent,
     Temporary,
     Event,
-    /// Behind HAS of EVERY.
+    /// After HAS of EVERY.
     Attribute,
-    /// Behind HAS of SYSTEM, or in a DEFINE of variables in the preamble.
+    /// After HAS of SYSTEM, or in a DEFINE of variables in the preamble.
     Variable,
     Set,
     Routine,
 }
 
-/// A declaration: a name, what it is declared as, and where.
+/// A declaration: a name, its declared meaning, and its place.
 #[derive(Clone, Copy)]
 pub struct Row<'a> {
     pub name: &'a [u8],
     pub meaning: Meaning,
-    /// The class of EVERY by whose clause it is declared; empty where there is none.
+    /// The class of EVERY by whose clause it is declared; empty if there is none.
     pub of: &'a [u8],
     pub line: usize,
     /// The place of its word among the words of the text, from 0.
     pub index: u32,
-    /// Of a routine how many values its head is given; of another name 0.
+    /// How many values the head of a routine is given; 0 for another name.
     pub given: usize,
-    /// The same of those that it yields.
+    /// How many values the head of a routine yields; 0 for another name.
     pub yielded: usize,
 }
 
-/// Whether two declarations of a name may stand side by side: of one set, or of classes under one
-/// kind of heading.
+/// Whether a name may have two declarations: of one set, or of classes under one kind of heading.
 pub fn may_repeat(first: Meaning, second: Meaning) -> bool
     ensures { result ≡ spec.may_repeat first second }
 {

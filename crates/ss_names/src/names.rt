@@ -7,7 +7,7 @@ use ss_program::NameCounts;
 use ss_words::{Plain, PlainWord};
 use std::alloc::{AllocError, Global};
 
-/// How often each name stands among these plain words.
+/// How often each name occurs among these plain words.
 #[tactic(auto, unfolding(crate::specs::Names::names_in))]
 pub fn names_in(alloc: Global, words: &[PlainWord<'_>]) -> Result<NameCounts, AllocError>
     ensures { IfOk result (λ names. names ≡ spec.names_in (map plain_at words.now)) }

@@ -1,4 +1,4 @@
-//! Names that stand once.
+//! Names that occur once.
 ghost use Rattle.std.specs.Prelude.{◌≡◌, ◌++◌, OnOk, map};
 ghost use Rattle.ss_words.specs.Plain.{plain_at};
 ghost use Rattle.ss_names.specs.Saying.{name_text, number_text, warning_line};
@@ -12,10 +12,10 @@ use ss_program::NameCounts;
 use ss_words::{Plain, PlainWord};
 use std::alloc::AllocError;
 
-/// What is said of a name that stands once. The definitions read it too.
-pub const ONCE: &[u8] = b" stands only here.\n";
+/// The text about a name that occurs once. The definitions read it too.
+pub const ONCE: &[u8] = b" occurs only here.\n";
 
-/// Appends a line, a name and what is said of it.
+/// Appends a line, a name and the text about it.
 pub fn push_warning(
     text: &mut Vec<u8>,
     line: usize,
@@ -33,7 +33,7 @@ pub fn push_warning(
     text.extend_from_slice(said)
 }
 
-/// Appends what is said before a number, the number, and what is said behind it.
+/// Appends the text before a number, the number, and the text after it.
 #[tactic(auto, unfolding(crate::specs::Saying::number_text))]
 pub fn push_number(
     text: &mut Vec<u8>,
@@ -50,7 +50,7 @@ pub fn push_number(
     text.extend_from_slice(behind)
 }
 
-/// Appends what is said before a name, and the name.
+/// Appends the text before a name, and the name.
 #[tactic(auto, unfolding(crate::specs::Saying::name_text))]
 pub fn push_name_behind(text: &mut Vec<u8>, before: &[u8], name: &[u8]) -> Result<(), AllocError>
     ensures { OnOk result (text.new.items
@@ -60,7 +60,7 @@ pub fn push_name_behind(text: &mut Vec<u8>, before: &[u8], name: &[u8]) -> Resul
     text.extend_from_slice(name)
 }
 
-/// Appends what is said of a name.
+/// Appends the warning about a name, if it occurs once.
 fn push_once_name(
     text: &mut Vec<u8>,
     names: &NameCounts,
@@ -76,7 +76,7 @@ fn push_once_name(
     Ok(())
 }
 
-/// Appends what is said of a word, where its name may not well stand once.
+/// Appends the warning about a word, unless its name may well occur once.
 fn push_once_word(
     text: &mut Vec<u8>,
     names: &NameCounts,
@@ -95,7 +95,7 @@ fn push_once_word(
     push_once_name(text, names, word.line(), name.bytes())
 }
 
-/// Appends each name of these words that stands once, where it may not well do so, with its line.
+/// Appends each name of these words that occurs once, unless it may well do so, with its line.
 #[tactic(auto, unfolding(crate::specs::Warnings::once_text))]
 pub fn push_once(
     text: &mut Vec<u8>,

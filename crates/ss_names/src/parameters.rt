@@ -1,4 +1,4 @@
-//! Parameters that stand twice in the head of a section.
+//! Parameters that occur twice in the head of a section.
 ghost use Rattle.std.specs.Prelude.{◌≡◌, map};
 ghost use Rattle.ss_words.specs.Plain.{plain_at};
 ghost use Rattle.ss_names.specs.Parameters as spec;
@@ -17,14 +17,14 @@ fn goes_on(mark: Mark) -> bool
     )
 }
 
-/// Whether no name of the list stands behind it.
+/// Whether no name of the list is after it.
 fn closes(mark: Mark) -> bool
     ensures { result ≡ spec.closes mark }
 {
     matches!(mark, Mark::Sign(Sign::Close))
 }
 
-/// Whether a parameter stands again in the list of its head, behind it.
+/// Whether a parameter occurs again in the list of its head, after it.
 #[tactic(auto, unfolding(crate::specs::Parameters::stands_again))]
 fn stands_again(name: &[u8], words: &[PlainWord<'_>]) -> bool
     ensures { result ≡ spec.stands_again name.now false (map plain_at words.now) }
@@ -58,7 +58,7 @@ fn is_head(word: Option<Reserved>) -> bool
     matches!(word, Some(Reserved::Routine | Reserved::Event))
 }
 
-/// Whether a name here is a parameter that stands again in its head, before these words.
+/// Whether a name here is a parameter that occurs again in its head, before these words.
 pub fn is_repeated(here: Here, name: &[u8], behind: &[PlainWord<'_>]) -> bool
     ensures { result ≡ spec.is_repeated here name.now (map plain_at behind.now) }
 {

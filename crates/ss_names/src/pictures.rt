@@ -21,7 +21,7 @@ fn is_thus(mark: Option<Mark>) -> bool
     matches!(mark, Some(Mark::Reserved(Reserved::Thus)))
 }
 
-/// How many values a PRINT has before these words: those of the list behind WITH, before THUS.
+/// How many values a PRINT has before these words: those of the list after WITH, before THUS.
 #[tactic(auto, unfolding(crate::specs::Pictures::value_count))]
 pub fn value_count(words: &[PlainWord<'_>]) -> usize
     ensures { result ≡ spec.value_count (map plain_at words.now) }
@@ -79,7 +79,7 @@ pub fn fields_in(alloc: Global, lines: &[Vec<u8>]) -> Result<Option<usize>, Allo
     }
 }
 
-/// Appends what is said of values and fields.
+/// Appends the text about values and fields.
 pub fn push_picture_text(
     text: &mut Vec<u8>,
     values: usize,
@@ -90,7 +90,7 @@ pub fn push_picture_text(
     match fields {
         Some(fields) => push_counts(text, values, fields),
         None => text.extend_from_slice(
-            b"A field of the picture has decimals: a stop stands between two asterisks.\n",
+            b"A field of the picture has decimals: a stop is between two asterisks.\n",
         ),
     }
 }

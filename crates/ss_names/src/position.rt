@@ -1,4 +1,4 @@
-//! How a name stands in its item, head or statement, by the words round it.
+//! The position of a name in its item, head or statement, by the words around it.
 ghost use Rattle.std.specs.Prelude.{◌≡◌, map};
 ghost use Rattle.ss_words.specs.Plain.{plain_at};
 ghost use Rattle.ss_names.specs.Positions as spec;
@@ -6,18 +6,18 @@ ghost use Rattle.ss_names.specs.Positions as spec;
 use crate::here::Here;
 use ss_words::{Mark, PlainWord, Reserved, Sign};
 
-/// How a name stands.
+/// The position of a name.
 #[derive(Clone, Copy)]
 pub enum Position {
     /// It is declared.
     Declared,
     /// A parameter, or a name of a DEFINE at a section's head.
     Local,
-    /// Directly behind EVENT, at the head of a section.
+    /// Directly after EVENT, at the head of a section.
     Head,
     /// A key of a ranking.
     Key,
-    /// Behind PRIORITY ORDER IS.
+    /// After PRIORITY ORDER IS.
     Ordered,
     /// As a class of permanent entities.
     PermanentClass,
@@ -25,7 +25,7 @@ pub enum Position {
     EndingClass,
     /// As a class of event notices.
     EventClass,
-    /// Directly behind CALL.
+    /// Directly after CALL.
     Routine,
     /// As a set.
     InSet,
@@ -37,7 +37,7 @@ pub enum Position {
     Value,
 }
 
-/// The reserved word or sign directly behind, if one stands there.
+/// The reserved word or sign directly after a name, if one is there.
 pub fn first_mark(words: &[PlainWord<'_>]) -> Option<Mark>
     ensures { result ≡ spec.first_mark (map plain_at words.now) }
 {
@@ -47,7 +47,7 @@ pub fn first_mark(words: &[PlainWord<'_>]) -> Option<Mark>
     }
 }
 
-/// Whether a parenthesis is opened directly behind.
+/// Whether a parenthesis is opened directly after a name.
 pub fn opens(behind: &[PlainWord<'_>]) -> bool
     ensures { result ≡ spec.opens (map plain_at behind.now) }
 {
@@ -78,7 +78,7 @@ fn is_empty(mark: Option<Mark>) -> bool
     matches!(mark, Some(Mark::Reserved(Reserved::Empty)))
 }
 
-/// The words behind the first.
+/// The words after the first.
 fn behind_first<'a, 'b>(words: &'b [PlainWord<'a>]) -> &'b [PlainWord<'a>]
     ensures { map plain_at result.now ≡ spec.behind_first (map plain_at words.now) }
 {
@@ -88,7 +88,7 @@ fn behind_first<'a, 'b>(words: &'b [PlainWord<'a>]) -> &'b [PlainWord<'a>]
     }
 }
 
-/// Whether IS EMPTY or IS NOT EMPTY stands directly behind.
+/// Whether IS EMPTY or IS NOT EMPTY is directly after a name.
 fn asks_empty(words: &[PlainWord<'_>]) -> bool
     ensures { result ≡ spec.asks_empty (map plain_at words.now) }
 {
@@ -100,7 +100,7 @@ fn asks_empty(words: &[PlainWord<'_>]) -> bool
         || (is_not(first_mark(behind)) && is_empty(first_mark(behind_first(behind))))
 }
 
-/// How a name stands here, before these words.
+/// The position of a name here, before these words.
 pub fn position_at(here: Here, behind: &[PlainWord<'_>]) -> Position
     ensures { result ≡ spec.position here (map plain_at behind.now) }
 {
@@ -144,7 +144,7 @@ fn in_break(last: Option<Reserved>) -> Position
     }
 }
 
-/// How a name stands in a statement, before these words.
+/// The position of a name in a statement, before these words.
 fn in_statement(here: Here, behind: &[PlainWord<'_>]) -> Position
     ensures { result ≡ spec.in_statement here (map plain_at behind.now) }
 {
@@ -158,7 +158,7 @@ fn in_statement(here: Here, behind: &[PlainWord<'_>]) -> Position
     }
 }
 
-/// How a name stands behind a comma at the top of a statement.
+/// The position of a name after a comma at the top of a statement.
 fn in_list(begun: Option<Reserved>, last: Option<Reserved>) -> Position
     ensures { result ≡ spec.in_list begun last }
 {
@@ -201,8 +201,8 @@ fn is_of(word: Option<Reserved>) -> bool
     matches!(word, Some(Reserved::In))
 }
 
-/// How a name stands directly behind a reserved word of a statement that this word begins; whether
-/// IN stands behind it.
+/// The position of a name directly after a reserved word, in a statement that the word `begun`
+/// begins; `before_in` is whether IN is after the name.
 fn behind_word(word: Reserved, begun: Option<Reserved>, before_in: bool) -> Position
     ensures { result ≡ spec.behind_word word begun before_in }
 {

@@ -40,7 +40,7 @@ pub const STATEMENT_WORDS: [&[u8]; 26] = [
     b"END",
 ];
 
-/// What is said of such a line. The definitions read it too.
+/// The text about such a line. The definitions read it too.
 pub const PRINTED: &[u8] = b" begins a line of a picture here: it is printed, and no statement.\n";
 
 #[tactic(auto, unfolding(ss_words::specs::TextBytes::is_blank))]
@@ -57,7 +57,7 @@ fn blank_len(line: &[u8]) -> usize
     line.iter().take_while(|byte| is_blank(**byte)).count()
 }
 
-/// A line behind the blanks at its front.
+/// A line after the blanks at its front.
 fn behind_blanks(line: &[u8]) -> &[u8]
     ensures { result.now ≡ spec.behind_blanks line.now }
 {
@@ -84,15 +84,15 @@ fn has_asterisk(line: &[u8]) -> bool
     line.iter().any(|byte| *byte == ASTERISK)
 }
 
-/// Whether a line of a picture, behind so many, looks like a statement: it is not the first, begins
-/// with the word of one, and has no field.
+/// Whether a line of a picture, after `number` lines, looks like a statement: it is not the first,
+/// begins with the word of one, and has no field.
 fn is_like_statement(number: usize, line: &[u8]) -> bool
     ensures { result ≡ spec.is_like_statement number line.now }
 {
     number > 0 && is_among(first_word(line), &STATEMENT_WORDS) && !has_asterisk(line)
 }
 
-/// Appends what is said of a line of a picture, behind so many.
+/// Appends the text about a line of a picture, after `number` lines.
 fn push_printed_line(
     text: &mut Vec<u8>,
     first: usize,

@@ -1,4 +1,4 @@
-//! Keys of ranked sets that are set of an entity behind its FILE.
+//! Keys of ranked sets that are set for an entity after its FILE.
 ghost use Rattle.std.specs.Prelude.{◌≡◌, ◌++◌, [], OnOk, map};
 ghost use Rattle.ss_words.specs.Plain.{plain_at};
 ghost use Rattle.ss_names.specs.Here.{at_start};
@@ -12,8 +12,8 @@ use crate::position::{Position, opens, position_at};
 use ss_words::{Mark, Plain, PlainWord, Reserved};
 use std::alloc::AllocError;
 
-/// What is said of such a key. The definitions read it too.
-pub const RANKED: &[u8] = b" is set behind the FILE of its entity, and ranks that set.\n";
+/// The text about such a key. The definitions read it too.
+pub const RANKED: &[u8] = b" is set after the FILE of its entity, and ranks that set.\n";
 
 fn is_file(begun: Option<Reserved>) -> bool
     ensures { result ≡ spec.is_file begun }
@@ -36,7 +36,7 @@ fn is_behind_in(before: Option<Mark>) -> bool
     matches!(before, Some(Mark::Reserved(Reserved::In)))
 }
 
-/// Whether a name here is what FILE files.
+/// Whether a name here is the entity that FILE files.
 fn is_member(here: Here) -> bool
     ensures { result ≡ spec.is_member here }
 {
@@ -50,7 +50,7 @@ fn is_filed_set(here: Here) -> bool
     is_file(here.begun) && is_behind_in(here.before)
 }
 
-/// Whether a reserved word ends what is known of a FILE.
+/// Whether a reserved word ends the knowledge of a FILE.
 fn forgets(word: Reserved) -> bool
     ensures { result ≡ spec.forgets word }
 {
@@ -60,7 +60,7 @@ fn forgets(word: Reserved) -> bool
     )
 }
 
-/// Whether a word ends what is known of a FILE.
+/// Whether a word ends the knowledge of a FILE.
 fn is_forgetting(word: &PlainWord<'_>) -> bool
     ensures { result ≡ spec.is_forgetting (plain_at word.now) }
 {
@@ -70,7 +70,7 @@ fn is_forgetting(word: &PlainWord<'_>) -> bool
     }
 }
 
-/// The name of the member that was filed last, behind a word; empty where none was.
+/// The name of the member that was filed last, after a word; empty if none was.
 fn member_behind<'a>(member: &'a [u8], here: Here, word: &PlainWord<'a>) -> &'a [u8]
     ensures { result.now ≡ spec.member_behind member.now here (plain_at word.now) }
 {
@@ -83,7 +83,7 @@ fn member_behind<'a>(member: &'a [u8], here: Here, word: &PlainWord<'a>) -> &'a 
     member
 }
 
-/// The name of the set into which it was filed, behind a word; empty where none is named yet.
+/// The name of the set into which it was filed, after a word; empty if none is named yet.
 fn set_behind<'a>(set: &'a [u8], here: Here, word: &PlainWord<'a>) -> &'a [u8]
     ensures { result.now ≡ spec.set_behind set.now here (plain_at word.now) }
 {
@@ -106,7 +106,7 @@ fn name_or<'a>(word: &PlainWord<'a>, otherwise: &'a [u8]) -> &'a [u8]
     }
 }
 
-/// The name directly behind an opened parenthesis; empty where there is none.
+/// The name directly after an opened parenthesis; empty if there is none.
 fn subscript<'a>(behind: &[PlainWord<'a>]) -> &'a [u8]
     ensures { result.now ≡ spec.subscript (map plain_at behind.now) }
 {
@@ -116,8 +116,8 @@ fn subscript<'a>(behind: &[PlainWord<'a>]) -> &'a [u8]
     }
 }
 
-/// The name of the entity of an attribute: its subscript where that begins with a name, or its class
-/// where it has none.
+/// The name of the entity of an attribute: its subscript if that begins with a name, or its class
+/// if it has none.
 fn entity<'a>(names: &Declarations<'a>, name: &[u8], behind: &[PlainWord<'a>]) -> &'a [u8]
     ensures { result.now
         ≡ spec.entity names.now name.now (map plain_at behind.now) }
@@ -147,7 +147,7 @@ fn is_target(position: Position) -> bool
     matches!(position, Position::Target)
 }
 
-/// Whether a name is a key that is set of an entity behind its FILE.
+/// Whether a name is a key that is set for an entity after its FILE.
 fn is_told(
     names: &Declarations<'_>,
     keys: &Declarations<'_>,
@@ -166,7 +166,7 @@ fn is_told(
         && entity(names, name, behind) == member
 }
 
-/// Appends what is said of a word, if it is such a key.
+/// Appends the warning about a word, if it is such a key.
 fn push_ranked_word(
     text: &mut Vec<u8>,
     names: &Declarations<'_>,
@@ -190,7 +190,7 @@ fn push_ranked_word(
     Ok(())
 }
 
-/// Appends each key of a ranked set that is set of an entity behind its FILE in that set, with its
+/// Appends each key of a ranked set that is set for an entity after its FILE in that set, with its
 /// line.
 #[tactic(auto, unfolding(crate::specs::Ranked::ranked_text))]
 pub fn push_ranked<'a>(

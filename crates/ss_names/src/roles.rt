@@ -1,4 +1,4 @@
-//! How a name is used, as far as the words directly before it tell.
+//! How a name is used, as far as the words directly before it show.
 ghost use Rattle.std.specs.Prelude.{◌≡◌, ◌++◌, IfOk, OnOk, map};
 ghost use Rattle.ss_words.specs.Plain.{plain_at};
 ghost use Rattle.ss_names.specs.Roles as spec;
@@ -8,20 +8,20 @@ use ss_program::NameCounts;
 use ss_words::{Mark, Plain, PlainWord, Reserved, Sign};
 use std::alloc::{AllocError, Global};
 
-/// How a name is used where it stands.
+/// How a name is used at its place.
 #[derive(Clone, Copy)]
 pub enum Role {
     /// In a DEFINE or a HAS.
     Declared,
-    /// Directly behind LET, READ, COMPUTE, or the YIELDING of a CALL.
+    /// Directly after LET, READ, COMPUTE, or the YIELDING of a CALL.
     Set,
-    /// Directly behind an operator, or a word before a condition or a value.
+    /// Directly after an operator, or a word before a condition or a value.
     Read,
     /// In another way.
     Named,
 }
 
-/// What stands before a word.
+/// The words before a word.
 #[derive(Clone, Copy)]
 pub struct Standing {
     /// The reserved word or sign directly before it, if that is one.
@@ -30,7 +30,7 @@ pub struct Standing {
     pub in_define: bool,
     /// Whether it is HAS.
     pub in_has: bool,
-    /// Whether a CALL stands behind the last head of a section.
+    /// Whether a CALL is after the last head of a section.
     pub in_call: bool,
 }
 
@@ -47,7 +47,7 @@ impl Standing {
         }
     }
 
-    /// Behind a further word: this reserved word or sign, if it is one.
+    /// After a further word: this reserved word or sign, if it is one.
     pub fn behind(self, mark: Option<Mark>) -> Self
         ensures { result ≡ spec.behind self mark }
     {
@@ -67,7 +67,7 @@ impl Standing {
         }
     }
 
-    /// What a name is here.
+    /// The role of a name here.
     pub fn role(self) -> Role
         ensures { result ≡ spec.role_at self }
     {
@@ -88,7 +88,7 @@ impl Standing {
 }
 
 impl Standing {
-    /// Whether a name may well stand once here: as an attribute, which may only carry a value given
+    /// Whether a name may well occur once here: as an attribute, which may only carry a value given
     /// in its place, or as the variable of a loop that only counts.
     pub fn may_stand_once(self) -> bool
         ensures { result ≡ spec.may_stand_once self }
@@ -157,7 +157,7 @@ pub fn same_role(one: Role, other: Role) -> bool
     }
 }
 
-/// How often each name stands with this role among these plain words.
+/// How often each name occurs with this role among these plain words.
 #[tactic(auto, unfolding(crate::specs::Roles::names_with))]
 pub fn names_with(
     alloc: Global,
@@ -183,7 +183,7 @@ pub fn names_with(
     Ok(names)
 }
 
-/// Appends the lines on which a name stands with this role, each behind a blank.
+/// Appends the lines on which a name has this role, each after a blank.
 #[tactic(auto, unfolding(crate::specs::Roles::lines_with))]
 pub fn push_lines_with(
     text: &mut Vec<u8>,

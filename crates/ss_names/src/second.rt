@@ -1,4 +1,4 @@
-//! What a name breaks of C1: a second declaration.
+//! How a name breaks C1: a second declaration.
 ghost use Rattle.std.specs.Prelude.{◌≡◌};
 ghost use Rattle.ss_names.specs.Breaches as spec;
 ghost use Rattle.ss_names.specs.Known.{known_at};
@@ -11,8 +11,8 @@ use crate::meaning::{Meaning, may_repeat};
 use crate::position::Position;
 use ss_words::Reserved;
 
-/// What is wrong with a name that is declared here, is a parameter, or stands in an item, elsewhere
-/// too; or is an event that has a section before.
+/// The error of a name that is declared here, is a parameter, or is in an item, and is so elsewhere
+/// too; or the error of an event that has a section before.
 pub fn second_declaration(facts: &Facts<'_>, at: Standpoint<'_>) -> Option<Wrong>
     ensures { result ≡ spec.second_declaration facts.now (spec.standing_at at.entry) }
 {
@@ -25,7 +25,7 @@ pub fn second_declaration(facts: &Facts<'_>, at: Standpoint<'_>) -> Option<Wrong
     }
 }
 
-/// What is wrong with a name that is declared here: that conflicts, or its discipline is given before.
+/// The error of a name that is declared here: it conflicts, or its discipline is given before.
 fn wrong_declaration(facts: &Facts<'_>, at: Standpoint<'_>) -> Option<Wrong>
     ensures { result ≡ spec.wrong_declaration facts.now (spec.standing_at at.entry) }
 {
@@ -36,14 +36,14 @@ fn wrong_declaration(facts: &Facts<'_>, at: Standpoint<'_>) -> Option<Wrong>
     where_so(is_second, Wrong::DisciplinedTwice)
 }
 
-/// Whether a set stands in its DEFINE here.
+/// Whether a set is in its DEFINE here.
 fn is_in_define(at: Standpoint<'_>) -> bool
     ensures { result ≡ spec.is_in_define (spec.standing_at at.entry) }
 {
     is_set_here(at.declared) && matches!(at.last, Some(Reserved::Define))
 }
 
-/// What is wrong with a parameter: it is declared or given, or stands again.
+/// The error of a parameter: it is declared or given, or occurs again.
 fn wrong_parameter(facts: &Facts<'_>, at: Standpoint<'_>) -> Option<Wrong>
     ensures { result ≡ spec.wrong_parameter facts.now (spec.standing_at at.entry) }
 {
@@ -53,7 +53,7 @@ fn wrong_parameter(facts: &Facts<'_>, at: Standpoint<'_>) -> Option<Wrong>
     where_so(at.repeated, Wrong::ParameterTwice)
 }
 
-/// What is wrong with an event of an item: its ties are broken, or it is named external, before.
+/// The error of an event of an item: its ties are broken, or it is named external, before.
 fn wrong_item(facts: &Facts<'_>, at: Standpoint<'_>) -> Option<Wrong>
     ensures { result ≡ spec.wrong_item facts.now (spec.standing_at at.entry) at.entry.begun }
 {
@@ -66,7 +66,7 @@ fn wrong_item(facts: &Facts<'_>, at: Standpoint<'_>) -> Option<Wrong>
     }
 }
 
-/// Whether the first of some places of a name stands before this one.
+/// Whether the first of some places of a name is before this one.
 pub fn stands_before(places: &Declarations<'_>, at: Standpoint<'_>) -> bool
     ensures { result ≡ spec.stands_before (spec.standing_at at.entry)
         (declared_as places.now at.entry.name.now) }
@@ -83,7 +83,7 @@ fn is_undeclared(known: Known<'_>) -> bool
     matches!(known.what, What::Undeclared)
 }
 
-/// Whether a name that is declared here is declared before as what does not go with that, or is
+/// Whether a name that is declared here has an earlier declaration that does not go with it, or is
 /// given by the language, a set or a class.
 fn conflicts(facts: &Facts<'_>, at: Standpoint<'_>) -> bool
     ensures { result ≡ spec.conflicts facts.now (spec.standing_at at.entry) }

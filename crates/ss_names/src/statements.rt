@@ -1,4 +1,4 @@
-//! Which statement a breach of the checker's rules is about, where it is about no name.
+//! Which statement a breach of the checker's rules is about, if it is about no name.
 ghost use Rattle.std.specs.Prelude.{◌≡◌, ◌++◌, OnOk, map};
 ghost use Rattle.ss_words.specs.Plain.{plain_at};
 ghost use Rattle.ss_names.specs.Here.{at_start};
@@ -73,7 +73,7 @@ fn asks_about(rule: StatementRule, word: Reserved) -> bool
     }
 }
 
-/// The same of a word of the text.
+/// Whether a rule asks about the statement that a word of the text begins.
 fn asks_at(rule: StatementRule, word: &PlainWord<'_>) -> bool
     ensures { result ≡ spec.asks_at rule (plain_at word.now) }
 {
@@ -83,7 +83,7 @@ fn asks_at(rule: StatementRule, word: &PlainWord<'_>) -> bool
     }
 }
 
-/// Whether FOUND or NONE stands here.
+/// Whether FOUND or NONE is here.
 fn is_of_find(mark: Option<Mark>) -> bool
     ensures { result ≡ spec.is_of_find mark }
 {
@@ -99,8 +99,9 @@ fn is_find(word: Option<Reserved>) -> bool
     matches!(word, Some(Reserved::Find))
 }
 
-/// What stands before a word: the lines of the first MAIN and PRIORITY, 0 where there is none, the
-/// name of its section, empty in MAIN and before the first, and the line of that head.
+/// The landmarks before a word: the lines of the first MAIN and PRIORITY, 0 if there is none; the
+/// name of its section, empty in MAIN and before the first named section; and the line of that
+/// head.
 #[derive(Clone, Copy)]
 struct Track<'a> {
     main: usize,
@@ -141,15 +142,15 @@ fn is_broken_at(
 /// A statement that breaks a rule.
 #[derive(Clone, Copy)]
 struct Beginning<'a> {
-    /// The lines of the first MAIN and PRIORITY before it; 0 where there is none.
+    /// The lines of the first MAIN and PRIORITY before it; 0 if there is none.
     main: usize,
     priority: usize,
     /// The name of its section, and the line of that head.
     section: &'a [u8],
     head: usize,
-    /// The line on which what stands before it begins.
+    /// The line on which the item, head or statement before it begins.
     line: usize,
-    /// How many values it has behind WITH.
+    /// How many values it has after WITH.
     values: usize,
     /// The lines of its picture.
     picture: &'a [Vec<u8>],
@@ -182,7 +183,8 @@ fn word_statement<'a>(
     })
 }
 
-/// The same behind these landmarks.
+/// The statement that a word begins, after these landmarks, if it begins on a line and breaks a
+/// rule.
 fn statement_at<'a>(
     rule: StatementRule,
     line: usize,
@@ -241,7 +243,7 @@ fn first_statement<'a>(
     None
 }
 
-/// Whether MAIN stands among words.
+/// Whether MAIN is among words.
 #[tactic(auto, unfolding(crate::specs::Statements::has_main))]
 fn has_main(words: &[PlainWord<'_>]) -> bool
     ensures { result ≡ spec.has_main (map plain_at words.now) }
@@ -256,16 +258,16 @@ fn has_main(words: &[PlainWord<'_>]) -> bool
     false
 }
 
-/// Appends the section in which a statement stands.
+/// Appends the section of a statement.
 fn push_section(text: &mut Vec<u8>, section: &[u8], line: usize) -> Result<(), AllocError>
     ensures { OnOk result (text.new.items
         ≡ text.old.items ++ spec.section_text section.now line) }
 {
-    push_name_behind(text, b"It stands in the section ", section)?;
+    push_name_behind(text, b"It is in the section ", section)?;
     push_number(text, b", line ", line, b".\n")
 }
 
-/// Appends what is said of a PRINT with so many values.
+/// Appends the text about a PRINT with `values` values.
 fn push_print(
     alloc: Global,
     text: &mut Vec<u8>,
@@ -279,7 +281,7 @@ fn push_print(
     push_picture_text(text, values, fields)
 }
 
-/// Appends what is said of a statement that breaks a rule.
+/// Appends the text about a statement that breaks a rule.
 fn push_statement(
     alloc: Global,
     text: &mut Vec<u8>,
@@ -292,20 +294,20 @@ fn push_statement(
     match rule {
         StatementRule::WrongPicture => push_print(alloc, text, at.values, at.picture),
         StatementRule::WrongMain => {
-            push_number(text, b"The first MAIN stands on line ", at.main, b".\n")
+            push_number(text, b"The first MAIN is on line ", at.main, b".\n")
         }
         StatementRule::SecondPriority => push_number(
             text,
-            b"The first PRIORITY stands on line ",
+            b"The first PRIORITY is on line ",
             at.priority,
             b".\n",
         ),
         StatementRule::WrongStart => push_section(text, at.section, at.head),
         StatementRule::WithoutFind => push_number(
             text,
-            b"What begins on line ",
+            b"The words that begin on line ",
             at.line,
-            b" stands before it, and is no FIND.\n",
+            b" come before it, and are no FIND.\n",
         ),
     }
 }
@@ -316,7 +318,7 @@ fn is_main_rule(rule: StatementRule) -> bool
     matches!(rule, StatementRule::WrongMain)
 }
 
-/// Appends what is said where there is no such statement: that no section is MAIN.
+/// Appends the text if there is no such statement: that no section is MAIN.
 fn push_no_statement(
     text: &mut Vec<u8>,
     rule: StatementRule,
@@ -331,7 +333,7 @@ fn push_no_statement(
     Ok(())
 }
 
-/// Appends what is said of the first statement that begins on a line and breaks a rule.
+/// Appends the text about the first statement that begins on a line and breaks a rule.
 pub fn push_statement_breach(
     alloc: Global,
     text: &mut Vec<u8>,

@@ -13,10 +13,10 @@ use ss_words::{Plain, PlainWord};
 use std::alloc::{AllocError, Global};
 use std::marker::Model;
 
-/// What is said of a name that is set and never read. The definitions read these texts too.
+/// The text about a name that is set and never read. The definitions read these texts too.
 pub const UNREAD: &[u8] = b" is set, and never read.\n";
 
-/// What is said of a name that is read and never set.
+/// The text about a name that is read and never set.
 pub const UNSET: &[u8] = b" is read, and never set.\n";
 
 /// Whether a name is used in this way, and in no other but that it is declared.
@@ -28,7 +28,7 @@ pub fn is_only(all: &NameCounts, declared: &NameCounts, used: &NameCounts, name:
     count > 0 && count <= all.count(name) && others == declared.count(name)
 }
 
-/// How often names stand: all, those that are declared there, and those that are used in one way.
+/// How often names occur: all, those that are declared there, and those that are used in one way.
 #[derive(Drop)]
 pub struct Counted {
     pub all: NameCounts,
@@ -44,7 +44,7 @@ impl Model for Counted {
     ghost view = { λ a. record { all = a.all; declared = a.declared; used = a.used } };
 }
 
-/// How often names stand among words, and with a role.
+/// How often names occur among words, and with a role.
 fn count_names(
     alloc: Global,
     declarations: &Declarations<'_>,
@@ -61,7 +61,7 @@ fn count_names(
     })
 }
 
-/// Whether it is to be told of a name that is counted as this, behind others.
+/// Whether a name that is counted as this, after others, is to be reported.
 fn is_told(
     names: &NameCounts,
     counted: &Counted,
@@ -77,7 +77,7 @@ fn is_told(
         && !is_of_language(name)
 }
 
-/// Appends what is said of a name that is counted as this, behind others.
+/// Appends the warning about a name that is counted as this, after others.
 #[tactic(auto, unfolding(crate::specs::Unread::only_name))]
 fn push_only_name(
     text: &mut Vec<u8>,
@@ -98,7 +98,7 @@ fn push_only_name(
     Ok(())
 }
 
-/// Appends what is said of a name in a section, behind others.
+/// Appends the warning about a name in a section, after others.
 #[tactic(auto, unfolding(crate::specs::Unread::section_name))]
 fn push_section_name(
     alloc: Global,
@@ -120,7 +120,7 @@ fn push_section_name(
     push_only_name(text, said, names, counted, before, line, name, &key)
 }
 
-/// Appends what is said of a word, if it is a name.
+/// Appends the warning about a word, if it is a name.
 fn push_only_word(
     alloc: Global,
     text: &mut Vec<u8>,
@@ -172,8 +172,8 @@ fn add_word(
     before.add(&key)
 }
 
-/// Appends each name among these words that is used in this way alone, with the line on which it
-/// stands first; a local variable of each section by itself.
+/// Appends each name among these words that is used in this way only, with the line on which it
+/// occurs first; a local variable of each section by itself.
 #[tactic(auto, unfolding(crate::specs::Unread::only_text))]
 pub fn push_only(
     alloc: Global,
@@ -210,7 +210,7 @@ pub fn push_only(
     Ok(())
 }
 
-/// Appends each name that is used with this role alone.
+/// Appends each name that is used with this role only.
 pub fn push_uses(
     alloc: Global,
     text: &mut Vec<u8>,

@@ -6,7 +6,7 @@ use crate::once::push_warning;
 use ss_program::{Place, Program, Section, Spot, Timing};
 use std::alloc::AllocError;
 
-/// What is said of the first SCHEDULE then. The definitions read these texts too.
+/// The text about the first SCHEDULE then. The definitions read these texts too.
 pub const SCHEDULING_WORD: &[u8] = b"SCHEDULE";
 
 pub const UNSTARTED: &[u8] = b" is here, and START SIMULATION nowhere: no event occurs.\n";

@@ -9,10 +9,10 @@ use ss_program::{Class, ClassKind, Filing, Place, Program, Section, Timing};
 use ss_words::{Plain, PlainWord, TextFault, plain_words, words};
 use std::alloc::{AllocError, Global};
 
-/// What is said of a set into which nothing is filed. The definitions read these texts too.
+/// The text about a set into which nothing is filed. The definitions read these texts too.
 pub const UNFILED: &[u8] = b" is a set into which nothing is filed.\n";
 
-/// What is said of an event that nothing schedules.
+/// The text about an event that nothing schedules.
 pub const UNSCHEDULED: &[u8] = b" is an event that nothing schedules.\n";
 
 #[tactic(auto, unfolding(crate::specs::Unused::files_into))]
@@ -100,7 +100,7 @@ fn is_unscheduled(program: &Program, number: usize, class: &Class) -> bool
     !any_schedules(&program.sections, number)
 }
 
-/// The line on which a name stands first among words, 0 where it does not.
+/// The line on which a name occurs first among words, 0 if it does not occur.
 #[tactic(auto, unfolding(crate::specs::Unused::first_line))]
 fn first_line(told: &[u8], words: &[PlainWord<'_>]) -> usize
     ensures { result ≡ spec.first_line told.now (map plain_at words.now) }
@@ -155,8 +155,8 @@ fn push_unscheduled(
     Ok(())
 }
 
-/// Appends the warnings of a model that its program tells (docs/SENTENCES.md), each with the line on
-/// which the name stands first: the sets into which nothing is filed, the events that neither a
+/// Appends the warnings of a model that its program gives (docs/SENTENCES.md), each with the line
+/// on which the name occurs first: the sets into which nothing is filed, the events that neither a
 /// SCHEDULE nor the data schedule, and the first SCHEDULE of a program that never starts the
 /// simulation. The only error is that memory was refused.
 pub fn push_program_warnings(

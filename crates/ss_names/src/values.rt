@@ -1,4 +1,4 @@
-//! How many values stand behind a name.
+//! How many values are after a name.
 ghost use Rattle.std.specs.Prelude.{◌≡◌, map};
 ghost use Rattle.ss_words.specs.Plain.{plain_at};
 ghost use Rattle.ss_names.specs.Values as spec;
@@ -41,7 +41,7 @@ fn is_close(mark: Option<Mark>) -> bool
     matches!(mark, Some(Mark::Sign(Sign::Close)))
 }
 
-/// How many values stand behind an opened parenthesis, before its own is closed.
+/// How many values are after an opened parenthesis, before its own is closed.
 #[tactic(auto, unfolding(crate::specs::Values::within))]
 fn within(words: &[PlainWord<'_>]) -> usize
     ensures { result ≡ spec.within 1 1 (map plain_at words.now) }
@@ -63,7 +63,7 @@ fn within(words: &[PlainWord<'_>]) -> usize
     count
 }
 
-/// How many values stand in a list, up to the next reserved word.
+/// How many values are in a list, up to the next reserved word.
 #[tactic(auto, unfolding(crate::specs::Values::list_count))]
 pub fn list_count(words: &[PlainWord<'_>]) -> usize
     ensures { result ≡ spec.list_count 0 1 (map plain_at words.now) }
@@ -94,9 +94,9 @@ fn is_reserved(mark: Option<Mark>) -> bool
 /// The list that is looked for.
 #[derive(Clone, Copy)]
 pub enum List {
-    /// Behind GIVEN.
+    /// After GIVEN.
     Given,
-    /// Behind YIELDING.
+    /// After YIELDING.
     Yielded,
 }
 
@@ -109,7 +109,7 @@ fn begins_list(list: List, mark: Option<Mark>) -> bool
     }
 }
 
-/// Whether a list may still come behind a word: it is no reserved word, or GIVEN or CALLED.
+/// Whether a list may still come after a word: it is no reserved word, or GIVEN or CALLED.
 fn goes_on(mark: Option<Mark>) -> bool
     ensures { result ≡ spec.goes_on mark }
 {
@@ -119,7 +119,7 @@ fn goes_on(mark: Option<Mark>) -> bool
     }
 }
 
-/// How many values a list has among words; 0 where it is not written.
+/// How many values a list has among words; 0 if it is not written.
 #[tactic(auto, unfolding(crate::specs::Values::in_list))]
 pub fn in_list(list: List, words: &[PlainWord<'_>]) -> usize
     ensures { result ≡ spec.in_list list (map plain_at words.now) }
@@ -138,7 +138,7 @@ pub fn in_list(list: List, words: &[PlainWord<'_>]) -> usize
     0
 }
 
-/// How many values stand between parentheses directly behind a name; 0 where none is opened.
+/// How many values are between parentheses directly after a name; 0 if none is opened.
 pub fn arguments(behind: &[PlainWord<'_>]) -> usize
     ensures { result ≡ spec.arguments (map plain_at behind.now) }
 {
@@ -153,7 +153,7 @@ pub fn arguments(behind: &[PlainWord<'_>]) -> usize
     }
 }
 
-/// How many values are given behind a name.
+/// How many values are given after a name.
 pub fn given_count(behind: &[PlainWord<'_>]) -> usize
     ensures { result ≡ spec.given_count (map plain_at behind.now) }
 {

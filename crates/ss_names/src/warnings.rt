@@ -1,4 +1,4 @@
-//! Warnings of what is suspicious in the words of a model.
+//! Warnings of suspicious words of a model.
 ghost use Rattle.std.specs.Prelude.{◌≡◌, ◌++◌, OnOk, map};
 ghost use Rattle.ss_words.specs.Plain.{plain_at};
 ghost use Rattle.ss_names.specs.Warnings as spec;
@@ -16,11 +16,11 @@ use ss_program::NameCounts;
 use ss_words::{PlainWord, TextFault, Words, plain_words, words};
 use std::alloc::{AllocError, Global};
 
-/// Appends the warnings of a model (docs/SENTENCES.md), each with its line: the names that stand
+/// Appends the warnings of a model (docs/SENTENCES.md), each with its line: the names that occur
 /// once, those that are set and never read or read and never set, keys of ranked sets that are set
-/// of an entity behind its FILE, the words that are dropped where a name could have stood, and the
-/// lines of pictures that look like statements; nothing where a rule L refuses it. The only error is
-/// that memory was refused.
+/// for an entity after its FILE, the words that are dropped where a name could be, and the lines of
+/// pictures that look like statements. It appends nothing if a rule L refuses the model. The only
+/// error is that memory was refused.
 pub fn push_warnings(alloc: Global, model: &[u8], text: &mut Vec<u8>) -> Result<(), AllocError>
     ensures { OnOk result (text.new.items ≡ text.old.items ++ spec.warnings model.now) }
 {

@@ -1,4 +1,5 @@
--- What is answered where the reading of a preamble stopped, and that the code answers so.
+-- The answer at the word at which the reading of a preamble stopped, and the code gives this
+-- answer.
 use Rattle.std.proofs.Common.{◌≡◌, ◌⊎◌, ℕ, zero, suc, ◌+◌, ◌-◌, ◌≤◌, ◌<◌, Bool, true, false, leb, leb-true, List, []}
 use Rattle.std.proofs.Common.{◌∷◌, ◌++◌, length, length-append, take, drop, Option, Some, None, Ok, Err, refl, sym, ap}
 use Rattle.std.proofs.Common.{subst, ◌∙◌, arith}
@@ -38,7 +39,7 @@ last_role a (w ∷ ws) =
     let (rs, e, len) = last_role (behind_word a w (ws ++ word r.End ∷ [])) ws in
     (role a w ∷ rs, ap (λ (us : List Role). role a w ∷ us) e, ap suc len)
 
--- what passes a limit in a preamble is not its END
+-- a word that passes a limit in a preamble is not its END
 pub before_end : (is : Preamble) (k : ℕ) → PassesLimit (spell is) k → k + 1 < length (spell is)
 before_end is k past =
     let front = word r.Preamble ∷ spell_items is in
@@ -69,10 +70,10 @@ before_end is k past =
             let more : k + 2 ≤ length (spell is) → ⊥ = no_le (k + 2) (length (spell is)) h in
             absurd (whole (omega (arith, more, lt, total)))
 
--- ---- what a text is answered with
+-- ---- the answer to a text
 
 module _ (ws : List PlainAt) where
-  -- the words alone
+  -- the plain words without their numbers
   abbrev us : List Plain
   us = plains ws
 
@@ -158,7 +159,7 @@ module _ (ws : List PlainAt) where
             let is_word = here.is_word in
             subst (InRoom us) (let e = count in omega (arith, e, is_word, last)) here.before
 
-    -- a word that passes a limit among these is the text's last, so nothing stands behind them
+    -- a word that passes a limit among these is the text's last, so nothing is after it
     pub at_last : (k : ℕ) → PassesLimit (take n us) k → length ws ≤ k + 1 → length ws ≤ n
     at_last k passes le =
         let is_word = passes.is_word in
@@ -179,7 +180,7 @@ take_map f zero (x ∷ xs) = refl
 take_map f (suc k) [] = refl
 take_map f (suc k) (x ∷ xs) = ap (λ (ys : List _). f x ∷ ys) (take_map f k xs)
 
--- the numbers behind the words
+-- the numbers after the words
 numbers : (ts : List PlainWord) → map (λ w. w.index + 1) ts ≡ map (λ w. w.index + 1) (map plain_at ts)
 numbers [] = refl
 numbers (t ∷ ts) = ap (λ (ns : List ℕ). (t.index + 1) ∷ ns) (numbers ts)
@@ -222,7 +223,7 @@ no_preamble text d none e = inl ((λ h. no_both _ (subst HasPreamble (words_are 
     no_both true h g = absurd cc
     no_both false h g = absurd cc
 
--- ---- for the functions of the code, where the words up to number n were read and these are left
+-- ---- for the functions of the code, if the words up to number n were read and these are left
 
 module _ (text : List PlainWord) (rest : List Plain) (n : ℕ) (at : n ≡ length text - length rest) where
   -- the preamble was read
@@ -310,7 +311,7 @@ module _ (text : List PlainWord) (rest : List Plain) (n : ℕ) (at : n ≡ lengt
         (stopped_end (here text) n far (begun text h) (Some k) (passing k x, last)
         (at_last (here text) n far (begun text h) k (passing k x) last))
 
--- what stops the reading is a word, since no word is refused as past a limit by the grammar
+-- a word stops the reading, since no word is refused as past a limit by the grammar
 pub unexpected_of : (text : List PlainWord) (rest : List Plain) (e : Refusal) → (e ≡ g.Unexpected) ⊎ (e ≡ g.PastLimit)
     → Fails e rest (preamble_at (word_lines text) (plains_of text))
     → preamble_at (word_lines text) (plains_of text) ≡ (Err Unexpected, rest)

@@ -1,4 +1,4 @@
--- What words are answered with, computed by reading them and counting.
+-- The answers to words, computed by reading them and counting.
 use Rattle.std.proofs.Common.{◌≡◌, ℕ, ◌+◌, ◌-◌, ◌≤◌, ◌<◌, Bool, true, false, leb, leb-true, List, [], ◌∷◌, ◌++◌}
 use Rattle.std.proofs.Common.{length, take, Option, Some, None, Result, Ok, Err, refl, subst, arith}
 use mathlib.Core.Logic.{inl}
@@ -34,7 +34,7 @@ use Rattle.ss_preamble.proofs.NoMemoryRefusal.{IsSure, preamble_sure}
 
 -- ---- the first word that passes a limit
 
--- of these words, before which so many stand
+-- the first of these words that passes a limit, with k words before them
 abbrev past_from : Counts → Standing → ℕ → List Plain → Option ℕ
 past_from t a k [] = None
 past_from t a k (w ∷ ws) =
@@ -45,7 +45,7 @@ past_from t a k (w ∷ ws) =
 abbrev past_limit : List Plain → Option ℕ
 past_limit ws = past_from (tally_of []) at_start 0 ws
 
--- what it says of the words
+-- the law of this answer about the words
 abbrev IsPast : List Plain → Option ℕ → Type 0
 IsPast ws None = AreWithin (roles ws)
 IsPast ws (Some k) = PassesLimit ws k
@@ -73,7 +73,7 @@ past_limit_is ws = past_is ws (tally_of []) at_start 0 ws (omega arith) (begins 
 
 -- ---- the answer
 
--- what a text is answered with
+-- the answer to a text
 abbrev Answer : Type 0
 Answer = Result (Decls × ℕ) TextFault
 
@@ -81,12 +81,12 @@ Answer = Result (Decls × ℕ) TextFault
 abbrev refused_at : List PlainAt → TextRule → ℕ → Answer
 refused_at ws q k = Err (Refused q (line (lines ws) k))
 
--- where these items were read
+-- the answer if these items were read
 abbrev read_answer : List PlainAt → Preamble → Option ℕ → Answer
 read_answer ws is None = Ok (written (lines ws) is, word_behind ws (length (spell is)))
 read_answer ws is (Some k) = refused_at ws rule.PastLimit k
 
--- where word n is the farthest
+-- the answer if word n is the farthest
 abbrev stopped_answer : List PlainAt → ℕ → Option ℕ → Answer
 stopped_answer ws n None =
     if leb (n + 1) (length ws) then refused_at ws rule.UnexpectedWord n else refused_at ws rule.UnexpectedEnd
@@ -94,7 +94,7 @@ stopped_answer ws n None =
 stopped_answer ws n (Some k) =
     if leb (k + 2) (length ws) then refused_at ws rule.PastLimit k else refused_at ws rule.UnexpectedEnd (length ws - 1)
 
--- by what the reading gave
+-- the answer by the result of the reading
 abbrev told_answer : List PlainAt → Result Preamble Refusal → List Plain → Answer
 told_answer ws (Ok is) rest = read_answer ws is (past_limit (spell is))
 told_answer ws (Err e) rest =

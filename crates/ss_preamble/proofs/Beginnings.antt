@@ -20,14 +20,14 @@ use Rattle.ss_preamble.proofs.Counting.{within_more, within_less}
 use Rattle.ss_preamble.proofs.ItemLimits.{words_within}
 use Rattle.ss_preamble.proofs.Unique.{one_head}
 
--- ---- what the first words of a text count to
+-- ---- the counts of the first words of a text
 
--- so many words that count to nothing
+-- n words that count to nothing
 abbrev nothings : ℕ → List Role
 nothings zero = []
 nothings (suc n) = Nothing ∷ nothings n
 
--- words that count to nothing where no names count
+-- words that count to nothing if no names count
 record CountsNot (ws : List Plain) : Type 0 where
   pub size : ℕ
   pub roles : (a : Standing) → roles_from (record a { counted = NoNames }) ws ≡ nothings size
@@ -45,7 +45,8 @@ more w ws next h = record {
 no_words : CountsNot []
 no_words = record { size = 0; roles = λ a. refl }
 
--- what DEFINE makes of its names is said by these words, or they are names alone, perhaps with AS behind them
+-- these words say which kind DEFINE gives its names, or they are only names, perhaps with AS after
+-- them
 define_cut : (ws : List Plain) (n : ℕ)
     → (kind_behind_define (take n ws) ≡ kind_behind_define ws)
     ⊎ ((kind_behind_define (take n ws) ≡ NoNames) × CountsNot (take n ws))
@@ -67,7 +68,7 @@ define_cut (mark (m.Reserved r.As) ∷ w ∷ ws) (suc zero) =
 define_cut (mark (m.Reserved r.As) ∷ w ∷ ws) (suc (suc n)) = inl refl
 define_cut (w ∷ ws) (suc n) = inl refl
 
--- the standing behind a word goes by the words that follow only behind DEFINE
+-- the standing after a word depends on the words that follow only after DEFINE
 behind_cut : (a : Standing) (w : Plain) (ws : List Plain) (n : ℕ)
     → (behind_word a w (take n ws) ≡ behind_word a w ws)
     ⊎ ((behind_word a w (take n ws) ≡ record a { counted = NoNames }) × CountsNot (take n ws))
@@ -77,7 +78,8 @@ behind_cut a (mark (m.Reserved r.Define)) ws n = elim (define_cut ws n) [
 ]
 behind_cut a w ws n = inl refl
 
--- the first words count to what they count to in the whole text, up to some word, and to nothing from there on
+-- the first words count to the same limits as in the whole text, up to some word, and to nothing
+-- from there on
 roles_cut : (a : Standing) (ws : List Plain) (n : ℕ)
     → (k : ℕ) × (j : ℕ) × (roles_from a (take n ws) ≡ take k (roles_from a ws) ++ nothings j)
 roles_cut a [] zero = (0, 0, refl)

@@ -1,4 +1,5 @@
--- Counting one more name: the counts of code and definition agree, and a limit is passed where the one more passes it.
+-- Counting one more name: the counts of code and definition agree, and a limit is passed if the one
+-- more passes it.
 use Rattle.std.proofs.Common.{◌≡◌, ℕ, ◌+◌, ◌≤◌, Bool, true, false, cond, not, leb, le-leb, leb-true, bytes_eq, List, []}
 use Rattle.std.proofs.Common.{◌∷◌, ◌++◌, length, length-append, refl, sym, ap, subst, ◌∙◌, arith}
 use Rattle.std.specs.List.{flat_map, count_by, fold, list_any}
@@ -113,7 +114,7 @@ same_length : (xs ys : List Name) (n : ℕ) → xs ≡ ys → length ys ≤ n �
 same_length xs ys n e le = subst (λ (zs : List Name). length zs ≤ n) (sym e) le
 
 module _ (rs : List Role) (w : AreWithin rs) where
-  -- with this role behind them they are within its limit
+  -- with this role after them they are within its limit
   abbrev InRoom : Role → Type 0
   InRoom r = is_in_room (tally_of (rs ++ r ∷ [])) r ≡ true
 

@@ -1,4 +1,4 @@
--- What a text declares is within the limits.
+-- The declarations of a text are within the limits.
 use Rattle.std.proofs.Common.{◌≡◌, ℕ, ◌+◌, length, inl, inr, List, [], ◌∷◌, map, refl, ap, arith}
 use Rattle.ss_words.specs.Plain.{PlainAt}
 use Rattle.ss_preamble.specs.Tree.{Item, Decls, items_of}

@@ -1,4 +1,4 @@
--- What the words of a preamble count to is within the limits exactly where its items are.
+-- The counts of the words of a preamble are within the limits exactly if its items are.
 use Rattle.std.proofs.Common.{◌≡◌, ℕ, zero, suc, ◌+◌, ◌-◌, ◌≤◌, Bool, true, false, cond, not, leb, leb-true, bytes_eq}
 use Rattle.std.proofs.Common.{arith}
 use Rattle.std.proofs.Common.{List, [], ◌∷◌, ◌++◌, length, length-append, Option, Some, None, refl, sym, ap, subst, ◌∙◌}
@@ -22,7 +22,7 @@ use Rattle.ss_preamble.proofs.Counting.{no_le}
 use Rattle.ss_preamble.proofs.ItemRoles.{others_roles, names_roles, clause_roles, clauses_roles, other_keys_roles}
 use Rattle.ss_preamble.proofs.ItemRoles.{keys_roles, kind_roles, item_roles, roles_of}
 
--- ---- what the words of an item give, where words that count to nothing give nothing
+-- ---- the elements that the words of an item give, if words that count to nothing give none
 
 module _ {A : Type 0} (g : Role → List A) (none : g Nothing ≡ []) where
   others : (f : Name → Role) (ns : List Name) → flat_map g (others_roles f ns) ≡ flat_map (λ n. g (f n)) ns
@@ -44,7 +44,7 @@ module _ {A : Type 0} (g : Role → List A) (none : g Nothing ≡ []) where
   behind_three : (rs : List Role) → flat_map g (Nothing ∷ Nothing ∷ Nothing ∷ rs) ≡ flat_map g rs
   behind_three rs = behind (Nothing ∷ Nothing ∷ rs) ∙ behind_two rs
 
-  -- what the names of a clause are to g, for this owner
+  -- the elements that g gives for the names of a clause, for this owner
   abbrev of_clause : Option Name → Clause → List A
   of_clause o (Has ns) = flat_map (λ n. g (owned_role o)) (all_of ns)
   of_clause o (Owns ns) = flat_map (λ n. g (ASet n)) (all_of ns)
@@ -62,7 +62,7 @@ module _ {A : Type 0} (g : Role → List A) (none : g Nothing ≡ []) where
       ∙ ap (λ (u : List A). u ++ flat_map g (flat_map (clause_roles o) cs)) (clause o x)
       ∙ ap (λ (u : List A). of_clause o x ++ u) (clauses o cs)
 
-  -- what the keys of a set are to g
+  -- the elements that g gives for the keys of a set
   abbrev of_kind : SetDiscipline → List A
   of_kind (Ranked ks) = flat_map g (keys_roles ks)
   of_kind _ = []
@@ -72,7 +72,7 @@ module _ {A : Type 0} (g : Role → List A) (none : g Nothing ≡ []) where
   kind Lifo = behind_two []
   kind (Ranked ks) = behind_two (keys_roles ks)
 
-  -- what the names of an item are to g
+  -- the elements that g gives for the names of an item
   abbrev of_item : Item → List A
   of_item Normally = []
   of_item (Headed h None) = []
@@ -213,7 +213,7 @@ set_item (Orders (ExternalEvents ns)) = refl
 set_words : (is : Preamble) → flat_map set_of (roles (spell is)) ≡ flat_map set_names is
 set_words is = words set_of refl is ∙ alike (of_item set_of refl) set_names set_item is
 
--- ---- what is counted as written
+-- ---- the names that are counted as written
 
 -- one that counts
 abbrev Mark : Type 0
@@ -251,7 +251,7 @@ each_name : (ns : List Name) → length (flat_map (λ (n : Name). let one : List
 each_name [] = refl
 each_name (n ∷ ns) = ap suc (each_name ns)
 
--- the names behind HAS, where they are counted
+-- the names after HAS, if they are counted
 has_marks : (f : Clause → List Mark) → ((x : Clause) → length (f x) ≡ length (clause_has x)) → (cs : List Clause)
     → length (flat_map f cs) ≡ length (flat_map clause_has cs)
 has_marks f same [] = refl
@@ -369,7 +369,7 @@ module _ (c : Name) where
 abbrev late : Role → List Mark
 late r = marks is_late_key r
 
--- whether key number k stands past its limit
+-- whether key number k is past its limit
 late_key : (k : ℕ) (b : Bool) → leb k MOST_KEYS ≡ b → length (late (AKey k)) ≡ (k - MOST_KEYS) - (k - 1 - MOST_KEYS)
 late_key k true e =
     let le = leb-true k MOST_KEYS e in
@@ -416,7 +416,7 @@ late_words is =
     count_is is_late_key (roles (spell is)) ∙ ap length (words late refl is)
     ∙ sum_is (of_item late refl) (λ i. key_count i - MOST_KEYS) late_item is
 
--- how many keys of an item stand past the limit
+-- how many keys of an item are past the limit
 abbrev over : Item → ℕ
 over i = key_count i - MOST_KEYS
 

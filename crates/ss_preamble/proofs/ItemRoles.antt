@@ -1,4 +1,4 @@
--- What the words of each item count to, whatever stands before it and behind it.
+-- The roles of the words of each item, for any words before and after it.
 use Rattle.std.proofs.Common.{◌≡◌, ℕ, suc, List, [], ◌∷◌, ◌++◌, Option, Some, None, refl, sym, ap, ◌∙◌, append_assoc}
 use Rattle.std.specs.List.{flat_map}
 use Rattle.ss_words.specs.declared.reserved.Reserved.TheVariants as r
@@ -19,9 +19,9 @@ use Rattle.ss_preamble.specs.Roles.{CountedKind, NoNames, Classes, Owned, Sets, 
 use Rattle.ss_preamble.specs.Roles.{Role, AClass, AVariable, ASet, AKey, Nothing, Standing, at_start, behind_name}
 use Rattle.ss_preamble.specs.Roles.{name_role, owned_role, kind_behind_define, kind_behind_as, roles_from, roles}
 
--- ---- what the words count to
+-- ---- the roles of the words
 
--- names behind the first, each behind its comma
+-- names after the first, each after its comma
 abbrev pub others_roles : (Name → Role) → List Name → List Role
 others_roles f ns = flat_map (λ n. Nothing ∷ f n ∷ []) ns
 
@@ -39,7 +39,7 @@ clause_roles o (BelongsTo ns) = Nothing ∷ Nothing ∷ names_roles ASet ns
 abbrev pub clauses_roles : Option Name → Several Clause → List Role
 clauses_roles o cs = clause_roles o cs.first ++ flat_map (clause_roles o) cs.others
 
--- keys behind this many of their ranking, each behind its THEN
+-- keys after this many of their ranking, each after its THEN
 abbrev pub other_keys_roles : ℕ → List Key → List Role
 other_keys_roles j [] = []
 other_keys_roles j (a ∷ ks) = Nothing ∷ Nothing ∷ Nothing ∷ AKey (suc j) ∷ other_keys_roles (suc j) ks
@@ -48,7 +48,7 @@ other_keys_roles j (a ∷ ks) = Nothing ∷ Nothing ∷ Nothing ∷ AKey (suc j)
 abbrev pub keys_roles : Several Key → List Role
 keys_roles ks = Nothing ∷ Nothing ∷ AKey 1 ∷ other_keys_roles 1 ks.others
 
--- what DEFINE makes of sets
+-- the roles of the keys of sets in DEFINE
 abbrev pub kind_roles : SetDiscipline → List Role
 kind_roles (Ranked ks) = Nothing ∷ Nothing ∷ keys_roles ks
 kind_roles _ = Nothing ∷ Nothing ∷ []
@@ -72,7 +72,7 @@ item_roles (Orders (ExternalEvents ns)) = Nothing ∷ Nothing ∷ Nothing ∷ na
 abbrev standing : CountedKind → Option Name → ℕ → Standing
 standing c o j = record { counted = c; owner = o; keys = j }
 
--- names behind the first
+-- names after the first
 abbrev spelled : List Name → List Plain
 spelled ns = spell_others (λ n. name n ∷ []) ns
 
@@ -91,7 +91,7 @@ all_kept a stays ns y =
     ap (λ (b : Standing). name_role a ns.first ∷ roles_from b (spelled ns.others ++ y)) (stays ns.first)
     ∙ ap (λ (rs : List Role). name_role a ns.first ∷ rs) (kept a stays ns.others y)
 
--- names of classes; the last of them owns what HAS gives
+-- names of classes; the last of them owns the names after HAS
 class_names : (o : Option Name) (j : ℕ) (ns : List Name) (y : List Plain)
     → (b : Standing) × (roles_from (standing Classes o j) (spelled ns ++ y) ≡ others_roles AClass ns ++ roles_from b y)
 class_names o j [] y = (standing Classes o j, refl)
@@ -100,7 +100,7 @@ class_names o j (n ∷ ns) y =
 
 -- ---- clauses
 
--- the first words of a text, behind a standing, count to these, and others stand behind them
+-- the first words of a text, after a standing, have these roles, and others are after them
 abbrev Counts : Standing → List Plain → List Role → List Plain → Type 0
 Counts a q rs y = (b : Standing) × (roles_from a (q ++ y) ≡ rs ++ roles_from b y)
 
@@ -164,7 +164,7 @@ keys o ks y =
 
 -- ---- DEFINE
 
--- what stands behind AS says what the names before it are
+-- the word after AS says which kind the names before it are
 looked : (ns : List Name) (z : List Plain) → kind_behind_define (spelled ns ++ word r.As ∷ z) ≡ kind_behind_as z
 looked [] z = refl
 looked (n ∷ ns) z = looked ns z
@@ -267,7 +267,7 @@ items a (i ∷ is) y =
           ∙ sym (append_assoc (item_roles i) (flat_map item_roles is) (roles_from d y)),
     )
 
--- what the words of a preamble count to
+-- the roles of the words of a preamble
 pub roles_of : (is : Preamble) → roles (spell is) ≡ Nothing ∷ (flat_map item_roles is ++ Nothing ∷ [])
 roles_of is =
     let (b, e) = items at_start is (word r.End ∷ []) in ap (λ (rs : List Role). Nothing ∷ rs) e

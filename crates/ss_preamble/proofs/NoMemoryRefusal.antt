@@ -74,7 +74,7 @@ module _ {A B : Type 0} (item : Reading (Option A)) (none : B) (one : A → B �
 
 -- ---- words and names
 
--- a mark that must stand here, by whether it does
+-- a mark that must be here, by whether it is
 abbrev expected : Bool → Reading (Unit {0})
 expected b = elim b [ true ↦ skip (pure tt) | false ↦ refuse Unexpected ]
 
@@ -86,11 +86,11 @@ expect_sure k = look_sure (λ w. expected (is k w)) (λ w. at (is k w))
     at true = skip_sure (pure tt) (pure_sure tt)
     at false = refuse_sure
 
--- a word and what stands behind it
+-- a word and the part after it
 behind_sure : {A : Type 0} (k : Mark) (p : Reading A) → Sure p → Sure (bind (expect k) (λ u. p))
 behind_sure k p sure = bind_sure (expect k) (λ u. p) (expect_sure k) (λ u. sure)
 
--- a mark that may stand here, by whether it does
+-- a mark that may be here, by whether it is
 abbrev eaten : Bool → Reading Bool
 eaten b = elim b [ true ↦ skip (pure true) | false ↦ pure false ]
 

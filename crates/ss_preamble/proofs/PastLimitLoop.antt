@@ -64,7 +64,7 @@ few_variables ws a t rest (seen, e, len, counts, within) =
 
 -- ---- with the words of the code
 
--- a list that begins with a word is this and the words behind it
+-- a list that begins with a word is this and the words after it
 pub split_first : (rest : List PlainWord) (word : PlainWord) → 1 ≤ length rest → word ≡ get_or rest 0 word
     → rest ≡ word ∷ take (length rest - 1) (drop 1 rest)
 split_first rest word some is =
@@ -113,5 +113,5 @@ ends_at words rest a t none counted =
     ends (plains_of words) a t
     (subst (λ (us : List PlainWord). CountedBefore (plains_of words) a t (plains_of us)) none counted)
 
--- what the search for a word that passes a limit rests on
+-- the laws on which the search for a word that passes a limit rests
 pub ruleset past_limits = (begins, turns_at, stops_at, ends_at, few_variables)

@@ -34,7 +34,7 @@ record Ends (y : List Plain) : Type 0 where
   pub further : is (m.Reserved r.Then) (first y) ≡ false
   pub clause : clause_by (first y) ≡ pure None
 
--- what stands behind a word that was expected
+-- the part after a word that was expected
 behind : {A : Type 0} (w : Mark) (p : Unit {0} → Reading A) (y : List Plain) → bind (expect w) p (mark w ∷ y) ≡ p tt y
 behind w p y = then (expect w) p tt (mark w ∷ y) y (expect_read_back w y)
 
@@ -154,7 +154,7 @@ defined-read_back ns z =
     then names _ ns (spell_names ns ++ word r.As ∷ z) (word r.As ∷ z) (names-read_back ns (word r.As ∷ z) refl)
     ∙ behind (m.Reserved r.As) _ z
 
--- behind DEFINE
+-- after DEFINE
 abbrev rest_of_definition : Definition → List Plain
 rest_of_definition (Variables ns) = spell_names ns ++ word r.As ∷ word r.Integer ∷ word r.Variables ∷ []
 rest_of_definition (Sets ns x) = spell_names ns ++ word r.As ∷ spell_set_discipline x
@@ -249,7 +249,7 @@ item_ends (Orders (PriorityOrder ns)) y = record { comma = refl; include = refl;
 item_ends (Orders (BreakTies n ks)) y = record { comma = refl; include = refl; further = refl; clause = refl }
 item_ends (Orders (ExternalEvents ns)) y = record { comma = refl; include = refl; further = refl; clause = refl }
 
--- items, and the END behind them
+-- items, and the END after them
 items_end : (is : List Item) (y : List Plain) → Ends (spell_items is ++ word r.End ∷ y)
 items_end [] y = record { comma = refl; include = refl; further = refl; clause = refl }
 items_end (i ∷ is) y =

@@ -1,4 +1,4 @@
--- What is read is spelled so, and where reading fails some preamble's spelling begins so.
+-- The part that is read is spelled so, and if reading fails some preamble's spelling begins so.
 use Rattle.std.proofs.Common.{◌≡◌, true, false, List, [], ◌∷◌, ◌++◌, Option, Some, None, refl, append_assoc}
 use Rattle.ss_words.specs.declared.mark.Mark.{Mark}
 use Rattle.ss_words.specs.declared.mark.Mark.TheVariants as m
@@ -33,7 +33,7 @@ use Rattle.ss_preamble.specs.ItemReading.{external_with, item_by, next_item, ite
 abbrev one_name : Several Name
 one_name = record { first = []; others = [] }
 
--- a word and what stands behind it, without what is read of the word
+-- a word and the part after it, without the part that is read of the word
 expect_then : {A : Type 0} (sp : A → List Plain) (pre : List Plain) (w : Mark) (p : Unit {0} → Reading A)
     → Good Any sp (pre ++ mark w ∷ []) (p tt) → Good Any sp pre (bind (expect w) p)
 expect_then sp pre w p g = bind_good Any Any (spell_mark w) sp pre p (λ u v. g) (expect w) (expect_good w)
@@ -217,7 +217,7 @@ external-good =
     (expect_then spell_event_rule _ (m.Reserved r.Are) _
     (last_part spell_names spell_event_rule _ ExternalEvents (λ ns. refl) names names-good))
 
--- an item, if one stands there
+-- an item, if one is there
 abbrev spell_next : Option Item → List Plain
 spell_next = spell_option spell_item
 

@@ -44,7 +44,7 @@ some_item (Orders (BreakTies n ks)) = omega arith
 some_item (Orders (ExternalEvents ns)) = omega arith
 
 module _ (rooms : Rooms) where
-  -- a word and what stands behind it
+  -- a word and the part after it
   expect_then : {A : Type 0} (w : Mark) (p : Unit {0} → Reading A) → Local rooms (p tt) (p tt)
       → Local rooms (bind (expect w) p) (bind (expect w) p)
   expect_then w p l = bind_local rooms p p (λ u. l) (expect w) (expect w) (expect_local rooms w)

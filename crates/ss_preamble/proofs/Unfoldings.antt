@@ -4,7 +4,7 @@ use Rattle.ss_words.specs.Reading.{bind, pure, refuse, look, skip}
 use Rattle.ss_words.specs.Noting.{here}
 use Rattle.ss_preamble.specs.ItemsAtLines.{next_item_at}
 
--- one reading behind another
+-- one reading after another
 unfoldable pub steps : ⊤
 unfolding bind pure refuse
 steps = tt

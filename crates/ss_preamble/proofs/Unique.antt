@@ -197,7 +197,7 @@ not_refused ws is behind rule.LongPictureLine l w e h = absurd h
 pub has_preamble : (ws : List Plain) (is : Preamble) (behind : List Plain) → ws ≡ spell is ++ behind → HasPreamble ws
 has_preamble ws is behind e = subst HasPreamble (sym e) refl
 
--- what a text is answered with
+-- the answer to a text
 abbrev Answer : Type 0
 Answer = Result (Decls × ℕ) TextFault
 

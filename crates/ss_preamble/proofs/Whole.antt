@@ -1,4 +1,4 @@
--- What the head of a text is answered with, by the laws of the reading.
+-- The answer to the head of a text, by the laws of the reading.
 use Rattle.std.proofs.Common.{◌≡◌, ℕ, ◌+◌, ◌-◌, Bool, true, false, List, [], ◌∷◌, ◌++◌, length, Option, Some, None}
 use Rattle.std.proofs.Common.{Result, Ok, Err, refl, sym, ap, subst, ◌∙◌, arith}
 use Rattle.std.specs.Prelude.{map}
@@ -30,13 +30,13 @@ use Rattle.ss_preamble.proofs.ReadIsSpelled.{next_item-good, items-good, preambl
 use Rattle.ss_preamble.proofs.ReadingIsLocal.{preamble-local}
 use Rattle.ss_preamble.proofs.ReadBackItems.{preamble-read_back}
 
--- ---- a preamble and all that stands behind it
+-- ---- a preamble and all words after it
 
 -- reads all that is left
 unfoldable rest_of_text : Reading (List Plain)
 rest_of_text = λ ws. (Ok ws, [])
 
--- reads a preamble and all behind it
+-- reads a preamble and all words after it
 unfoldable text_with : Reading Text
 text_with = bind preamble_with (λ p. bind rest_of_text (λ z. pure (record { preamble = p; behind = z })))
 
@@ -79,7 +79,7 @@ text_read_back t =
     then preamble_with _ t.preamble (spell_text t) t.behind (preamble-read_back t.preamble t.behind)
     ∙ then rest_of_text _ t.behind t.behind [] refl
 
--- what stops the preamble stops the text
+-- a refusal that stops the preamble stops the text
 stops_text : (g : Refusal) (ws rest : List Plain) → preamble_with ws ≡ (Err g, rest)
     → whole text_with ws ≡ (Err g, rest)
 unfolding whole text_with bind
@@ -91,7 +91,7 @@ farthest ws rest e =
     goal.farthest spell_text Any text_with text_good (λ t. (text_with, text_local, text_read_back t)) ws rest
     (stops_text Unexpected ws rest e)
 
--- what is left is the text's end
+-- the words that are left are the text's end
 pub left : (ws rest : List Plain) (g : Refusal) → preamble_with ws ≡ (Err g, rest) → (q : List Plain) × (ws ≡ q ++ rest)
 left ws rest g e =
     let x : IsRead Any spell [] (let o : Result Preamble Refusal = Err g in o) ws rest =
@@ -106,7 +106,7 @@ unlimited ws rest e =
     let less = g.0 in
     omega (arith, less, same)
 
--- what is read is spelled so
+-- the part that is read is spelled so
 pub spelled : (ws rest : List Plain) (is : Preamble) → preamble_with ws ≡ (Ok is, rest) → ws ≡ spell is ++ rest
 spelled ws rest is e =
     let (u, q, k, s) = subst (λ (y : Read Preamble). IsRead Any spell [] y.0 ws y.1) e (preamble-good.read ws) in
@@ -123,7 +123,7 @@ module _ (ls : List ℕ) where
   abbrev at_line : ℕ → Item → List ItemAt
   at_line k i = record { line = line ls k; item = i } ∷ []
 
-  -- puts an item that was read behind the others
+  -- puts an item that was read after the others
   abbrev noting_next : List ItemAt → ℕ → Option Item → Reading (Bool × List ItemAt)
   noting_next acc l o =
       elim o [ Some i ↦ pure (true, acc ++ (record { line = l; item = i }) ∷ []) | None ↦ pure (false, acc) ]

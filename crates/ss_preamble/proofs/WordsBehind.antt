@@ -1,4 +1,4 @@
--- The words behind a preamble.
+-- The words after a preamble.
 use Rattle.std.proofs.Common.{◌≡◌, ℕ, zero, suc, ◌+◌, ◌-◌, ◌≤◌, ◌<◌, List, [], ◌∷◌, length, length-append}
 use Rattle.std.proofs.Common.{drop, drop_at, refl, sym, ap, ◌∙◌, arith, le-leb}
 use Rattle.std.proofs.lemmas.Bool.{lt-leb}
@@ -12,7 +12,7 @@ use Rattle.ss_preamble.specs.Refused.{IsPreamble, words_from}
 use Rattle.ss_preamble.specs.Laws.{WordsStandBehind}
 use Rattle.ss_preamble.proofs.Indexes.{Rising, rising}
 
--- the numbers behind each word
+-- the numbers after each word
 abbrev numbers_behind : List PlainAt → List ℕ
 numbers_behind ws = map (λ w. w.index + 1) ws
 
@@ -23,14 +23,14 @@ all_from l k n (w ∷ ws) le (a, b, c) =
     rw (le-leb k w.index (omega (arith, le, a)))
     (ap (λ (u : List PlainAt). w ∷ u) (all_from (w.index + 1) k n ws (omega (arith, le, a)) c))
 
--- the number behind one of them is above what they rise from
+-- the number after one of them is above the number from which they rise
 above : (l n : ℕ) (ws : List PlainAt) (i : ℕ) → Rising l n ws → i < length ws → l < slice_index (numbers_behind ws) i
 above l n [] i h lt = absurd (omega (arith, lt))
 above l n (w ∷ ws) zero (a, b, c) lt = omega (arith, a)
 above l n (w ∷ ws) (suc i) (a, b, c) lt =
     let more = above (w.index + 1) n ws i c (omega (arith, lt)) in omega (arith, a, more)
 
--- from the number behind one of them on there are those behind it
+-- from the number after one of them on there are those after it
 from_behind : (l n : ℕ) (ws : List PlainAt) (i : ℕ) → Rising l n ws → i < length ws
     → words_from (slice_index (numbers_behind ws) i) ws ≡ drop (suc i) ws
 from_behind l n [] i h lt = absurd (omega (arith, lt))
@@ -51,7 +51,7 @@ length_plains : (ws : List PlainAt) → length (plains ws) ≡ length ws
 length_plains [] = refl
 length_plains (w ∷ ws) = ap suc (length_plains ws)
 
--- from the number behind a preamble on there are the words behind it
+-- from the number after a preamble on there are the words after it
 pub drop_behind : (ws : List WordAt) (d : Decls) (number : ℕ) (p : IsPreamble d number (plain_words_of ws))
     → words_from number (plain_words_of ws) ≡ drop (length (spell p.items)) (plain_words_of ws)
 drop_behind ws d number p =

@@ -1,4 +1,4 @@
--- Small texts and what they are answered with.
+-- Small texts and the answers to them.
 use Rattle.std.specs.Prelude.{ℕ, zero, suc, ◌+◌, ◌/◌, ◌%◌, List, [], ◌∷◌, ◌++◌, codes, None, Some, Result, Ok, Err}
 use Rattle.ss_words.specs.declared.fault.TextRule.TheVariants.{UnexpectedWord, UnexpectedEnd, PastLimit}
 use Rattle.ss_words.specs.declared.fault.TextFault.{TextFault}
@@ -34,11 +34,11 @@ IsAnswered text a = Answers a (plain_words_of (words_of_lines 1 text))
 abbrev pub NothingIsDeclared : Type 0
 NothingIsDeclared = IsAnswered (codes "MAIN" ∷ codes "END" ∷ []) (Ok (no_decls, 0))
 
--- behind the END of an empty preamble stands the word with number 2
+-- after the END of an empty preamble is the word with number 2
 abbrev pub EmptyPreamble : Type 0
 EmptyPreamble = IsAnswered (codes "PREAMBLE END MAIN END" ∷ []) (Ok (record { items = []; end = Some 1 }, 2))
 
--- PREAMBLE alone is refused by P2
+-- a text of only PREAMBLE is refused by P2
 abbrev pub PreambleAlone : Type 0
 PreambleAlone = IsAnswered (codes "PREAMBLE" ∷ []) (Err (Refused UnexpectedEnd 1))
 
@@ -108,7 +108,7 @@ items_of_each =
     ∷ on 13 (Orders (ExternalEvents (one (codes "ARRIVAL"))))
     ∷ []
 
--- it is read so, and 77 words stand up to its END
+-- it is read so, and 77 words are there up to its END
 abbrev pub EachItemIsRead : Type 0
 EachItemIsRead = IsAnswered each_item (Ok (record { items = items_of_each; end = Some 14 }, 77))
 
@@ -125,7 +125,7 @@ ships =
     ∷ on 3 (Defines (Sets (two (codes "LOADS") (codes "QUEUE")) Fifo))
     ∷ []
 
--- a text declares the ships, and so many words stand up to its END
+-- a text declares the ships, and `number` words are there up to its END
 abbrev pub DeclaresShips : List (List ℕ) → ℕ → Type 0
 DeclaresShips text number = IsAnswered text (Ok (record { items = ships; end = Some 4 }, number))
 
@@ -147,7 +147,7 @@ spoken_ships =
     ∷ codes "END"
     ∷ []
 
--- with more commas, and AND behind a comma
+-- with more commas, and AND after a comma
 abbrev pub listed_ships : List (List ℕ)
 listed_ships =
     codes "PREAMBLE TEMPORARY ENTITIES"
@@ -179,13 +179,13 @@ IsRead ws = (d : Decls) × (number : ℕ) × Answers (Ok (d, number)) ws
 abbrev pub name_of_number : ℕ → Name
 name_of_number k = (65 + k / 26) ∷ (65 + k % 26) ∷ []
 
--- so many names with commas between, numbered from k on, and what stands behind them
+-- n names with commas between, numbered from k on, and the words after them
 abbrev pub names_then : ℕ → ℕ → List Plain → List Plain
 names_then k zero ws = ws
 names_then k (suc zero) ws = name (name_of_number k) ∷ ws
 names_then k (suc (suc n)) ws = name (name_of_number k) ∷ mark (m.Sign s.Comma) ∷ names_then (k + 1) (suc n) ws
 
--- 32 classes behind INCLUDE and, with them again, so many behind EVERY
+-- 32 classes after INCLUDE and, with them again, n after EVERY
 abbrev pub classes : ℕ → List Plain
 classes n =
     word r.Permanent ∷ word r.Entities ∷ word r.Include ∷ names_then 0 32 (every 0 n)
@@ -194,11 +194,11 @@ classes n =
     every k zero = []
     every k (suc n) = word r.Every ∷ name (name_of_number k) ∷ word r.Has ∷ name (codes "X") ∷ every (k + 1) n
 
--- of 64 classes each may stand twice; the 65th is refused at its name
+-- each of 64 classes may be there twice; the 65th is refused at its name
 abbrev pub ClassesLimit : Type 0
 ClassesLimit = IsRead (preamble_of (classes 64)) × Answers (Err (Refused PastLimit 325)) (preamble_of (classes 65))
 
--- 16 attributes of a class, 32 of another one, and so many more of the first
+-- 16 attributes of a class, 32 of another one, and n more of the first
 abbrev pub attributes : ℕ → List Plain
 attributes n =
     word r.Every ∷ name (codes "SHIP") ∷ word r.Has ∷ names_then 0 16
@@ -210,7 +210,7 @@ abbrev pub AttributesLimit : Type 0
 AttributesLimit =
     IsRead (preamble_of (attributes 16)) × Answers (Err (Refused PastLimit 137)) (preamble_of (attributes 17))
 
--- 128 variables of the system, and so many of the preamble
+-- 128 variables of the system, and n of the preamble
 abbrev pub variables : ℕ → List Plain
 variables n =
     word r.System ∷ word r.Has ∷ names_then 0 128
@@ -221,23 +221,23 @@ abbrev pub VariablesLimit : Type 0
 VariablesLimit =
     IsRead (preamble_of (variables 128)) × Answers (Err (Refused PastLimit 516)) (preamble_of (variables 129))
 
--- 64 sets in DEFINE, 32 of them behind OWNS and 32 behind BELONGS, and so many more
+-- 64 sets in DEFINE, 32 of them after OWNS and 32 after BELONGS, and n more
 abbrev pub sets : ℕ → List Plain
 sets n =
     word r.Define ∷ names_then 0 64 (word r.As ∷ word r.Fifo ∷ word r.Sets
     ∷ word r.System ∷ word r.Owns ∷ names_then 0 32
     (word r.Every ∷ name (codes "SHIP") ∷ word r.Belongs ∷ word r.To ∷ names_then 32 (32 + n) []))
 
--- of 64 sets each may stand in OWNS, BELONGS and DEFINE; the 65th is refused at its name
+-- each of 64 sets may be in OWNS, BELONGS and DEFINE; the 65th is refused at its name
 abbrev pub SetsLimit : Type 0
 SetsLimit = IsRead (preamble_of (sets 0)) × Answers (Err (Refused PastLimit 266)) (preamble_of (sets 1))
 
--- a ranking of so many keys more than one
+-- a ranking of n + 1 keys
 abbrev pub keys : ℕ → List Plain
 keys zero = word r.By ∷ word r.High ∷ name (codes "SIZE") ∷ []
 keys (suc n) = word r.By ∷ word r.Low ∷ name (codes "AGE") ∷ word r.Then ∷ keys n
 
--- two rankings: of eight keys, and of so many more than one
+-- two rankings: of eight keys, and of n + 1
 abbrev pub rankings : ℕ → List Plain
 rankings n =
     word r.Break ∷ name (codes "ARRIVAL") ∷ word r.Ties ∷ (keys 7

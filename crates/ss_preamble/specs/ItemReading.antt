@@ -26,7 +26,7 @@ clause_by (Some (mark (m.Reserved r.Belongs))) =
     skip (expect (m.Reserved r.To) >>= λ _. names >>= λ ns. pure (Some (BelongsTo ns)))
 clause_by _ = pure None
 
--- a clause, if one stands here
+-- a clause, if one is here
 unfoldable pub next_clause : Reading (Option Clause)
 next_clause = look clause_by
 
@@ -61,7 +61,7 @@ a_key = expect (m.Reserved r.By) >>= λ _. a_rank >>= λ b. a_name >>= λ n. pur
 unfoldable pub next_key : Reading (Option Key)
 next_key = eat (m.Reserved r.Then) >>= λ b. elim b [ true ↦ (a_key >>= λ a. pure (Some a)) | false ↦ pure None ]
 
--- keys, each behind its THEN
+-- keys, each after its THEN
 unfoldable pub other_keys : Reading (List Key)
 other_keys = many next_key [] (λ a ks. a ∷ ks)
 
@@ -76,7 +76,7 @@ unfoldable pub heading_with : Heading → Mark → Reading Item
 heading_with heading wanted =
     expect wanted >>= λ _. names_behind (m.Reserved r.Include) >>= λ ns. pure (Headed heading ns)
 
--- behind the names of a DEFINE and its AS, by the next word
+-- after the names of a DEFINE and its AS, by the next word
 abbrev pub definition_by : Several Name → Option Plain → Reading Definition
 definition_by ns (Some (mark (m.Reserved r.Integer))) =
     skip (expect (m.Reserved r.Variables) >>= λ _. pure (Variables ns))
@@ -86,34 +86,34 @@ definition_by ns (Some (mark (m.Reserved r.Sets))) =
     skip (expect (m.Reserved r.Ranked) >>= λ _. keys >>= λ ks. pure (Sets ns (Ranked ks)))
 definition_by ns _ = refuse Unexpected
 
--- behind the names of a DEFINE and its AS
+-- after the names of a DEFINE and its AS
 unfoldable pub definition_of : Several Name → Reading Definition
 definition_of ns = look (definition_by ns)
 
--- behind DEFINE
+-- after DEFINE
 unfoldable pub definition_with : Reading Definition
 definition_with = names >>= λ ns. expect (m.Reserved r.As) >>= λ _. definition_of ns
 
--- behind NORMALLY
+-- after NORMALLY
 unfoldable pub normally_with : Reading Item
 normally_with =
     expect (m.Reserved r.Mode) >>= λ _. expect (m.Reserved r.Is) >>= λ _. expect (m.Reserved r.Integer) >>= λ _.
     pure Normally
 
--- behind EVERY
+-- after EVERY
 unfoldable pub every_with : Reading Item
 every_with = a_name >>= λ n. clauses >>= λ cs. pure (OfEvery n cs)
 
--- behind PRIORITY
+-- after PRIORITY
 unfoldable pub priority_with : Reading EventRule
 priority_with =
     expect (m.Reserved r.Order) >>= λ _. expect (m.Reserved r.Is) >>= λ _. names >>= λ ns. pure (PriorityOrder ns)
 
--- behind BREAK
+-- after BREAK
 unfoldable pub break_with : Reading EventRule
 break_with = a_name >>= λ n. expect (m.Reserved r.Ties) >>= λ _. keys >>= λ ks. pure (BreakTies n ks)
 
--- behind EXTERNAL
+-- after EXTERNAL
 unfoldable pub external_with : Reading EventRule
 external_with =
     expect (m.Reserved r.Events) >>= λ _. expect (m.Reserved r.Are) >>= λ _. names >>= λ ns. pure (ExternalEvents ns)
@@ -135,7 +135,7 @@ item_by (Some (mark (m.Reserved r.Break))) = skip (break_with >>= λ e. pure (So
 item_by (Some (mark (m.Reserved r.External))) = skip (external_with >>= λ e. pure (Some (Orders e)))
 item_by _ = pure None
 
--- an item, if one stands here
+-- an item, if one is here
 unfoldable pub next_item : Reading (Option Item)
 next_item = look item_by
 

@@ -8,9 +8,9 @@ use Rattle.ss_words.specs.Noting.{Noting, repeat, here}
 use Rattle.ss_preamble.specs.Tree.{ItemAt, Decls}
 use Rattle.ss_preamble.specs.ItemReading.{next_item}
 
--- lines: of each word of the text
+-- lines: the line of each word of the text
 module _ (lines : List ℕ) where
-  -- an item behind those that were noted before, if one stands here
+  -- an item after those that were noted before, if one is here
   unfoldable pub next_item_at : List ItemAt → Reading (Bool × List ItemAt)
   next_item_at acc =
       here lines (λ l. next_item >>= λ o. elim o [

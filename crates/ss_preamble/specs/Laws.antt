@@ -1,4 +1,4 @@
--- Laws on the spelling of preambles and on what is refused.
+-- Laws on the spelling of preambles and on the refused words.
 use Rattle.std.specs.Prelude.{◌≡◌, ◌<◌, ℕ, ◌+◌, ◌-◌, Bool, true, List, [], ◌∷◌, ◌++◌, length, take, Option, Some, None}
 use Rattle.std.specs.Prelude.{Result, Ok, Err}
 use Rattle.ss_words.specs.declared.fault.TextRule.TheVariants.{UnexpectedEnd, PastLimit}
@@ -38,12 +38,12 @@ AnswerIsUnique =
     (ws : List PlainAt) (a b : Result (Decls × ℕ) TextFault) → IsDefinite a → IsDefinite b → Answers a ws
     → Answers b ws → a ≡ b
 
--- what the words of a preamble count to is within the limits exactly where its items are
+-- the counts of the words of a preamble are within the limits exactly if its items are
 abbrev pub WordsCountItems : Type 0
 WordsCountItems =
     (is : Preamble) → (IsWithin is → AreWithin (roles (spell is))) × (AreWithin (roles (spell is)) → IsWithin is)
 
--- a preamble within the limits is answered with its items and the number of the first word behind it
+-- the answer to a preamble within the limits is its items and the number of the first word after it
 abbrev pub LimitsLetPass : Type 0
 LimitsLetPass =
     (ws : List PlainAt) (is : Preamble) (behind : List Plain) (a : Result (Decls × ℕ) TextFault) → IsWithin is
@@ -70,7 +70,7 @@ BeginningsAreRefused =
     (ws : List PlainAt) (is : Preamble) (n : ℕ) → plains ws ≡ spell is → IsWithin is → 0 < n → n < length ws
     → Answers (Err (Refused UnexpectedEnd (line (lines ws) (n - 1)))) (take n ws)
 
--- from the number that is given with a preamble on, the words are those behind its END
+-- from the number that is given with a preamble on, the words are those after its END
 abbrev pub WordsStandBehind : Type 0
 WordsStandBehind =
     (ws : List WordAt) (d : Decls) (number : ℕ) (p : IsPreamble d number (plain_words_of ws))
@@ -82,20 +82,20 @@ WordsStandBehind =
 pub record Program (S : Type 0) : Type 0 where
   -- the items of the preamble, if the text has one
   pub preamble : Option Preamble
-  -- what stands behind it
+  -- the sections after it
   pub sections : S
 
--- what a preamble spells, if there is one
+-- the spelling of a preamble, if there is one
 abbrev pub spell_head : Option Preamble → List Plain
 spell_head None = []
 spell_head (Some p) = spell p
 
--- what a program spells, where sp spells sections
+-- the spelling of a program; sp spells sections
 abbrev pub spell_program : {S : Type 0} → (S → List Plain) → Program S → List Plain
 spell_program sp t = spell_head t.preamble ++ sp t.sections
 
--- the farthest word of a whole program: where a preamble begins and is not read, it is the preamble's; where it is
--- read, it is that of the sections, behind the preamble
+-- the farthest word of a whole program: if a preamble begins and is not read, it is the preamble's;
+-- if it is read, it is that of the sections, after the preamble
 abbrev pub OneFarthestWord : {S : Type 0} → (S → List Plain) → Type 0
 OneFarthestWord {S} sp =
     (ws : List Plain) → HasPreamble ws
@@ -103,18 +103,18 @@ OneFarthestWord {S} sp =
     × ((is : Preamble) (behind : List Plain) (k : ℕ) → ws ≡ spell is ++ behind → IsFarthest sp behind k
     → IsFarthest (spell_program sp) ws (length (spell is) + k))
 
--- so it is where there is some list of sections, and none begins with PREAMBLE
+-- so it is if there is some list of sections, and none begins with PREAMBLE
 abbrev pub FarthestOfProgram : {S : Type 0} → (S → List Plain) → Type 0
 FarthestOfProgram {S} sp = (some : S) → ((s : S) → HasPreamble (sp s) → ⊥) → OneFarthestWord sp
 
--- a word behind END with which no sections begin, as the first word of an item, is the farthest word
+-- a word after END with which no sections begin, as the first word of an item, is the farthest word
 abbrev pub WordBehindEnd : {S : Type 0} → (S → List Plain) → Type 0
 WordBehindEnd {S} sp =
     (some : S) → ((s : S) → HasPreamble (sp s) → ⊥) → (is : Preamble) (w : Plain) (behind : List Plain)
     → ((s : S) → first (sp s) ≡ Some w → ⊥)
     → IsFarthest (spell_program sp) (spell is ++ w ∷ behind) (length (spell is))
 
--- a list of words that some sections spell, where spells tells which ones do
+-- a list of words that some sections spell; spells says which ones do
 abbrev pub Spelled : (List Plain → Bool) → Type 0
 Spelled spells = (ws : List Plain) × (spells ws ≡ true)
 
@@ -126,6 +126,6 @@ words_spelled spells s = s.0
 abbrev pub FarthestOfPrograms : Type 0
 FarthestOfPrograms = (spells : List Plain → Bool) → FarthestOfProgram (words_spelled spells)
 
--- and so for a word behind END
+-- and so for a word after END
 abbrev pub WordsBehindEnd : Type 0
 WordsBehindEnd = (spells : List Plain → Bool) → WordBehindEnd (words_spelled spells)

@@ -1,3 +1,4 @@
+-- The modules that specify preambles: items, their spelling and reading, limits, and laws.
 pub mod Tree
 pub mod Spelling
 pub mod Roles

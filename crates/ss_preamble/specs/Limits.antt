@@ -1,4 +1,4 @@
--- What the items of a preamble have of each thing that is limited, and what is within the limits.
+-- How much of each limited thing the items of a preamble have, and when they are within the limits.
 use Rattle.std.specs.Prelude.{◌≤◌, ℕ, List, [], ◌∷◌, ◌++◌, length, if◌then◌else◌, bytes_eq, fold, All, Some}
 use Rattle.std.specs.List.{flat_map, list_any, sum_by}
 use Rattle.ss_words.specs.declared.limits.TheConstants.{MOST_CLASSES, MOST_ATTRIBUTES, MOST_VARIABLES}
@@ -17,13 +17,13 @@ with_name ns name = if list_any (bytes_eq name) ns then ns else ns ++ name ∷ [
 abbrev pub distinct : List Name → List Name
 distinct ns = fold with_name [] ns
 
--- the names of classes: those behind INCLUDE, and the one behind EVERY
+-- the names of classes: those after INCLUDE, and the one after EVERY
 abbrev pub class_names : Item → List Name
 class_names (Headed h (Some ns)) = all_of ns
 class_names (OfEvery n cs) = n ∷ []
 class_names _ = []
 
--- the names of sets in a clause: those behind OWNS and BELONGS TO
+-- the names of sets in a clause: those after OWNS and BELONGS TO
 abbrev pub clause_sets : Clause → List Name
 clause_sets (Has ns) = []
 clause_sets (Owns ns) = all_of ns
@@ -38,21 +38,21 @@ set_names _ = []
 
 -- ---- names that count as often as they are written
 
--- the names behind HAS
+-- the names after HAS
 abbrev pub clause_has : Clause → List Name
 clause_has (Has ns) = all_of ns
 clause_has _ = []
 
--- how many names some clauses have behind HAS
+-- how many names some clauses have after HAS
 abbrev pub has_count : Several Clause → ℕ
 has_count cs = length (flat_map clause_has (all_of cs))
 
--- how many attributes an item gives to class c: the names behind HAS in an EVERY of this class
+-- how many attributes an item gives to class c: the names after HAS in an EVERY of this class
 abbrev pub attribute_count : Name → Item → ℕ
 attribute_count c (OfEvery n cs) = if bytes_eq c n then has_count cs else 0
 attribute_count c _ = 0
 
--- how many variables an item declares: the names behind HAS of SYSTEM, and those that a DEFINE makes variables
+-- how many variables an item declares: the names after HAS of SYSTEM, and the variables of a DEFINE
 abbrev pub variable_count : Item → ℕ
 variable_count (OfSystem cs) = has_count cs
 variable_count (Defines (Variables ns)) = length (all_of ns)

@@ -1,4 +1,4 @@
--- What stands at the head of a list of plain words: no preamble, a preamble, or the word at which it is refused.
+-- The head of a list of plain words: no preamble, a preamble, or the word at which it is refused.
 use Rattle.std.specs.Prelude.{◌≡◌, ◌<◌, ◌⊎◌, ℕ, ◌+◌, ◌-◌, true, List, [], ◌++◌, length, take, map, slice_index, leb}
 use Rattle.std.specs.Prelude.{None, Result, Ok, Err}
 use Rattle.std.specs.List.{filter}
@@ -23,11 +23,11 @@ use Rattle.ss_preamble.specs.Written.{written}
 abbrev pub lines : List PlainAt → List ℕ
 lines ws = map (λ w. w.line) ws
 
--- a preamble and the words behind its END
+-- a preamble and the words after its END
 pub record Text : Type 0 where
   -- the items
   pub preamble : Preamble
-  -- the words behind END
+  -- the words after END
   pub behind : List Plain
 
 -- its words
@@ -38,12 +38,12 @@ spell_text t = spell t.preamble ++ t.behind
 abbrev pub HasPreamble : List Plain → Type 0
 HasPreamble ws = is (m.Reserved r.Preamble) (first ws) ≡ true
 
--- what the words before number k count to is within the limits, where ws are the words that count
+-- the counts of the words before number k are within the limits; ws are the words that count
 abbrev pub InRoom : List Plain → ℕ → Type 0
 InRoom ws k = AreWithin (take k (roles ws))
 
--- Word k passes a limit, where ws are the words that count: the words before it are within the limits, and with it they
--- aren't.
+-- Word k passes a limit: the words before it are within the limits, and with it they aren't. The
+-- words ws are those that count.
 pub record PassesLimit (ws : List Plain) (k : ℕ) : Type 0 where
   -- there is such a word
   pub is_word : k < length ws
@@ -52,7 +52,7 @@ pub record PassesLimit (ws : List Plain) (k : ℕ) : Type 0 where
   -- with it they aren't
   pub no_room : InRoom ws (k + 1) → ⊥
 
--- The words before number n count to the limits: n is the farthest place, or the place behind the preamble's END.
+-- The words before n count to the limits: n is the farthest place, or the one after END.
 abbrev pub CountUpTo : List Plain → ℕ → Type 0
 CountUpTo ws n =
     IsFarthest spell_text ws n ⊎ ((is : Preamble) × (behind : List Plain) × (ws ≡ spell is ++ behind)
@@ -69,7 +69,7 @@ pub record IsUnexpectedWord (ws : List Plain) (k : ℕ) : Type 0 where
 
 -- P2: the text's end is the farthest word, and no word before the last passes a limit.
 pub record IsUnexpectedEnd (ws : List Plain) : Type 0 where
-  -- a preamble goes on behind the last word
+  -- a preamble goes on after the last word
   pub farthest : IsFarthest spell_text ws (length ws)
   -- no word before the last passes a limit
   pub in_room : InRoom ws (length ws - 1)
@@ -82,7 +82,7 @@ pub record IsPastLimit (ws : List Plain) (k : ℕ) : Type 0 where
   pub count : CountUpTo ws last
   -- the word passes a limit
   pub passes : PassesLimit (take last ws) k
-  -- a word stands behind it
+  -- a word is after it
   pub goes_on : k + 1 < length ws
 
 -- a preamble begins here and is refused by this rule at this line
@@ -103,32 +103,32 @@ pub record IsRefused (rule : TextRule) (l : ℕ) (ws : List PlainAt) : Type 0 wh
 abbrev pub no_decls : Decls
 no_decls = record { items = []; end = None }
 
--- the number of the first word behind so many plain words: words are numbered as in the list of words from which the
--- plain words come
+-- the number of the first word after n plain words: words are numbered as in the list of words from
+-- which the plain words come
 abbrev pub word_behind : List PlainAt → ℕ → ℕ
 word_behind ws n = slice_index (map (λ w. w.index + 1) ws) (n - 1)
 
--- the words begin with a preamble within the limits, these are its items, and this is the number of the first word
--- behind its END
+-- the words begin with a preamble within the limits, these are its items, and this is the number of
+-- the first word after its END
 pub record IsPreamble (declarations : Decls) (number : ℕ) (ws : List PlainAt) : Type 0 where
   -- the items
   pub items : Preamble
-  -- the words behind END
+  -- the words after END
   pub behind : List Plain
   -- they are within the limits
   pub within : IsWithin items
-  -- the text is what they spell, and those words
+  -- the text is the spelling of the items, and those words
   pub words : plains ws ≡ spell items ++ behind
-  -- with their lines they are what is declared
+  -- with their lines the items are the declarations
   pub declared : declarations ≡ written (lines ws) items
-  -- the number is that of the first word behind END
+  -- the number is that of the first word after END
   pub number_is : number ≡ word_behind ws (length (spell items))
 
 -- the plain words from the word with number k on
 abbrev pub words_from : ℕ → List PlainAt → List PlainAt
 words_from k ws = filter (λ w. leb k w.index) ws
 
--- the items of a text, and the number of the first word behind them: none, and 0, where it begins with no preamble
+-- the items of a text and the number of the first word after them; none and 0 without a preamble
 abbrev pub AreDecls : Decls → ℕ → List PlainAt → Type 0
 AreDecls declarations number ws =
     ((HasPreamble (plains ws) → ⊥) × (declarations ≡ no_decls) × (number ≡ 0)) ⊎ IsPreamble declarations number ws
@@ -138,7 +138,7 @@ abbrev pub IsFault : TextFault → List PlainAt → Type 0
 IsFault (Refused rule l) ws = IsRefused rule l ws
 IsFault Memory ws = Unit {0}
 
--- what the words are answered with
+-- the answers to the words
 abbrev pub Answers : Result (Decls × ℕ) TextFault → List PlainAt → Type 0
 Answers (Ok (d, n)) ws = AreDecls d n ws
 Answers (Err f) ws = IsFault f ws

@@ -1,4 +1,4 @@
--- What the names of a preamble count to.
+-- The limits to which the names of a preamble count.
 use Rattle.std.specs.Prelude.{ℕ, suc, List, [], ◌∷◌, Option, Some, None}
 use Rattle.ss_words.specs.declared.mark.Mark.TheVariants as m
 use Rattle.ss_words.specs.declared.word.Sign.TheVariants as s
@@ -7,8 +7,8 @@ use Rattle.ss_words.specs.declared.reserved.Reserved.TheVariants as r
 use Rattle.ss_words.specs.Plain.{Plain, name, mark}
 use Rattle.ss_words.specs.Lists.{Name}
 
--- what names count to: nothing; classes, as behind INCLUDE and EVERY; what HAS gives to its owner; sets, as behind OWNS
--- and BELONGS, and in their DEFINE; variables; keys
+-- the limits to which names count: none; classes, as after INCLUDE and EVERY; names after HAS, by
+-- their owner; sets, as after OWNS and BELONGS, and in their DEFINE; variables; keys
 pub data CountedKind : Type 0 where
   NoNames Classes Owned Sets Variables Keys : CountedKind
 
@@ -22,9 +22,9 @@ pub data Role : Type 0 where
   AKey : ℕ → Role
   Nothing : Role
 
--- behind a word: what names count to, the class that HAS gives to, and the keys of the ranking so far
+-- after a word: the next names' limit, the class to which HAS gives, the ranking's keys so far
 pub record Standing : Type 0 where
-  -- what the next names count to
+  -- the limit to which the next names count
   pub counted : CountedKind
   -- the class that HAS gives to; none: the system
   pub owner : Option Name
@@ -35,7 +35,7 @@ pub record Standing : Type 0 where
 abbrev pub at_start : Standing
 at_start = record { counted = NoNames; owner = None; keys = 0 }
 
--- what a word behind AS makes of the names of a DEFINE
+-- the limit of the names of a DEFINE, by a word after AS
 abbrev pub kind_by_word : Plain → CountedKind
 kind_by_word (mark (m.Reserved r.Integer)) = Variables
 kind_by_word (mark (m.Reserved r.Fifo)) = Sets
@@ -43,20 +43,20 @@ kind_by_word (mark (m.Reserved r.Lifo)) = Sets
 kind_by_word (mark (m.Reserved r.Sets)) = Sets
 kind_by_word _ = NoNames
 
--- the same, where that word is the first of these
+-- the limit of the names of a DEFINE, if the word after AS is the first of these
 abbrev pub kind_behind_as : List Plain → CountedKind
 kind_behind_as [] = NoNames
 kind_behind_as (w ∷ ws) = kind_by_word w
 
--- what DEFINE makes of its names, by the words behind it: the word behind AS says it, and where none stands they count
--- to nothing
+-- the limit of the names of a DEFINE, by the words after it: the word after AS decides, and if
+-- there is none they count to nothing
 abbrev pub kind_behind_define : List Plain → CountedKind
 kind_behind_define (name n ∷ ws) = kind_behind_define ws
 kind_behind_define (mark (m.Sign s.Comma) ∷ ws) = kind_behind_define ws
 kind_behind_define (mark (m.Reserved r.As) ∷ ws) = kind_behind_as ws
 kind_behind_define _ = NoNames
 
--- behind a reserved word, which the words ws follow
+-- after a reserved word, which the words ws follow
 abbrev pub behind_reserved : Standing → Reserved → List Plain → Standing
 behind_reserved standing r.Include ws = record standing { counted = Classes }
 behind_reserved standing r.Every ws = record standing { counted = Classes }
@@ -73,22 +73,22 @@ behind_reserved standing r.Ties ws = record standing { counted = Keys; keys = 0 
 behind_reserved standing r.By ws = record standing { keys = suc standing.keys }
 behind_reserved standing _ ws = standing
 
--- behind a name: a class is the owner of what HAS gives
+-- after a name: a class is the owner of the names after HAS
 abbrev pub behind_name : Standing → Name → Standing
 behind_name standing named = elim standing.counted [ Classes ↦ record standing { owner = Some named } | _ ↦ standing ]
 
--- behind a word, which the words ws follow
+-- after a word, which the words ws follow
 abbrev pub behind_word : Standing → Plain → List Plain → Standing
 behind_word standing (name n) ws = behind_name standing n
 behind_word standing (mark (m.Reserved w)) ws = behind_reserved standing w ws
 behind_word standing _ ws = standing
 
--- what HAS gives to its owner
+-- the role of a name after HAS, by its owner
 abbrev pub owned_role : Option Name → Role
 owned_role None = AVariable
 owned_role (Some c) = AnAttribute c
 
--- what a name counts to
+-- the role of a name
 abbrev pub name_role : Standing → Name → Role
 name_role standing named = elim standing.counted [
   | NoNames ↦ Nothing
@@ -99,16 +99,16 @@ name_role standing named = elim standing.counted [
   | Keys ↦ AKey standing.keys
 ]
 
--- what a word counts to
+-- the role of a word
 abbrev pub role : Standing → Plain → Role
 role standing (name n) = name_role standing n
 role standing _ = Nothing
 
--- what each word counts to, behind a standing
+-- the role of each word, after a standing
 abbrev pub roles_from : Standing → List Plain → List Role
 roles_from standing [] = []
 roles_from standing (w ∷ ws) = role standing w ∷ roles_from (behind_word standing w ws) ws
 
--- what each word counts to
+-- the role of each word
 abbrev pub roles : List Plain → List Role
 roles ws = roles_from at_start ws

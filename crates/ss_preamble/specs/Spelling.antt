@@ -30,11 +30,11 @@ spell_clause (Has ns) = word r.Has ∷ spell_names ns
 spell_clause (Owns ns) = word r.Owns ∷ spell_names ns
 spell_clause (BelongsTo ns) = word r.Belongs ∷ word r.To ∷ spell_names ns
 
--- clauses one behind the other
+-- clauses one after the other
 abbrev pub spell_other_clauses : List Clause → List Plain
 spell_other_clauses cs = flat_map spell_clause cs
 
--- clauses stand without commas
+-- clauses are without commas
 abbrev pub spell_clauses : Several Clause → List Plain
 spell_clauses cs = spell_clause cs.first ++ spell_other_clauses cs.others
 
@@ -47,11 +47,11 @@ spell_rank rank.Low = word r.Low
 abbrev pub spell_key : Key → List Plain
 spell_key key = word r.By ∷ spell_rank key.rank ∷ name key.name ∷ []
 
--- a key behind THEN
+-- a key after THEN
 abbrev pub spell_next_key : Key → List Plain
 spell_next_key key = word r.Then ∷ spell_key key
 
--- keys, each behind its THEN
+-- keys, each after its THEN
 abbrev pub spell_other_keys : List Key → List Plain
 spell_other_keys ks = flat_map spell_next_key ks
 
@@ -59,7 +59,7 @@ spell_other_keys ks = flat_map spell_next_key ks
 abbrev pub spell_keys : Several Key → List Plain
 spell_keys ks = spell_key ks.first ++ spell_other_keys ks.others
 
--- what DEFINE makes of sets
+-- the words of a DEFINE for the discipline of its sets
 abbrev pub spell_set_discipline : SetDiscipline → List Plain
 spell_set_discipline Fifo = word r.Fifo ∷ word r.Sets ∷ []
 spell_set_discipline Lifo = word r.Lifo ∷ word r.Sets ∷ []
@@ -85,7 +85,7 @@ spell_item (OfSystem cs) = word r.System ∷ spell_clauses cs
 spell_item (Defines d) = spell_definition d
 spell_item (Orders e) = spell_event_rule e
 
--- items one behind the other
+-- items one after the other
 abbrev pub spell_items : List Item → List Plain
 spell_items is = flat_map spell_item is
 

@@ -21,7 +21,7 @@ use Rattle.ss_preamble.specs.WordLimits.{class_of, set_of, is_variable}
 abbrev pub texts : List (Bor (List ℕ)) → List Name
 texts ns = map (λ n. n.now) ns
 
--- what names count to, of the code
+-- the limits to which names count, of the code
 abbrev pub counted_view : CodeCountedKind → CountedKind
 counted_view k.NoNames = NoNames
 counted_view k.Classes = Classes
@@ -69,7 +69,7 @@ abbrev pub attribute_owner : Role → List Name
 attribute_owner (AnAttribute n) = n ∷ []
 attribute_owner _ = []
 
--- what names count to, counted
+-- the names with their roles, counted
 abbrev pub tally_of : List Role → Counts
 tally_of rs = record {
   classes = distinct (flat_map class_of rs);
@@ -86,7 +86,7 @@ with_role counts AVariable = record counts { variables = counts.variables + 1 }
 with_role counts (ASet n) = record counts { sets = with_name counts.sets n }
 with_role counts _ = counts
 
--- whether what this name was counted to is within its limit
+-- whether the count of this name is within its limit
 abbrev pub is_in_room : Counts → Role → Bool
 is_in_room counts (AClass n) = leb (length counts.classes) MOST_CLASSES
 is_in_room counts (AnAttribute n) = leb (count_by (bytes_eq n) counts.attributes) MOST_ATTRIBUTES

@@ -31,7 +31,7 @@ pub data EventRule : Type 0 where
   BreakTies : Name → Several Key → EventRule
   ExternalEvents : Several Name → EventRule
 
--- NORMALLY MODE IS INTEGER; a heading, with the names behind INCLUDE or without; EVERY name or SYSTEM, with its clauses
+-- NORMALLY MODE IS INTEGER; a heading, with INCLUDE names or without; EVERY or SYSTEM with clauses
 pub data Item : Type 0 where
   Normally : Item
   Headed : Heading → Option (Several Name) → Item
@@ -48,16 +48,16 @@ Preamble = List Item
 pub record ItemAt : Type 0 where
   -- the line of its first plain word
   pub line : ℕ
-  -- what it says
+  -- the item itself
   pub item : Item
 
--- the items of a text with their lines, and the line of the preamble's END; none where the text has no preamble
+-- the items of a text with their lines, and the line of the preamble's END; none without a preamble
 pub record Decls : Type 0 where
   -- each item, in the order of the text
   pub items : List ItemAt
   -- the line of END
   pub end : Option ℕ
 
--- what the items say
+-- the items without their lines
 abbrev pub items_of : Decls → Preamble
 items_of declarations = map (λ i. i.item) declarations.items

@@ -1,4 +1,4 @@
--- The pure data that items stand for.
+-- The pure data for items.
 use Rattle.std.specs.Prelude.{List, map}
 use Rattle.ss_words.specs.Reading.{option_view}
 use Rattle.ss_words.specs.Lists.{several_view}
@@ -29,7 +29,7 @@ clause_view (c.BelongsTo ns) = BelongsTo (several_view (λ n. n) ns)
 abbrev pub key_view : CodeKey → Key
 key_view k = record { rank = k.rank; name = k.name }
 
--- what DEFINE makes of sets
+-- the discipline of the sets of a DEFINE
 abbrev pub set_discipline_view : CodeSetKind → SetDiscipline
 set_discipline_view s.Fifo = Fifo
 set_discipline_view s.Lifo = Lifo
@@ -63,6 +63,6 @@ item_at_view a = record { line = a.line; item = item_view a.item }
 abbrev pub items_view : List CodeItemAt → List ItemAt
 items_view xs = map item_at_view xs
 
--- what a text declares
+-- the declarations of a text
 abbrev pub decls_view : CodeDecls → Decls
 decls_view d = record { items = items_view d.items.items; end = d.end }

@@ -1,4 +1,4 @@
--- When words, by what each of them counts to, are within the limits.
+-- The condition that words are within the limits, by the role of each of them.
 use Rattle.std.specs.Prelude.{◌≡◌, ◌≤◌, Bool, false, true, List, [], ◌∷◌, length, bytes_eq, count_by, leb, not}
 use Rattle.std.specs.List.{flat_map}
 use Rattle.ss_words.specs.declared.limits.TheConstants.{MOST_CLASSES, MOST_ATTRIBUTES, MOST_VARIABLES}
@@ -27,13 +27,13 @@ abbrev pub is_variable : Role → Bool
 is_variable AVariable = true
 is_variable _ = false
 
--- whether it is a key behind as many others of its ranking as there may be
+-- whether it is a key after as many others of its ranking as there may be
 abbrev pub is_late_key : Role → Bool
 is_late_key (AKey k) = not (leb k MOST_KEYS)
 is_late_key _ = false
 
--- what these words count to is within the limits: classes and sets by their distinct names; attributes of one
--- class, variables and keys of one ranking as they are written
+-- the counts of these words are within the limits: classes and sets by their distinct names;
+-- attributes of one class, variables and keys of one ranking as they are written
 pub record AreWithin (rs : List Role) : Type 0 where
   -- the distinct classes
   pub classes : length (distinct (flat_map class_of rs)) ≤ MOST_CLASSES
@@ -43,5 +43,5 @@ pub record AreWithin (rs : List Role) : Type 0 where
   pub variables : count_by is_variable rs ≤ MOST_VARIABLES
   -- the distinct sets
   pub sets : length (distinct (flat_map set_of rs)) ≤ MOST_SETS
-  -- no key stands past its limit
+  -- no key is past its limit
   pub keys : count_by is_late_key rs ≡ 0

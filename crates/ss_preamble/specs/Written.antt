@@ -4,7 +4,7 @@ use Rattle.ss_words.specs.Noting.{line}
 use Rattle.ss_preamble.specs.Tree.{Item, Preamble, ItemAt, Decls}
 use Rattle.ss_preamble.specs.Spelling.{spell_item, spell_items}
 
--- lines: of each plain word
+-- lines: the line of each plain word
 module _ (lines : List ℕ) where
   -- the items whose first plain word has number k, with the line of each one's first word
   abbrev pub written_items : ℕ → List Item → List ItemAt

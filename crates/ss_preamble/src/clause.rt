@@ -47,7 +47,7 @@ fn other_clauses(cursor: &mut Cursor<'_>) -> Result<Vec<Clause>, Refusal>
     Ok(clauses)
 }
 
-/// `HAS names | OWNS names | BELONGS TO names`, or nothing where none of these words stands here.
+/// `HAS names | OWNS names | BELONGS TO names`, or nothing if none of these words is here.
 #[tactic(auto, unfolding(crate::proofs::Unfoldings::steps_by_word, crate::specs::ItemReading::next_clause))]
 fn next_clause(cursor: &mut Cursor<'_>) -> Result<Option<Clause>, Refusal>
     ensures exact { Gives (option_view clause_view) result cursor.new
@@ -61,7 +61,7 @@ fn next_clause(cursor: &mut Cursor<'_>) -> Result<Option<Clause>, Refusal>
     }
 }
 
-/// The clause that begins with this word, the next one; nothing where none begins with it.
+/// The clause that begins with this word, the next one; nothing if none begins with it.
 #[tactic(auto, unfolding(crate::proofs::Unfoldings::steps_by_word))]
 fn clause_by(cursor: &mut Cursor<'_>, word: Reserved) -> Result<Option<Clause>, Refusal>
     requires { 0 < length cursor.now }

@@ -1,5 +1,5 @@
-//! What texts are answered with, computed on the definitions. Each function does nothing, and its
-//! contract says the law.
+//! The answers to texts, computed on the definitions. Each function does nothing, and its contract
+//! says the law.
 ghost use Rattle.ss_preamble.specs.Examples.{NothingIsDeclared, EmptyPreamble, PreambleAlone, NoItem};
 ghost use Rattle.ss_preamble.specs.Examples.{EachItemIsRead, OtherWords, ClassesLimit, AttributesLimit};
 ghost use Rattle.ss_preamble.specs.Examples.{VariablesLimit, SetsLimit, KeysLimit};
@@ -9,12 +9,12 @@ pub fn nothing_is_declared()
     ensures { NothingIsDeclared }
 {}
 
-/// `PREAMBLE END MAIN END` has no items, and MAIN is the first word behind.
+/// `PREAMBLE END MAIN END` has no items, and MAIN is the first word after it.
 pub fn an_empty_preamble()
     ensures { EmptyPreamble }
 {}
 
-/// `PREAMBLE` alone is refused by P2.
+/// A text of only `PREAMBLE` is refused by P2.
 pub fn preamble_alone()
     ensures { PreambleAlone }
 {}
@@ -34,7 +34,7 @@ pub fn other_words_do_not_matter()
     ensures { OtherWords }
 {}
 
-/// 64 classes are read, each as often as it may stand; the 65th is refused.
+/// 64 classes are read, each as often as it may be written; the 65th is refused.
 pub fn most_classes()
     ensures { ClassesLimit }
 {}
@@ -49,7 +49,7 @@ pub fn most_variables()
     ensures { VariablesLimit }
 {}
 
-/// 64 sets are read, each as often as it may stand; the 65th is refused.
+/// 64 sets are read, each as often as it may be written; the 65th is refused.
 pub fn most_sets()
     ensures { SetsLimit }
 {}

@@ -1,3 +1,5 @@
+//! The items of a preamble as they are written: headings, clauses, definitions and rules of events.
+
 use ss_words::{Name, Rank, Several};
 
 /// One or more names, in upper case.
@@ -29,7 +31,7 @@ pub struct Key {
     pub name: Name,
 }
 
-/// What DEFINE makes of sets.
+/// The discipline of the sets of a DEFINE.
 #[derive(Debug, Drop)]
 pub enum SetDiscipline {
     /// `FIFO SETS`
@@ -45,7 +47,7 @@ pub enum SetDiscipline {
 pub enum Definition {
     /// `DEFINE names AS INTEGER VARIABLES`
     Variables(Names),
-    /// `DEFINE names AS` and what they are.
+    /// `DEFINE names AS` and the discipline of these sets.
     Sets { names: Names, kind: SetDiscipline },
 }
 
@@ -65,7 +67,7 @@ pub enum EventRule {
 pub enum Item {
     /// `NORMALLY MODE IS INTEGER`
     Normally,
-    /// A heading, with the names behind INCLUDE or without.
+    /// A heading, with the names after INCLUDE or without.
     Headed {
         heading: Heading,
         included: Option<Names>,
@@ -81,17 +83,17 @@ pub enum Item {
     Orders(EventRule),
 }
 
-/// An item and the line on which its first plain word stands; lines count from 1.
+/// An item and the line of its first plain word; lines count from 1.
 #[derive(Debug, Drop)]
 pub struct ItemAt {
     pub line: usize,
     pub item: Item,
 }
 
-/// What a text declares: the items of its preamble, in order.
+/// The declarations of a text: the items of its preamble, in order.
 #[derive(Debug, Drop)]
 pub struct Decls {
     pub items: Vec<ItemAt>,
-    /// The line of the preamble's END; `None` where the text has no preamble.
+    /// The line of the preamble's END; `None` if the text has no preamble.
     pub end: Option<usize>,
 }

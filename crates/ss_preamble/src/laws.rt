@@ -18,7 +18,7 @@ pub fn answer_is_unique()
     ensures { AnswerIsUnique }
 {}
 
-/// What the words of a preamble count to is within the limits exactly where its items are.
+/// The counts of the words of a preamble are within the limits exactly if its items are.
 pub fn words_count_items()
     ensures { WordsCountItems }
 {}
@@ -38,7 +38,7 @@ pub fn limits_refuse()
     ensures { LimitsRefuse }
 {}
 
-/// From the number that is given with a preamble on, the words are those behind its END.
+/// From the number that is given with a preamble on, the words are those after its END.
 pub fn words_stand_behind()
     ensures { WordsStandBehind }
 {}
@@ -48,13 +48,13 @@ pub fn beginnings_are_refused()
     ensures { BeginningsAreRefused }
 {}
 
-/// A whole program has one farthest word: it is the preamble's where that is refused, and else that
-/// of the sections.
+/// A whole program has one farthest word: it is the preamble's if that is refused, and else that of
+/// the sections.
 pub fn program_has_one_farthest_word()
     ensures { FarthestOfPrograms }
 {}
 
-/// The first word of an item behind END is the farthest word of a program, so P1 refuses it.
+/// The first word of an item after END is the farthest word of a program, so P1 refuses it.
 pub fn no_item_stands_behind_end()
     ensures { WordsBehindEnd }
 {}

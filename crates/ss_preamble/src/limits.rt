@@ -1,4 +1,4 @@
-//! Counting what is limited.
+//! Counting the names and keys that are limited.
 ghost use Rattle.std.specs.Prelude.{IfOk, IfSome, IfNone, [], bytes_eq, count_by, ◌≡◌, ◌≤◌, ◌<◌};
 ghost use Rattle.std.specs.Prelude.{◌+◌, ◌^◌};
 ghost use Rattle.std.specs.List.{list_any};
@@ -15,15 +15,15 @@ use ss_words::limits::{MOST_ATTRIBUTES, MOST_CLASSES, MOST_KEYS, MOST_SETS, MOST
 use ss_words::{Mark, Plain, PlainWord, Reserved, Sign};
 use std::alloc::{AllocError, Global};
 
-/// What names count to.
+/// The limit to which names count.
 #[derive(Clone, Copy)]
 pub enum CountedKind {
     NoNames,
-    /// Behind INCLUDE and EVERY.
+    /// After INCLUDE and EVERY.
     Classes,
-    /// Behind HAS: attributes of a class, or variables of the system.
+    /// After HAS: attributes of a class, or variables of the system.
     Owned,
-    /// Behind OWNS and BELONGS, and in the DEFINE of sets.
+    /// After OWNS and BELONGS, and in the DEFINE of sets.
     Sets,
     /// In the DEFINE of variables.
     Variables,
@@ -31,7 +31,7 @@ pub enum CountedKind {
     Keys,
 }
 
-/// What a word counts to.
+/// The limit to which a word counts, and its name or number.
 #[derive(Clone, Copy)]
 pub enum Role<'a> {
     Class(&'a [u8]),
@@ -44,17 +44,17 @@ pub enum Role<'a> {
     Nothing,
 }
 
-/// What the words before a place say of the names behind it.
+/// The role of the names after a place, by the words before it.
 #[derive(Clone, Copy)]
 pub struct Standing<'a> {
     pub counted: CountedKind,
-    /// The class to which HAS gives attributes; `None` where it gives variables to the system.
+    /// The class to which HAS gives attributes; `None` if it gives variables to the system.
     pub owner: Option<&'a [u8]>,
     /// The keys of the ranking so far.
     pub keys: usize,
 }
 
-/// What was counted.
+/// The counts of the words so far.
 #[derive(Drop)]
 pub struct Tally<'a> {
     pub classes: Vec<&'a [u8]>,
@@ -64,7 +64,7 @@ pub struct Tally<'a> {
     pub sets: Vec<&'a [u8]>,
 }
 
-/// The number of the first of these words that passes a limit; `None` where none does.
+/// The number of the first of these words that passes a limit; `None` if none does.
 #[tactic(auto, using(crate::proofs::PastLimitLoop::past_limits))]
 pub fn past_limit(alloc: Global, words: &[PlainWord<'_>]) -> Result<Option<usize>, AllocError>
     ensures none { IfOk result (λ o. IfNone o (AreWithin (roles.roles (plains_of words.now)))) }
@@ -89,7 +89,7 @@ pub fn past_limit(alloc: Global, words: &[PlainWord<'_>]) -> Result<Option<usize
 }
 
 impl<'a> Standing<'a> {
-    /// What a word counts to.
+    /// The role of a word.
     fn word_role(&self, word: Plain<'a>) -> Role<'a>
         ensures { role_view result ≡ roles.role (standing_view self.now) (plain_of word.entry) }
     {
@@ -99,7 +99,7 @@ impl<'a> Standing<'a> {
         }
     }
 
-    /// What a name counts to.
+    /// The role of a name.
     fn name_role(&self, name: &'a [u8]) -> Role<'a>
         ensures { role_view result ≡ roles.name_role (standing_view self.now) name.now }
     {
@@ -116,7 +116,7 @@ impl<'a> Standing<'a> {
         }
     }
 
-    /// Behind a word that these words follow.
+    /// The `Standing` after a word that these words follow.
     fn behind(self, word: Plain<'a>, rest: &[PlainWord<'_>]) -> Self
         requires { self.keys < 2 ^ 63 }
         ensures exact { standing_view result
@@ -131,7 +131,7 @@ impl<'a> Standing<'a> {
         }
     }
 
-    /// Behind a name: a class is the owner of what HAS gives.
+    /// The `Standing` after a name: a class is the owner of the names after HAS.
     fn behind_name(self, name: &'a [u8]) -> Self
         ensures exact { standing_view result
             ≡ roles.behind_name (standing_view self.entry) name.now }
@@ -146,7 +146,7 @@ impl<'a> Standing<'a> {
         }
     }
 
-    /// Behind a reserved word that these words follow.
+    /// The `Standing` after a reserved word that these words follow.
     fn behind_reserved(self, word: Reserved, rest: &[PlainWord<'_>]) -> Self
         requires { self.keys < 2 ^ 63 }
         ensures exact { standing_view result
@@ -179,7 +179,7 @@ impl<'a> Standing<'a> {
         }
     }
 
-    /// The same, where names count to this.
+    /// The `Standing` with this limit for names, and otherwise unchanged.
     fn counting(self, counted: CountedKind) -> Self
         ensures { result ≡ record self.entry { counted = counted } }
     {
@@ -187,7 +187,7 @@ impl<'a> Standing<'a> {
     }
 }
 
-/// What DEFINE makes of its names, by the words behind it: the word behind AS says it.
+/// The limit of the names of a DEFINE, by the words after it: the word after AS decides.
 fn kind_behind_define(words: &[PlainWord<'_>]) -> CountedKind
     ensures { counted_view result ≡ roles.kind_behind_define (plains_of words.now) }
 {
@@ -202,7 +202,7 @@ fn kind_behind_define(words: &[PlainWord<'_>]) -> CountedKind
     CountedKind::NoNames
 }
 
-/// What the word behind AS says.
+/// The limit of the names of a DEFINE, if these words are after AS.
 fn kind_behind_as(words: &[PlainWord<'_>]) -> CountedKind
     ensures { counted_view result ≡ roles.kind_behind_as (plains_of words.now) }
 {
@@ -212,7 +212,7 @@ fn kind_behind_as(words: &[PlainWord<'_>]) -> CountedKind
     }
 }
 
-/// What this word says behind AS.
+/// The limit of the names of a DEFINE, if this word is after AS.
 fn kind_by_word(word: Plain<'_>) -> CountedKind
     ensures { counted_view result ≡ roles.kind_by_word (plain_of word.entry) }
 {
@@ -237,7 +237,7 @@ impl<'a> Tally<'a> {
         }
     }
 
-    /// Counts this too, and tells whether it is within its limit.
+    /// Counts this too, and says whether it is within its limit.
     fn takes(&mut self, role: Role<'a>) -> Result<bool, AllocError>
         requires { self.now.variables ≤ MOST_VARIABLES }
         ensures exact { IfOk result
@@ -287,7 +287,7 @@ fn is_among(names: &[&[u8]], name: &[u8]) -> bool
     names.iter().any(|other| name == *other)
 }
 
-/// How often a name stands among these.
+/// How often a name is among these.
 fn count(names: &[&[u8]], name: &[u8]) -> usize
     ensures { result ≡ count_by (bytes_eq name.now) (texts names.now) }
 {

@@ -70,7 +70,7 @@ fn push_item(
     Ok(true)
 }
 
-/// An item, or nothing where none begins here.
+/// An item, or nothing if none begins here.
 #[tactic(auto, unfolding(crate::proofs::Unfoldings::steps_by_word, crate::specs::ItemReading::next_item))]
 fn next_item(cursor: &mut Cursor<'_>) -> Result<Option<Item>, Refusal>
     ensures exact { Gives (option_view item_view) result cursor.new (reading.next_item cursor.old) }
@@ -83,7 +83,7 @@ fn next_item(cursor: &mut Cursor<'_>) -> Result<Option<Item>, Refusal>
     }
 }
 
-/// The item that begins with this word, the next one; nothing where none begins with it.
+/// The item that begins with this word, the next one; nothing if none begins with it.
 #[tactic(auto, unfolding(crate::proofs::Unfoldings::steps_by_word))]
 fn item_by(cursor: &mut Cursor<'_>, word: Reserved) -> Result<Option<Item>, Refusal>
     requires { 0 < length cursor.now }
@@ -133,7 +133,7 @@ fn normally(cursor: &mut Cursor<'_>) -> Result<Item, Refusal>
     Ok(Item::Normally)
 }
 
-/// A heading from its first word on: this second word and `[INCLUDE names]` behind it.
+/// A heading from its first word on: this second word and `[INCLUDE names]` after it.
 #[tactic(auto, unfolding(crate::proofs::Unfoldings::steps, crate::specs::ItemReading::heading_with))]
 fn heading(cursor: &mut Cursor<'_>, heading: Heading, second: Reserved) -> Result<Item, Refusal>
     ensures exact { Gives item_view result cursor.new
@@ -159,7 +159,7 @@ fn every(cursor: &mut Cursor<'_>) -> Result<Item, Refusal>
     Ok(Item::OfEvery { class, clauses })
 }
 
-/// `DEFINE names AS` and what they are, from the first word on.
+/// `DEFINE names AS` and the variables or sets that they are, from the first word on.
 #[tactic(auto, unfolding(crate::proofs::Unfoldings::steps_by_word, crate::specs::ItemReading::definition_with))]
 fn definition(cursor: &mut Cursor<'_>) -> Result<Item, Refusal>
     ensures exact { Gives (λ i. Some (item_view i)) result cursor.new
@@ -172,7 +172,7 @@ fn definition(cursor: &mut Cursor<'_>) -> Result<Item, Refusal>
     Ok(Item::Defines(definition_of(cursor, names)?))
 }
 
-/// `INTEGER VARIABLES | FIFO SETS | LIFO SETS | SETS RANKED keys`, behind the names of a DEFINE and
+/// `INTEGER VARIABLES | FIFO SETS | LIFO SETS | SETS RANKED keys`, after the names of a DEFINE and
 /// its AS.
 #[tactic(auto, unfolding(crate::proofs::Unfoldings::steps_by_word, crate::specs::ItemReading::definition_of))]
 fn definition_of(cursor: &mut Cursor<'_>, names: Names) -> Result<Definition, Refusal>
@@ -186,7 +186,7 @@ fn definition_of(cursor: &mut Cursor<'_>, names: Names) -> Result<Definition, Re
     }
 }
 
-/// The same, where this is the next word.
+/// The rest of a DEFINE after its AS, if this is the next word.
 #[tactic(auto, unfolding(crate::proofs::Unfoldings::steps_by_word))]
 fn definition_by(
     cursor: &mut Cursor<'_>,

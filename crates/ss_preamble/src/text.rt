@@ -1,3 +1,5 @@
+//! The reading of the preamble of a whole text, and its faults.
+
 ghost use Rattle.std.specs.Prelude.{IfOk, IfErr, All, map, slice_index, Ok, Err, ◌≡◌, ◌+◌, ◌-◌, ◌<◌};
 ghost use Rattle.ss_words.specs.Plain.{plain_at, plains_of, word_lines};
 ghost use Rattle.ss_words.specs.declared.refusal.Refusal.TheVariants.{Unexpected};
@@ -19,17 +21,17 @@ use ss_words::{
 };
 use std::alloc::Global;
 
-/// What the preamble of a program declares (docs/LANGUAGE.md, "The preamble"), and the number of
-/// the first word behind its END, counted from 0: no items, and 0, where the text begins with no
+/// The declarations in the preamble of a program (docs/LANGUAGE.md, "The preamble"), and the number
+/// of the first word after its END, counted from 0: no items, and 0, if the text begins with no
 /// PREAMBLE. The words are left as they are.
 ///
 /// # Errors
 ///
-/// - P1 at the word with which no preamble goes on; P2 at the last word, where the text ends before
+/// - P1 at the word with which no preamble goes on; P2 at the last word, if the text ends before
 ///   the preamble's END; P3 at the name that passes a limit of [`ss_words::limits`]: on classes,
-///   attributes of a class, variables, sets or keys of a ranking. Where several of them hold, the
+///   attributes of a class, variables, sets or keys of a ranking. If several of them hold, the
 ///   earliest word counts, then the lowest number (docs/LANGUAGE.md, "Refusals of the grammar").
-/// - `Memory` where memory was refused.
+/// - `Memory` if memory was refused.
 #[tactic(auto, using(crate::proofs::Indexes::indexes_below))]
 pub fn preamble(alloc: Global, words: &Words) -> Result<(Decls, usize), TextFault>
     // The words begin with no preamble, or with one within the limits, and these are its items.
@@ -43,8 +45,8 @@ pub fn preamble(alloc: Global, words: &Words) -> Result<(Decls, usize), TextFaul
     read(alloc, &plain, words.list.len())
 }
 
-/// What these plain words declare, which come from so many words, and the number of the first word
-/// behind it.
+/// The declarations of these plain words, which come from `count` words, and the number of the
+/// first word after the preamble.
 fn read(alloc: Global, text: &[PlainWord<'_>], count: usize) -> Result<(Decls, usize), TextFault>
     requires { All (λ w. w.index < count) text.now }
     ensures declared { IfOk result (λ d. AreDecls (decls_view d.0) d.1 (map plain_at text.now)) }
@@ -60,7 +62,7 @@ fn read(alloc: Global, text: &[PlainWord<'_>], count: usize) -> Result<(Decls, u
     }
 }
 
-/// The items of a preamble that was read up to the cursor, where none of its names passes a limit.
+/// The items of a preamble that was read up to the cursor, if none of its names passes a limit.
 fn declared(
     decls: Decls,
     cursor: &Cursor<'_>,
@@ -81,7 +83,7 @@ fn declared(
     }
 }
 
-/// What a text is refused with, by what stopped its reading at the word that the cursor reached.
+/// The fault of a text, by the refusal of its reading at the word that the cursor reached.
 fn fault(refusal: Refusal, cursor: &Cursor<'_>, text: &[PlainWord<'_>]) -> TextFault
     requires begins { HasPreamble (plains_of text.now) }
     requires stopped { Fails refusal cursor.now
@@ -94,9 +96,9 @@ fn fault(refusal: Refusal, cursor: &Cursor<'_>, text: &[PlainWord<'_>]) -> TextF
     }
 }
 
-/// What a text is refused with whose preamble goes on with no word as the one that the cursor has
-/// reached. A limit that the text's last word passes is told as the missing end, since no preamble
-/// ends with that word.
+/// The fault of a text whose preamble cannot go on with the word that the cursor has reached. A
+/// limit that the text's last word passes is reported as the missing end, since no preamble ends
+/// with that word.
 fn unexpected(cursor: &Cursor<'_>, text: &[PlainWord<'_>]) -> TextFault
     requires begins { HasPreamble (plains_of text.now) }
     requires stopped { preamble_at (word_lines text.now) (plains_of text.now)
@@ -135,7 +137,7 @@ fn refused(rule: TextRule, text: &[PlainWord<'_>], word: usize) -> TextFault
     TextFault::Refused { rule, line }
 }
 
-/// The number of the first word behind the first plain words, of which so many were read, at least
+/// The number of the first word after the plain words that were read: the first `reached`, at least
 /// one.
 fn number_behind(text: &[PlainWord<'_>], reached: usize, count: usize) -> usize
     requires { All (λ w. w.index < count) text.now }

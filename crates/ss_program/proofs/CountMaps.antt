@@ -1,4 +1,4 @@
--- What a map of counts tells after each change.
+-- The counts in a map of counts after each change.
 use Rattle.std.proofs.Common.{◌≡◌, ◌+◌, ℕ, Bool, true, false, cond, List, [], ◌∷◌, ◌++◌, Option, Some, None, refl, sym}
 use Rattle.std.proofs.Common.{ap, ◌∙◌, arith, subst}
 use Rattle.std.specs.Prelude.{bytes_eq, count_by, unwrap_or}
@@ -27,14 +27,14 @@ unfolding AreCounts
 counts_same names m n e h b =
     ap (λ (o : Option ℕ). unwrap_or o 0) (ap (lookup (λ k. is_eq (slice_cmp nat_cmp b k.items))) e) ∙ h b
 
--- the count that a map tells
+-- the count of a name that has an entry in the map
 pub counts_some : (names : List Name) (m : BTreeMap (Vec ℕ) ℕ) (n : Name) (i : ℕ) → AreCounts names m →
     Some i ≡ entry_of m n →
     i ≡ count_by (bytes_eq n) names
 unfolding AreCounts
 counts_some names m n i h e = ap (λ (o : Option ℕ). unwrap_or o 0) e ∙ h n
 
--- the count where it tells nothing
+-- the count of a name that has no entry in the map
 pub counts_zero : (names : List Name) (m : BTreeMap (Vec ℕ) ℕ) (n : Name) → AreCounts names m → None ≡ entry_of m n →
     0 ≡ count_by (bytes_eq n) names
 unfolding AreCounts

@@ -1,4 +1,4 @@
--- The one MAIN is there, and is what a search finds.
+-- The one MAIN exists, and a search finds it.
 use Rattle.std.proofs.Common.{◌≡◌, ℕ, suc, ◌+◌, ◌<◌, ◌≤◌, List, [], ◌∷◌, length, Bool, true, false, not, arith, refl}
 use Rattle.std.proofs.Common.{sym, ◌∙◌, Some, None, nat_lt}
 use Rattle.std.proofs.lemmas.Bool.{ltb-false}
@@ -42,7 +42,7 @@ none_at : (i n : ℕ) (b : Bool) → nat_lt i n ≡ b → None ≡ cond b (Some 
 none_at i n true e h le = cc
 none_at i n false e h le = omega (arith, ltb-false i n e)
 
--- what is not found has the number behind the last one
+-- if nothing is found, the number is the one after the last
 pub found_none : {X : Type 0} (p : X → Bool) (xs : List X) → None ≡ position p xs → length xs ≡ position_or_len p xs
 found_none p xs h =
     none_at (position_or_len p xs) (length xs) (nat_lt (position_or_len p xs) (length xs)) refl h

@@ -1,4 +1,4 @@
--- What a map from names to their places tells after each change.
+-- The places in a map from names to their places, after each change.
 use Rattle.std.proofs.Common.{◌≡◌, ◌<◌, ◌≤◌, ◌+◌, suc, ◌||◌, ◌==◌, ℕ, Bool, true, false, not, cond, List, [], ◌∷◌, ◌++◌}
 use Rattle.std.proofs.Common.{length, Option, Some, None, refl, sym, ap, ◌∙◌, nat_lt, arith, subst}
 use Rattle.std.specs.Prelude.{bytes_eq, position, is_some, IfSome}

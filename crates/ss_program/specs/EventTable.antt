@@ -1,8 +1,8 @@
--- What an event class has besides its name and attributes.
+-- The parts of an event class other than its name and attributes.
 use Rattle.std.specs.Prelude.{ℕ, List, Bool}
 use Rattle.ss_program.specs.declared.keys.Key.{Key}
 
--- what an event class has besides
+-- the further parts of an event class
 pub record EventTable : Type 0 where
   -- the number of its section
   pub section : ℕ

@@ -1,4 +1,4 @@
--- A small program, and what is found in it; expressions, and what they are lowered to.
+-- Examples: a small program with searches in it, and expressions with their operations.
 use Rattle.std.specs.Prelude.{◌≡◌, pos, [], ◌∷◌, codes, Some, None}
 use Rattle.ss_words.specs.declared.terms.TermSign.TheVariants.{Plus, Minus}
 use Rattle.ss_program.specs.declared.kinds.ClassKind.TheVariants.{Permanent}
@@ -34,7 +34,7 @@ NamesAreFound =
     × (meaning_of shop (codes "") ≡ None)
     × (meaning_of shop (codes "TIME.V") ≡ None)
 
--- one factor alone
+-- an expression of one factor only
 abbrev pub alone : Factor → Expr
 alone f = expr None (term f no_products) no_sums
 
@@ -42,7 +42,7 @@ alone f = expr None (term f no_products) no_sums
 abbrev pub times : Factor → Factor → Term
 times f g = term f (product g no_products)
 
--- MOD.F(X * 5 + 1, 9) is lowered; a variable alone and a difference of two products of variables are not
+-- MOD.F(X * 5 + 1, 9) is lowered; a variable only and a difference of variable products are not
 abbrev pub LinearIsLowered : Type 0
 LinearIsLowered =
     (code_of (alone (remainder

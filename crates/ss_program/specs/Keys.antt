@@ -12,7 +12,7 @@ abbrev pub order_by_rank : Rank → ℤ → ℤ → Ordering
 order_by_rank High x y = int_cmp y x
 order_by_rank Low x y = int_cmp x y
 
--- which of two rows of key values comes first: by the first key that tells them apart
+-- the order of two rows of key values: the first key in which they differ decides
 abbrev pub by_keys : List Key → List ℤ → List ℤ → Ordering
 by_keys (k ∷ ks) (x ∷ xs) (y ∷ ys) = ordering_then (order_by_rank k.rank x y) (by_keys ks xs ys)
 by_keys _ _ _ = Equal

@@ -1,4 +1,4 @@
--- What a linear expression is lowered to: operations on one accumulator, in the order of the text.
+-- The operations that a linear expression is lowered to: on one accumulator, in text order.
 use Rattle.std.specs.Prelude.{◌≡◌, ℕ, ℤ, Bool, true, false, pos, List, [], ◌∷◌, ◌++◌, Option, Some, None}
 use Rattle.std.specs.Prelude.{option_map, option_and_then, unwrap_or, is_some, ◌||◌, if◌then◌else◌}
 use Rattle.ss_words.specs.Ranges.{in_range}
@@ -19,16 +19,16 @@ use Rattle.ss_program.specs.declared.op.Op.TheVariants.{SubtractAttributeGlobal,
 use Rattle.ss_program.specs.declared.op.Op.TheVariants.{MultiplyConstant, MultiplyGlobal, MultiplyLocal}
 use Rattle.ss_program.specs.declared.op.Op.TheVariants.{DivideConstant, RemainderConstant, Negate, Absolute}
 
--- a number as a constant, where it is in range
+-- a number as a constant, if it is in range
 abbrev pub constant_of : ℕ → Option ℤ
 constant_of n = if in_range (pos n) then Some (pos n) else None
 
--- the factor that a term is, where it is one alone
+-- the factor of a term, if the term is one factor only
 abbrev pub lone_factor : Term → Option Factor
 lone_factor (term f no_products) = Some f
 lone_factor (term f (product g ps)) = None
 
--- the factor that an expression is, where it is one alone
+-- the factor of an expression, if the expression is one factor only
 abbrev pub factor_alone : Expr → Option Factor
 factor_alone (expr None t no_sums) = lone_factor t
 factor_alone (expr None t (sum s u ss)) = None
@@ -44,15 +44,15 @@ abbrev pub variable_factor : Factor → Option Variable
 variable_factor (variable x) = Some x
 variable_factor _ = None
 
--- the constant that an expression is, if it is one alone
+-- the constant of an expression, if the expression is one constant only
 abbrev pub constant_in : Expr → Option ℤ
 constant_in e = option_and_then constant_factor (factor_alone e)
 
--- the variable that an expression is, if it is one alone
+-- the variable of an expression, if the expression is one variable only
 abbrev pub variable_in : Expr → Option Variable
 variable_in e = option_and_then variable_factor (factor_alone e)
 
--- the variable that a subscript is, if it is one alone
+-- the variable of a subscript, if the subscript is one variable only
 abbrev pub subscript_variable : Subscript → Option Variable
 subscript_variable (implied i) = Some (Global i)
 subscript_variable of_system = None
@@ -96,7 +96,7 @@ attribute_op Minus c a (Local i) = Some (SubtractAttributeLocal c a i)
 attribute_op Plus c a Clock = None
 attribute_op Minus c a Clock = None
 
--- the one of a further term that is a factor alone
+-- the operation of a further term that is one factor only
 abbrev pub lone_term_op : TermSign → Factor → Option Op
 lone_term_op s (digits n) = option_map (constant_op s) (constant_of n)
 lone_term_op s (variable x) = variable_op s x
@@ -141,7 +141,7 @@ signed_onto code None = code
 signed_onto code (Some Plus) = code
 signed_onto code (Some Minus) = code ++ Negate ∷ []
 
--- the operations of a tree, where it is linear
+-- the operations of a tree, if it is linear
 abbrev mutual
   -- of an expression
   pub lowered : Expr → Option (List Op)
@@ -170,12 +170,12 @@ abbrev mutual
   lowered_subscript of_system = None
   lowered_subscript (at e) = lowered e
 
--- the operations, where the tree is linear
+-- the operations, if the tree is linear
 abbrev pub if_linear : Bool → List Op → Option (List Op)
 if_linear true code = Some code
 if_linear false _ = None
 
--- whether an expression is a number or a variable alone, whose tree is read faster than an operation
+-- whether an expression is a single number or variable; its tree is read faster than an operation
 abbrev pub is_plain : Expr → Bool
 is_plain e = is_some (constant_in e) || is_some (variable_in e)
 

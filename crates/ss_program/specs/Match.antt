@@ -1,4 +1,4 @@
--- Which places belong together, found by counting what opens and closes, and where each place goes on.
+-- The ways on from each place; counting openings and closings finds the places that match.
 use Rattle.std.specs.Prelude.{ℕ, ◌+◌, ◌-◌, ◌==◌, Bool, true, false, ◌&&◌, ◌||◌, if◌then◌else◌, List, [], ◌∷◌, take}
 use Rattle.std.specs.Prelude.{drop, reverse, slice_get, Option, Some, None}
 use Rattle.ss_program.specs.declared.branch.Branch.TheVariants.{If, Else, Always}
@@ -27,7 +27,7 @@ abbrev pub is_always : Place → Bool
 is_always (Branch Always) = true
 is_always _ = false
 
--- what continues or closes an IF
+-- a place that continues or closes an IF
 abbrev pub is_branch_end : Place → Bool
 is_branch_end place = is_else place || is_always place
 
@@ -41,40 +41,40 @@ abbrev pub is_do : Place → Bool
 is_do (Looping (For f)) = f.has_do
 is_do _ = false
 
--- a phrase that controls what stands directly behind it: a further phrase, one statement, FIND or COMPUTE
+-- a phrase that controls the next place: a further phrase, one statement, FIND or COMPUTE
 abbrev pub controls_next_place : Place → Bool
 controls_next_place (Looping (For f)) = if f.has_do then false else true
 controls_next_place _ = false
 
 -- ---- counting
 
--- one deeper behind a place of `up`, one less deep behind one of `down`
+-- the depth after a place: one more after a place of `up`, one less after one of `down`
 abbrev pub depth_behind : (Place → Bool) → (Place → Bool) → ℕ → Place → ℕ
 depth_behind up down depth place = if up place then depth + 1 else (if down place then depth - 1 else depth)
 
--- how many places stand before the first wanted one at no depth
+-- the number of places before the first wanted one at depth 0
 abbrev pub distance : (Place → Bool) → (Place → Bool) → (Place → Bool) → ℕ → List Spot → ℕ
 distance wanted up down depth [] = 0
 distance wanted up down depth (x ∷ xs) =
     if wanted x.place && depth == 0 then 0 else 1 + distance wanted up down (depth_behind up down depth x.place) xs
 
--- how many bare phrases stand at the head
+-- the number of bare phrases at the head
 abbrev pub bare_phrases : List Spot → ℕ
 bare_phrases [] = 0
 bare_phrases (x ∷ xs) = if controls_next_place x.place then 1 + bare_phrases xs else 0
 
--- whether a place that stands there passes a test
+-- whether there is a place and it passes a test
 abbrev pub passes : (Place → Bool) → Option Spot → Bool
 passes test None = false
 passes test (Some x) = test x.place
 
--- what the first phrase of a chain sets back, by what the chain controls
+-- the resets of the first phrase of a chain; the place that the chain controls decides them
 abbrev pub resets_before : Place → Resets
 resets_before (Looping Find) = resets.Found
 resets_before (Looping (Gather value)) = resets.Statistics
 resets_before other = resets.Nothing
 
--- the same by the place that stands there, if one does
+-- the resets by an optional place; if there is none, nothing is reset
 abbrev pub resets_by : Option Spot → Resets
 resets_by None = resets.Nothing
 resets_by (Some x) = resets_before x.place
@@ -88,7 +88,7 @@ module _ (places : List Spot) where
   abbrev pub is_before : (Place → Bool) → ℕ → Bool
   is_before test i = if i == 0 then false else is_at test (i - 1)
 
-  -- the first wanted place behind i
+  -- the first wanted place after i
   abbrev pub later : (Place → Bool) → (Place → Bool) → (Place → Bool) → ℕ → ℕ
   later wanted up down i = i + 1 + distance wanted up down 0 (drop (i + 1) places)
 
@@ -108,44 +108,44 @@ module _ (places : List Spot) where
   abbrev pub phrase_of : ℕ → ℕ
   phrase_of i = earlier is_do is_loop is_do i
 
-  -- how many phrases of the chain of place i stand before it
+  -- the number of phrases before place i in its chain
   abbrev pub chain_before : ℕ → ℕ
   chain_before i = bare_phrases (reverse (take i places))
 
-  -- what the chain of the phrase at i controls: the first place from i on that is no bare phrase
+  -- the place that the chain of phrase i controls: the first from i on that is no bare phrase
   abbrev pub controlled_place : ℕ → ℕ
   controlled_place i = i + bare_phrases (drop i places)
 
-  -- the last place of what begins at i: an IF goes up to its ALWAYS, a phrase before DO up to its LOOP
+  -- the last place of the block at i: for an IF its ALWAYS, for a phrase before DO its LOOP
   abbrev pub last_place : ℕ → ℕ
   last_place i =
       if is_at is_if i then later is_always is_if is_always i
       else (if is_at is_do i then later is_loop is_do is_loop i else i)
 
-  -- the place behind the body of the phrase at i; for COMPUTE the place that tells the statistics
+  -- the place after the body of the phrase at i; for COMPUTE the place that assigns the statistics
   abbrev pub behind_body : ℕ → ℕ
   behind_body i = last_place (controlled_place i) + 1
 
-  -- where the statement at i goes on: to the phrase that controls it alone, else to the next place
+  -- the place after the statement at i: the phrase that controls only it, else the next place
   abbrev pub next_place : ℕ → ℕ
   next_place i = if is_before controls_next_place i then i - 1 else i + 1
 
-  -- where the ALWAYS at i goes on: as the statement that it ends with its IF
+  -- the place after the ALWAYS at i: as for a statement that its IF begins and it ends
   abbrev pub behind_always : ℕ → ℕ
   behind_always i = if is_before controls_next_place (if_of i) then if_of i - 1 else i + 1
 
-  -- where a false IF goes: behind its ELSE, or to its ALWAYS
+  -- the place after a false IF: the one after its ELSE, or its ALWAYS
   abbrev pub behind_false : ℕ → ℕ
   behind_false i = if is_at is_else (branch_end i) then branch_end i + 1 else branch_end i
 
-  -- where the loop of the phrase at i goes on when it closes: to the phrase directly before it in its chain, else
-  -- behind its body
+  -- the place after the loop of the phrase at i closes: the phrase directly before it in its chain,
+  -- else the place after its body
   abbrev pub behind_loop : ℕ → ℕ
   behind_loop i = if is_before controls_next_place i then i - 1 else behind_body i
 
-  -- ---- where a place goes on
+  -- ---- the ways on from a place
 
-  -- when it is done
+  -- the next place when the place is done
   abbrev pub next_of : ℕ → Place → ℕ
   next_of i (Branch (If question)) = i + 1
   next_of i (Branch Else) = branch_end i
@@ -155,36 +155,36 @@ module _ (places : List Spot) where
   next_of i (Looping Find) = i + 1
   next_of i other = next_place i
 
-  -- a false IF, and a loop that closes
+  -- the exit of a false IF, and of a loop that closes
   abbrev pub exit_of : ℕ → Place → ℕ
   exit_of i (Branch (If question)) = behind_false i
   exit_of i (Looping (For f)) = behind_loop i
   exit_of i other = 0
 
-  -- how many loops FIND closes
+  -- the number of loops that FIND closes
   abbrev pub chain_of : ℕ → Place → ℕ
   chain_of i (Looping Find) = chain_before i
   chain_of i other = 0
 
-  -- what the phrase at i sets back at its entry
+  -- the resets of the phrase at i at its entry
   abbrev pub phrase_resets : ℕ → Resets
   phrase_resets i =
       if is_before controls_next_place i then resets.Nothing else resets_by (slice_get places (controlled_place i))
 
-  -- the same of any place
+  -- the resets of any place at its entry
   abbrev pub resets_of : ℕ → Place → Resets
   resets_of i (Looping (For f)) = phrase_resets i
   resets_of i other = resets.Nothing
 
-  -- all of these
+  -- all four parts of the ways on from a place
   abbrev pub ways_of : ℕ → Place → Ways
   ways_of i x = record { next = next_of i x; exit = exit_of i x; chain = chain_of i x; resets = resets_of i x }
 
-  -- those of each place of a list that begins at place i
+  -- the ways on from each place of a list that begins at place i
   abbrev pub ways_from : ℕ → List Spot → List Ways
   ways_from i [] = []
   ways_from i (x ∷ xs) = ways_of i x.place ∷ ways_from (i + 1) xs
 
--- where each place of a section goes on
+-- the ways on from each place of a section
 abbrev pub section_ways : List Spot → List Ways
 section_ways places = ways_from places 0 places

@@ -6,14 +6,14 @@ use Rattle.std.specs.BTreeMap.{BTreeMap, get_by}
 use Rattle.std.specs.Cmp.Lexicographic.{slice_cmp}
 use Rattle.std.specs.Ordering.{nat_cmp}
 
--- a table with a name put at its end, unless it stands there already
+-- a table with a name put at its end, unless the table has it already
 abbrev pub with_name : List (List ℕ) → List ℕ → List (List ℕ)
 with_name table n = if list_any (bytes_eq n) table then table else table ++ n ∷ []
 
--- what a map tells of a name
+-- the number in a map's entry of a name, if it has one
 abbrev pub entry_of : BTreeMap (Vec ℕ) ℕ → List ℕ → Option ℕ
 entry_of m n = get_by (λ k. slice_cmp nat_cmp n k.items) m
 
--- a map tells of each name its place in a table, if it has one there
+-- a map gives the place of each name in a table, if the name is in the table
 unfoldable pub IsIndex : List (List ℕ) → BTreeMap (Vec ℕ) ℕ → Type 0
 IsIndex table m = (n : List ℕ) → entry_of m n ≡ position (bytes_eq n) table

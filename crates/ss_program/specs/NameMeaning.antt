@@ -1,4 +1,4 @@
--- What a name is in a program.
+-- The meaning of a name in a program.
 use Rattle.std.specs.Prelude.{ℕ, Bool, ◌||◌, List, Option, Some, None, is_some, position, bytes_eq, if◌then◌else◌}
 use Rattle.ss_program.specs.declared.find.Named.{Named}
 use Rattle.ss_program.specs.Names.{is_clock}
@@ -16,7 +16,7 @@ numbers_of program n = record {
 abbrev pub is_any : Named → Bool
 is_any m = is_some m.variable || is_some m.class || is_some m.set
 
--- None where it is none of the three, and for TIME.V
+-- None if the name is none of the three, and for TIME.V
 abbrev pub meaning_of : ProgramTable → List ℕ → Option Named
 meaning_of program n =
     if is_clock n then None else (if is_any (numbers_of program n) then Some (numbers_of program n) else None)

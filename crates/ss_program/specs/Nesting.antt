@@ -1,4 +1,4 @@
--- Which FOR phrases stand around a place, and where a place leads with the loops of those that are open there.
+-- The FOR phrases around a place; the places that it leads to while the loops of these are open.
 use Rattle.std.specs.Prelude.{◌≡◌, ℕ, zero, suc, ◌+◌, ◌&&◌, ◌||◌, nat_lt, bytes_eq, Bool, true, false, if◌then◌else◌}
 use Rattle.std.specs.Prelude.{List, [], ◌∷◌, drop}
 use Rattle.ss_program.specs.declared.branch.Branch.TheVariants.{If}
@@ -19,7 +19,7 @@ abbrev pub are_same_places : List ℕ → List ℕ → Bool
 are_same_places js ks = bytes_eq js ks
 
 module _ (places : List Spot) where
-  -- a phrase at j, before place i, is around it where its body ends behind i
+  -- a phrase at j, before place i, is around it if its body ends after i
   abbrev pub is_around : ℕ → ℕ → Bool
   is_around i j = is_at places is_phrase j && nat_lt i (behind_body places j)
 
@@ -38,8 +38,9 @@ module _ (places : List Spot) where
       are_same_places js (phrases_around n)
       || (is_at places is_phrase n && are_same_places js (n ∷ phrases_around n))
 
-  -- place i with these ways leads to places at which the loops may be open that it leaves open: a phrase its own, FIND
-  -- those around it but the ones that it closes, and any other place those around it
+  -- the loops that place i leaves open may be open at the places that its ways lead to. A phrase
+  -- leaves its own and those around it open; FIND those around it except the ones that it closes;
+  -- any other place those around it
   abbrev pub is_nested : ℕ → Ways → Place → Bool
   is_nested i w (Control c) = true
   is_nested i w (Branch (If q)) = may_be_open (phrases_around i) w.next && may_be_open (phrases_around i) w.exit

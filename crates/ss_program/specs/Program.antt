@@ -31,9 +31,9 @@ pub record ClassTable : Type 0 where
 pub record SetTable : Type 0 where
   -- its name
   pub name : List ℕ
-  -- in which order its lists stand
+  -- the order of its lists
   pub discipline : Discipline
-  -- whose its lists are
+  -- the owner of its lists
   pub owner : Owner
   -- the class of its members
   pub member : ℕ
@@ -134,7 +134,7 @@ abbrev pub set_of : ProgramTable → ℕ → SetTable
 set_of program s =
     unwrap_or (slice_get program.sets s) (record { name = []; discipline = Fifo; owner = System; member = 0 })
 
--- what a class of this kind has besides, if it is an event class
+-- the further parts of a class of this kind, if it is an event class
 abbrev pub event_of_kind : ClassKind → EventTable
 event_of_kind (Event e) = e
 event_of_kind _ = record { section = 0; ties = []; external = false }
@@ -158,11 +158,11 @@ no_section = record {
 abbrev pub section_of : ProgramTable → ℕ → SectionTable
 section_of program n = unwrap_or (slice_get program.sections n) no_section
 
--- what event class c has besides
+-- the further parts of event class c
 abbrev pub event_of : ProgramTable → ℕ → EventTable
 event_of program c = event_of_kind (class_of program c).kind
 
--- ---- what is read off the rows
+-- ---- values read from the rows
 
 -- the class is permanent
 abbrev pub is_permanent : ClassKind → Bool
@@ -183,7 +183,7 @@ abbrev pub count_by_kind : ClassKind → ℕ
 count_by_kind (Permanent n) = n
 count_by_kind _ = 0
 
--- the same by the number of the class
+-- the global variable `N.c` of class c by its number; 0 if c is not permanent
 abbrev pub count_variable : ProgramTable → ℕ → ℕ
 count_variable program c = count_by_kind (class_of program c).kind
 
@@ -195,7 +195,7 @@ has_external program = list_any (λ c. (event_of_kind c.kind).external) program.
 abbrev pub priority_of : ProgramTable → ℕ → ℕ
 priority_of program c = unwrap_or (position (λ d. c == d) program.priority) (length program.priority + c)
 
--- two owners are the same
+-- whether two owners are the same
 abbrev pub is_same_owner : Owner → Owner → Bool
 is_same_owner System System = true
 is_same_owner (OwnedBy c) (OwnedBy d) = c == d

@@ -10,20 +10,20 @@ use Rattle.ss_program.specs.declared.condition.Relation.TheOpen.{Conjunction-F, 
 use Rattle.ss_program.specs.ProgramExpr.{Expr}
 
 mutual
-  -- a first conjunction, and those behind OR
+  -- a first conjunction, and those after OR
   pub data Condition : Type 0 where
     any : Conjunction → Conjunctions → Condition
 
-  -- the conjunctions behind OR
+  -- the conjunctions after OR
   pub data Conjunctions : Type 0 where
     no_conjunctions : Conjunctions
     or_else : Conjunction → Conjunctions → Conjunctions
 
-  -- a first relation, and those behind AND
+  -- a first relation, and those after AND
   pub data Conjunction : Type 0 where
     all : Relation → Relations → Conjunction
 
-  -- the relations behind AND
+  -- the relations after AND
   pub data Relations : Type 0 where
     no_relations : Relations
     and_also : Relation → Relations → Relations
@@ -35,14 +35,14 @@ mutual
     is_in : Expr → Copula → SetRef → Relation
     nested : Condition → Relation
 
--- ---- the tree that a condition of the code stands for
+-- ---- the tree of a condition of the code
 
--- the conjunctions behind OR, in order
+-- the conjunctions after OR, in order
 abbrev pub conjunctions_of : List Conjunction → Conjunctions
 conjunctions_of [] = no_conjunctions
 conjunctions_of (c ∷ cs) = or_else c (conjunctions_of cs)
 
--- the relations behind AND, in order
+-- the relations after AND, in order
 abbrev pub relations_of : List Relation → Relations
 relations_of [] = no_relations
 relations_of (r ∷ rs) = and_also r (relations_of rs)

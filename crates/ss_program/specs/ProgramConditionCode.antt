@@ -71,13 +71,13 @@ comparison_number Greater = 8
 comparison_number AtMost = 9
 comparison_number AtLeast = 10
 
--- the tokens of a part, before what follows
+-- the tokens of a part, put before the tokens that follow
 abbrev mutual
   -- a condition: its conjunctions
   pub condition_tokens : Condition → List Token → List Token
   condition_tokens (any c cs) k = mark 0 ∷ conjunction_tokens c (conjunctions_tokens cs k)
 
-  -- the conjunctions behind OR
+  -- the conjunctions after OR
   pub conjunctions_tokens : Conjunctions → List Token → List Token
   conjunctions_tokens no_conjunctions k = mark 1 ∷ k
   conjunctions_tokens (or_else c cs) k = mark 2 ∷ conjunction_tokens c (conjunctions_tokens cs k)
@@ -86,7 +86,7 @@ abbrev mutual
   pub conjunction_tokens : Conjunction → List Token → List Token
   conjunction_tokens (all r rs) k = mark 3 ∷ relation_tokens r (relations_tokens rs k)
 
-  -- the relations behind AND
+  -- the relations after AND
   pub relations_tokens : Relations → List Token → List Token
   relations_tokens no_relations k = mark 11 ∷ k
   relations_tokens (and_also r rs) k = mark 12 ∷ relation_tokens r (relations_tokens rs k)
@@ -98,12 +98,12 @@ abbrev mutual
   relation_tokens (is_empty r is) k = (empty_number is, (no_value, set_written r)) ∷ k
   relation_tokens (is_in e is r) k = (in_number is, (e, set_written r)) ∷ k
 
--- a token put before the parts that were read behind it
+-- a token put before the parts that were read after it
 abbrev pub any_read : List Part → List Part
 any_read (a_conjunction c ∷ some_conjunctions cs ∷ st) = a_condition (any c cs) ∷ st
 any_read st = st
 
--- the same of OR
+-- a token OR put before the parts that were read after it
 abbrev pub or_read : List Part → List Part
 or_read (a_conjunction c ∷ some_conjunctions cs ∷ st) = some_conjunctions (or_else c cs) ∷ st
 or_read st = st
@@ -148,7 +148,7 @@ abbrev pub parts : List Token → List Part
 parts [] = []
 parts (w ∷ ws) = token_read w.0 w.1.0 w.1.1 (parts ws)
 
--- the condition that stands first
+-- the condition at the head of the parts
 abbrev pub first_condition : List Part → Condition
 first_condition (a_condition c ∷ st) = c
 first_condition st = any (all (compared no_value Equal no_value) no_relations) no_conjunctions
@@ -175,7 +175,7 @@ pub in_again : (e : Expr) (is : Copula) (r : SetRef) (st : List Part) →
 in_again e Is r st = refl
 in_again e IsNot r st = refl
 
--- what was written is read back
+-- the tokens that were written are read back as the same tree
 mutual
   condition_again : (c : Condition) (k : List Token) → parts (condition_tokens c k) ≡ a_condition c ∷ parts k
   condition_again (any c cs) k =

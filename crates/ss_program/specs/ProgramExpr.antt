@@ -1,4 +1,4 @@
--- The tree of an expression, with a variable where the text has a name.
+-- The tree of an expression, with a variable in place of each name of the text.
 use Rattle.std.specs.Prelude.{ℕ, List, [], ◌∷◌, Option}
 use Rattle.ss_words.specs.declared.terms.TermSign.{TermSign}
 use Rattle.ss_program.specs.declared.variable.Variable.{Variable}
@@ -15,20 +15,20 @@ use Rattle.ss_words.specs.declared.terms.OwnerKept.{OwnerKept}
 use Rattle.ss_words.specs.declared.terms.MemberKept.{MemberKept}
 
 mutual
-  -- a sign at the head or none, a first term, and the terms behind it
+  -- a sign at the head or none, a first term, and the terms after it
   pub data Expr : Type 0 where
     expr : Option TermSign → Term → Sums → Expr
 
-  -- the terms behind the first, each with its sign
+  -- the terms after the first, each with its sign
   pub data Sums : Type 0 where
     no_sums : Sums
     sum : TermSign → Term → Sums → Sums
 
-  -- a first factor, and the factors behind it
+  -- a first factor, and the factors after it
   pub data Term : Type 0 where
     term : Factor → Products → Term
 
-  -- the factors behind the first
+  -- the factors after the first
   pub data Products : Type 0 where
     no_products : Products
     product : Factor → Products → Products
@@ -47,31 +47,31 @@ mutual
     member_kept : MemberKept → ℕ → Subscript → Factor
     within : Expr → Factor
 
-  -- which entity is meant: the one that a class's global variable names, where no subscript is written; the system; the
-  -- one of a value
+  -- the entity that is meant: the one that a class's global variable names, if no subscript is
+  -- written; the system; the one of a value
   pub data Subscript : Type 0 where
     implied : ℕ → Subscript
     of_system : Subscript
     at : Expr → Subscript
 
-  -- the arguments behind the first
+  -- the arguments after the first
   pub data Exprs : Type 0 where
     no_exprs : Exprs
     exprs : Expr → Exprs → Exprs
 
--- ---- the tree that an expression of the code stands for
+-- ---- the tree of an expression of the code
 
--- the terms behind the first
+-- the terms after the first
 abbrev pub sums_of : List (TermSign × Term) → Sums
 sums_of [] = no_sums
 sums_of (s ∷ ss) = sum s.0 s.1 (sums_of ss)
 
--- the factors behind the first
+-- the factors after the first
 abbrev pub products_of : List Factor → Products
 products_of [] = no_products
 products_of (f ∷ fs) = product f (products_of fs)
 
--- the arguments behind the first
+-- the arguments after the first
 abbrev pub exprs_of : List Expr → Exprs
 exprs_of [] = no_exprs
 exprs_of (e ∷ es) = exprs e (exprs_of es)
@@ -144,7 +144,7 @@ signed_of =
     fold-SignedTerm Factor Subscript (Expr × Exprs) (TermSign × Term) (ℕ × Subscript) Expr Term
     factor_level subscript_level arguments_level signed_level subscripted_level sum_level term_level
 
--- the first argument, and those behind it
+-- the first argument, and those after it
 abbrev pub arguments_of : CodeArguments → Expr × Exprs
 arguments_of =
     fold-Arguments Factor Subscript (Expr × Exprs) (TermSign × Term) (ℕ × Subscript) Expr Term

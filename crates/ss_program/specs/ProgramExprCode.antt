@@ -56,13 +56,13 @@ member_number Predecessor = 0
 member_number Successor = 1
 member_number Membership = 2
 
--- the tokens of a part, before what follows
+-- the tokens of a part, put before the tokens that follow
 abbrev mutual
   -- an expression: the sign at its head, and its terms
   pub expr_tokens : Expr → List (ℕ × ℕ) → List (ℕ × ℕ)
   expr_tokens (expr l t ss) k = lead_token l ∷ term_tokens t (sums_tokens ss k)
 
-  -- the terms behind the first, each behind its sign
+  -- the terms after the first, each after its sign
   pub sums_tokens : Sums → List (ℕ × ℕ) → List (ℕ × ℕ)
   sums_tokens no_sums k = (1, 0) ∷ k
   sums_tokens (sum s t ss) k = sign_token s ∷ term_tokens t (sums_tokens ss k)
@@ -71,12 +71,12 @@ abbrev mutual
   pub term_tokens : Term → List (ℕ × ℕ) → List (ℕ × ℕ)
   term_tokens (term f ps) k = (3, 0) ∷ factor_tokens f (products_tokens ps k)
 
-  -- the factors behind the first
+  -- the factors after the first
   pub products_tokens : Products → List (ℕ × ℕ) → List (ℕ × ℕ)
   products_tokens no_products k = (4, 0) ∷ k
   products_tokens (product f ps) k = (5, 0) ∷ factor_tokens f (products_tokens ps k)
 
-  -- a factor: its kind, and what belongs to it
+  -- a factor: its kind, and the parts that belong to it
   pub factor_tokens : Factor → List (ℕ × ℕ) → List (ℕ × ℕ)
   factor_tokens (digits n) k = (6, n) ∷ k
   factor_tokens (variable x) k = variable_token x ∷ k
@@ -96,7 +96,7 @@ abbrev mutual
   subscript_tokens of_system k = (23, 0) ∷ k
   subscript_tokens (at e) k = (24, 0) ∷ expr_tokens e k
 
-  -- the arguments behind the first
+  -- the arguments after the first
   pub exprs_tokens : Exprs → List (ℕ × ℕ) → List (ℕ × ℕ)
   exprs_tokens no_exprs k = (16, 0) ∷ k
   exprs_tokens (exprs e es) k = (17, 0) ∷ expr_tokens e (exprs_tokens es k)
@@ -112,12 +112,12 @@ abbrev pub sign_of : ℕ → TermSign
 sign_of zero = Plus
 sign_of (suc n) = Minus
 
--- a token put before the parts that were read behind it
+-- a token put before the parts that were read after it
 abbrev pub expr_read : ℕ → List Part → List Part
 expr_read n (a_term t ∷ some_sums ss ∷ st) = an_expr (expr (lead_of n) t ss) ∷ st
 expr_read n st = st
 
--- the same of a further term
+-- the sign of a further term put before the parts that were read after it
 abbrev pub sum_read : ℕ → List Part → List Part
 sum_read n (a_term t ∷ some_sums ss ∷ st) = some_sums (sum (sign_of n) t ss) ∷ st
 sum_read n st = st
@@ -236,7 +236,7 @@ abbrev pub parts : List (ℕ × ℕ) → List Part
 parts [] = []
 parts (w ∷ ws) = token_read w.0 w.1 (parts ws)
 
--- the expression that stands first
+-- the expression at the head of the parts
 abbrev pub first_expr : List Part → Expr
 first_expr (an_expr e ∷ st) = e
 first_expr st = expr None (term (digits 0) no_products) no_sums
@@ -275,7 +275,7 @@ member_kept_again Predecessor s i st = refl
 member_kept_again Successor s i st = refl
 member_kept_again Membership s i st = refl
 
--- what was written is read back
+-- the tokens that were written are read back as the same tree
 mutual
   expr_again : (e : Expr) (k : List (ℕ × ℕ)) → parts (expr_tokens e k) ≡ an_expr e ∷ parts k
   expr_again (expr l t ss) k =
@@ -350,7 +350,7 @@ expr_code = code_by (List (ℕ × ℕ)) (coded_list (coded× coded_ℕ coded_ℕ
 abbrev pub subscript_written : Subscript → List (ℕ × ℕ)
 subscript_written subscript = subscript_tokens subscript []
 
--- the subscript that stands first
+-- the subscript at the head of the parts
 abbrev pub first_subscript : List Part → Subscript
 first_subscript (a_subscript i ∷ st) = i
 first_subscript st = of_system

@@ -1,4 +1,4 @@
--- What is sound about every checked program.
+-- The properties that make a checked program sound; each checked program has them.
 use Rattle.std.specs.Prelude.{◌≡◌, ℕ, ◌<◌, ◌≤◌, ◌+◌, ◌^◌, ◌==◌, List, [], ◌∷◌, length, map, count_by, bytes_eq}
 use Rattle.std.specs.Prelude.{slice_get, Option, Some, None, Bool, true, false}
 use Rattle.std.specs.List.{All, IsDistinct, list_all, list_any}
@@ -66,7 +66,7 @@ use Rattle.ss_program.specs.EventTable.{EventTable}
 use Rattle.ss_program.specs.Program.{ClassTable, SetTable, SectionTable, ProgramTable, is_main, is_routine, class_of}
 use Rattle.ss_program.specs.Program.{is_permanent, is_event, is_event_section, section_of}
 
--- what a place may name
+-- the tables that a place may name rows of
 pub record Scope : Type 0 where
   -- how many global variables there are
   pub globals : ℕ
@@ -99,7 +99,7 @@ abbrev mutual
   pub IsSoundExpr : Scope → Expr → Type 0
   IsSoundExpr sc (expr l t ss) = IsSoundTerm sc t × IsSoundSums sc ss
 
-  -- of the terms behind the first
+  -- of the terms after the first
   pub IsSoundSums : Scope → Sums → Type 0
   IsSoundSums sc no_sums = Unit {0}
   IsSoundSums sc (sum s t ss) = IsSoundTerm sc t × IsSoundSums sc ss
@@ -108,7 +108,7 @@ abbrev mutual
   pub IsSoundTerm : Scope → Term → Type 0
   IsSoundTerm sc (term f ps) = IsSoundFactor sc f × IsSoundProducts sc ps
 
-  -- of the factors behind the first
+  -- of the factors after the first
   pub IsSoundProducts : Scope → Products → Type 0
   IsSoundProducts sc no_products = Unit {0}
   IsSoundProducts sc (product f ps) = IsSoundFactor sc f × IsSoundProducts sc ps
@@ -133,12 +133,12 @@ abbrev mutual
   IsSoundSubscript sc of_system = Unit {0}
   IsSoundSubscript sc (at e) = IsSoundExpr sc e
 
-  -- of the arguments behind the first
+  -- of the arguments after the first
   pub AreSoundArguments : Scope → Exprs → Type 0
   AreSoundArguments sc no_exprs = Unit {0}
   AreSoundArguments sc (exprs e es) = IsSoundExpr sc e × AreSoundArguments sc es
 
--- the same of each expression of a list
+-- each expression of a list is sound
 abbrev pub AreSoundExprs : Scope → List Expr → Type 0
 AreSoundExprs sc [] = Unit {0}
 AreSoundExprs sc (e ∷ es) = IsSoundExpr sc e × AreSoundExprs sc es
@@ -170,7 +170,7 @@ abbrev mutual
   pub IsSoundCondition : Scope → Condition → Type 0
   IsSoundCondition sc (any c cs) = IsSoundConjunction sc c × AreSoundConjunctions sc cs
 
-  -- of the conjunctions behind OR
+  -- of the conjunctions after OR
   pub AreSoundConjunctions : Scope → Conjunctions → Type 0
   AreSoundConjunctions sc no_conjunctions = Unit {0}
   AreSoundConjunctions sc (or_else c cs) = IsSoundConjunction sc c × AreSoundConjunctions sc cs
@@ -179,7 +179,7 @@ abbrev mutual
   pub IsSoundConjunction : Scope → Conjunction → Type 0
   IsSoundConjunction sc (all r rs) = IsSoundRelation sc r × AreSoundRelations sc rs
 
-  -- of the relations behind AND
+  -- of the relations after AND
   pub AreSoundRelations : Scope → Relations → Type 0
   AreSoundRelations sc no_relations = Unit {0}
   AreSoundRelations sc (and_also r rs) = IsSoundRelation sc r × AreSoundRelations sc rs
@@ -191,7 +191,7 @@ abbrev mutual
   IsSoundRelation sc (is_in e is r) = IsSoundExpr sc e × IsSoundSetRef sc r
   IsSoundRelation sc (nested c) = IsSoundCondition sc c
 
--- what an IF asks
+-- the question of an IF
 abbrev pub IsSoundQuestion : Scope → Question → Type 0
 IsSoundQuestion sc (Whether c) = IsSoundCondition sc c
 IsSoundQuestion sc WasFound = Unit {0}
@@ -213,14 +213,14 @@ abbrev pub IsSoundOption : Scope → Option Expr → Type 0
 IsSoundOption sc None = Unit {0}
 IsSoundOption sc (Some e) = IsSoundExpr sc e
 
--- where a walk through a list begins
+-- the begin of a walk through a list
 abbrev pub IsSoundBegin : Scope → Begin → Type 0
 IsSoundBegin sc AtTheEnd = Unit {0}
 IsSoundBegin sc (From e) = IsSoundExpr sc e
 IsSoundBegin sc (After e) = IsSoundExpr sc e
 
--- what a FOR phrase goes through: its variable is a target, its bounds and its step are sound, and the number of a
--- class's entities is a global variable
+-- the range of a FOR phrase: its variable is a target, its bounds and its step are sound, and the
+-- number of a class's entities is a global variable
 abbrev pub IsSoundPhrase : Scope → Phrase → Type 0
 IsSoundPhrase sc (Counting d x first last step) =
     IsSettable sc x × IsSoundExpr sc first × IsSoundExpr sc last × IsSoundOption sc step
@@ -232,7 +232,7 @@ abbrev pub AreSoundTellings : Scope → List Telling → Type 0
 AreSoundTellings sc [] = Unit {0}
 AreSoundTellings sc (t ∷ ts) = IsTarget sc t.target × AreSoundTellings sc ts
 
--- FOR phrases, and what only they control
+-- FOR phrases, and the places that only they control
 abbrev pub IsSoundLooping : Scope → ALooping → Type 0
 IsSoundLooping sc (For f) = IsSoundPhrase sc f.phrase × AreSoundQualifiers sc f.qualifiers
 IsSoundLooping sc Loop = Unit {0}
@@ -249,21 +249,21 @@ AreTargets sc (x ∷ xs) = IsTarget sc x × AreTargets sc xs
 abbrev pub IsSoundCall : Scope → ACall → Type 0
 IsSoundCall sc call = AreSoundExprs sc call.given × AreTargets sc call.targets
 
--- what makes and ends entities: those of permanent classes are made all at once, and not ended
+-- statements that make and end entities: permanent ones are made all at once, and not ended
 abbrev pub IsSoundMaking : Scope → AMaking → Type 0
 IsSoundMaking sc (Create c is_called t) = (slice_get sc.permanent c ≡ Some false) × IsTarget sc t
 IsSoundMaking sc (CreateEvery c e count) =
     (slice_get sc.permanent c ≡ Some true) × IsSoundOption sc e × (count < sc.globals)
 IsSoundMaking sc (Destroy c is_called e) = (slice_get sc.permanent c ≡ Some false) × IsSoundExpr sc e
 
--- where FILE puts a member
+-- the position at which FILE puts a member
 abbrev pub IsSoundPosition : Scope → Position → Type 0
 IsSoundPosition sc ByRule = Unit {0}
 IsSoundPosition sc (AtEnd end) = Unit {0}
 IsSoundPosition sc (Before e) = IsSoundExpr sc e
 IsSoundPosition sc (position.After e) = IsSoundExpr sc e
 
--- what files and removes members
+-- statements that file and remove members
 abbrev pub IsSoundFiling : Scope → AFiling → Type 0
 IsSoundFiling sc (File e how r) = IsSoundExpr sc e × IsSoundPosition sc how × IsSoundSetRef sc r
 IsSoundFiling sc (FileAt end e r) = IsSoundExpr sc e × IsSoundSetRef sc r
@@ -281,7 +281,7 @@ IsSoundWhen sc (At e) = IsSoundExpr sc e
 IsSoundWhen sc Now = Unit {0}
 IsSoundWhen sc (In e) = IsSoundExpr sc e
 
--- what schedules notices, takes them off, and starts events
+-- statements that schedule notices, take them off, and start events
 abbrev pub IsSoundTiming : Scope → ATiming → Type 0
 IsSoundTiming sc (Schedule s) =
     (slice_get sc.permanent s.class ≡ Some false)
@@ -302,7 +302,7 @@ IsSoundPlace sc (Call c) = IsSoundCall sc c
 IsSoundPlace sc (Timing t) = IsSoundTiming sc t
 IsSoundPlace sc (Read ts) = AreTargets sc ts
 
--- the same of each place of a list
+-- each place of a list is sound
 abbrev pub AreSoundPlaces : Scope → List Spot → Type 0
 AreSoundPlaces sc [] = Unit {0}
 AreSoundPlaces sc (s ∷ ss) = IsSoundPlace sc s.place × AreSoundPlaces sc ss
@@ -318,7 +318,7 @@ IsEnded [] = ⊥
 IsEnded (s ∷ []) = is_end s.place ≡ true
 IsEnded (s ∷ t ∷ ts) = (is_end s.place ≡ false) × IsEnded (t ∷ ts)
 
--- ---- where places go on
+-- ---- the ways on from places
 
 -- a place of a section with `count` places goes on to one of them; END goes on nowhere
 abbrev pub GoesOn : ℕ → Bool → ℕ → Type 0
@@ -331,8 +331,8 @@ IsCalledBy call None = ⊥
 IsCalledBy call (Some t) =
     (is_routine t ≡ true) × (length call.given ≡ t.given) × (length call.targets ≡ t.yielded)
 
--- a place with these ways, in a section with `count` places: where else it may go on is a place, too; FIND closes few
--- loops; a CALL is one of a routine
+-- a place with these ways, in a section with `count` places: its exit is a place, too; FIND closes
+-- few loops; a CALL is one of a routine
 abbrev pub LeadsOn : List SectionTable → ℕ → Ways → Place → Type 0
 LeadsOn sections count ways (Branch (If q)) = ways.exit < count
 LeadsOn sections count ways (Looping (For f)) = ways.exit < count
@@ -340,11 +340,11 @@ LeadsOn sections count ways (Looping Find) = ways.chain ≤ MOST_PHRASES
 LeadsOn sections count ways (Call c) = IsCalledBy c (slice_get sections c.section)
 LeadsOn sections count ways other = Unit {0}
 
--- what holds of the place with these ways
+-- the properties of the place with these ways
 pub record IsLinkedPlace (sections : List SectionTable) (count : ℕ) (ways : Ways) (place : Place) : Type 0 where
   -- it goes on to a place
   pub next : GoesOn count (is_end place) ways.next
-  -- and so where it goes on elsewhere
+  -- its exit leads to a place, too; its chain and its call are sound
   pub leads : LeadsOn sections count ways place
 
 -- the places of a section from number i on
@@ -377,7 +377,7 @@ IsTimed program section (Timing (Cancel c is_called e)) = IsEventClass program c
 IsTimed program section (Timing Start) = is_main section ≡ true
 IsTimed program section other = Unit {0}
 
--- the same of the places of a section
+-- the places of a section are timed soundly
 abbrev pub AreTimed : ProgramTable → SectionTable → List Spot → Type 0
 AreTimed program section [] = Unit {0}
 AreTimed program section (x ∷ xs) = IsTimed program section x.place × AreTimed program section xs
@@ -386,7 +386,7 @@ AreTimed program section (x ∷ xs) = IsTimed program section x.place × AreTime
 abbrev pub AreDistinct : List (List ℕ) → Type 0
 AreDistinct names = IsDistinct bytes_eq names
 
--- what the places of a section may name
+-- the tables that the places of a section may name rows of
 abbrev pub scope_of : ProgramTable → SectionTable → Scope
 scope_of program section = record {
   globals = length program.globals;
@@ -401,20 +401,20 @@ pub record IsSoundSection (program : ProgramTable) (section : SectionTable) : Ty
   pub distinct : AreDistinct section.locals
   -- the parameters are locals
   pub parameters : section.given + section.yielded ≤ length section.locals
-  -- of which there are not too many
+  -- there are not too many parameters
   pub few_parameters : section.given + section.yielded ≤ MOST_PARAMETERS
-  -- its places name what there is
+  -- its places name only rows that exist
   pub places : AreSoundPlaces (scope_of program section) section.places
   -- END is the last place, and no other one
   pub ended : IsEnded section.places
-  -- each place leads to places where as many loops may be open
+  -- each place leads to places that may have as many open loops
   pub nested : AreNestedPlaces section.places 0 section.places
   -- notices are of event classes, and events start in MAIN
   pub timed : AreTimed program section section.places
   -- its places can be counted
   pub few : length section.places < 2 ^ 63
 
--- the same of each section of a list
+-- each section of a list is sound
 abbrev pub AreSoundSections : ProgramTable → List SectionTable → Type 0
 AreSoundSections program [] = Unit {0}
 AreSoundSections program (s ∷ ss) = IsSoundSection program s × AreSoundSections program ss

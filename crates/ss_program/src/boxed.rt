@@ -1,9 +1,10 @@
+//! Keeps a large or recursive part of a place in a block of its own, so that places stay small.
 ghost use Rattle.std.specs.Prelude.{◌≡◌, IfOk};
 
 use std::alloc::{AllocError, Global};
 use std::marker::Model;
 
-/// A value in a block of its own, so that what holds it is small. Contracts see the value.
+/// A value in a block of its own, so that its holder is small. Contracts see the value.
 #[derive(Drop)]
 pub struct Boxed<T> {
     block: Box<T>,

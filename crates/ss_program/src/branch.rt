@@ -1,6 +1,7 @@
+//! The IF statement as places: its question, its ELSE and its ALWAYS.
 use crate::condition::Condition;
 
-/// What an IF asks.
+/// The question of an IF.
 #[derive(Drop)]
 pub enum Question {
     /// Whether a condition holds.

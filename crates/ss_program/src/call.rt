@@ -1,3 +1,4 @@
+//! The call of a routine as a place, and the targets of values that a routine or READ gives.
 use crate::expr::Values;
 use crate::target::Target;
 use crate::timing::Listing;
@@ -22,7 +23,7 @@ impl Model for Targets {
     ghost view = { λ a. a.list.items };
 }
 
-/// `CALL` of a section, by its number, with the values given to it, the targets of those that it
+/// A `CALL` of a section, by its number, with the values given to it, the targets of those that it
 /// yields, and how the values given to it are written.
 #[derive(Drop)]
 pub struct Call {

@@ -1,3 +1,4 @@
+//! The tree of a condition, with names resolved to numbers.
 use crate::expr::Expr;
 use crate::target::SetRef;
 use ss_words::{Comparison, Copula};

@@ -1,3 +1,4 @@
+//! An expression as places hold it: its tree, and operations that are faster if it is linear.
 ghost use Rattle.std.specs.Prelude.{◌≡◌, IfOk};
 ghost use Rattle.ss_program.specs.ProgramExpr.{expr_of};
 ghost use Rattle.ss_program.specs.Lowering.{code_of};
@@ -8,12 +9,12 @@ use crate::sum::Sum;
 use std::alloc::{AllocError, Global};
 use std::marker::Model;
 
-/// An expression of a place, with its operations where it is linear. Contracts see it as the tree of
-/// its text, with variables in place of names.
+/// An expression of a place. If it is linear, it has its operations, too. Contracts see it as the
+/// tree of its text, with variables in place of names.
 #[derive(Drop)]
 pub struct Expr {
     sum: Sum,
-    // No operations where the tree is to be read.
+    // No operations if the tree is to be read.
     code: Vec<Op>,
 }
 
@@ -52,8 +53,8 @@ impl Expr {
         &self.sum
     }
 
-    /// The operations that have the same value. There are none where the expression is not linear,
-    /// or is a number or a variable alone, which is read from the tree faster.
+    /// The operations that have the value of the expression. There are none if the expression is
+    /// not linear, or is a single number or variable: that is read from the tree faster.
     #[inline(always)]
     pub fn code(&self) -> &[Op]
         ensures { result.now ≡ code_of self.now }

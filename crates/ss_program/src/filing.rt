@@ -1,8 +1,9 @@
+//! The statements on sets as places: they file and remove members.
 use crate::expr::Expr;
 use crate::target::{SetRef, Target};
 use ss_words::SetEnd;
 
-/// Where FILE puts a member.
+/// The position at which FILE puts a member.
 #[derive(Drop)]
 pub enum Position {
     /// By the set's discipline.
@@ -10,11 +11,11 @@ pub enum Position {
     AtEnd(SetEnd),
     /// Directly before the member that a value names.
     Before(Expr),
-    /// Directly behind it.
+    /// Directly after the member that a value names.
     After(Expr),
 }
 
-/// What files members and removes them.
+/// A statement that files or removes a member.
 #[derive(Drop)]
 pub enum Filing {
     /// `FILE member [FIRST | LAST | BEFORE other | AFTER other] IN set`.

@@ -1,3 +1,4 @@
+//! The search for a name in a program, and the meanings that it can have.
 ghost use Rattle.std.specs.Prelude.{◌≡◌, ◌<◌, ◌^◌, length, position, bytes_eq, slice_get, is_some, IfSome};
 ghost use Rattle.std.specs.Option.{ForSome};
 ghost use Rattle.ss_program.specs.Program.{locals_of};
@@ -9,8 +10,8 @@ use crate::program::Program;
 use crate::section::Section;
 use crate::tables::{Class, Set};
 
-/// What a name is: its number in the table of the global variables, of the classes and of the sets.
-/// The name of a class has the first two.
+/// The meaning of a name: its number in the table of the global variables, of the classes and of
+/// the sets. The name of a class has the first two.
 #[derive(Clone, Copy, Debug, PartialEq, Eq)]
 pub struct Named {
     pub variable: Option<u32>,
@@ -27,8 +28,8 @@ impl Named {
 }
 
 impl Program {
-    /// What this name, in upper case, is. `None` where it is no global variable, no class and no
-    /// set; so for TIME.V.
+    /// The meaning of this name, in upper case. `None` if it is no global variable, no class and
+    /// no set; so for TIME.V.
     pub fn find(&self, name: &[u8]) -> Option<Named>
         ensures { result ≡ meaning_of self.now name.now }
     {
@@ -53,7 +54,7 @@ impl Program {
         }
     }
 
-    /// The number of the section of this name, in upper case. `None` where no section has it.
+    /// The number of the section of this name, in upper case. `None` if no section has it.
     pub fn find_section(&self, name: &[u8]) -> Option<usize>
         ensures section { result ≡ position (λ s. bytes_eq name.now s.name) self.now.sections }
         ensures within { IfSome result (λ n. n < length self.now.sections) }
@@ -62,7 +63,7 @@ impl Program {
     }
 
     /// The place of this name, in upper case, in the table of the local variables of the section
-    /// with this number. `None` where it is none of them.
+    /// with this number. `None` if it is none of them.
     pub fn local(&self, section: usize, name: &[u8]) -> Option<usize>
         requires { section < length self.now.sections }
         ensures { result ≡ position (bytes_eq name.now)

@@ -1,3 +1,4 @@
+//! The keys by which members of a ranked set or simultaneous notices are ordered.
 use ss_words::Rank;
 use std::marker::Model;
 

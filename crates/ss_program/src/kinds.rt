@@ -1,7 +1,8 @@
+//! The kinds of the rows of a program's tables: of classes, of sets and of sections.
 use crate::keys::Keys;
 use std::marker::Model;
 
-/// What the entities of a class are.
+/// The kind of the entities of a class.
 #[derive(Drop)]
 pub enum ClassKind {
     /// Made once, all of them; `count` is the number of the global variable `N.c`.
@@ -10,8 +11,8 @@ pub enum ClassKind {
     Event(EventClass),
 }
 
-/// What an event class has besides: the number of its section, the keys that break its ties, and
-/// whether the data may name it.
+/// The further parts of an event class: the number of its section, the keys that break its ties,
+/// and whether the data may name it.
 #[derive(Drop)]
 pub struct EventClass {
     pub section: usize,
@@ -27,7 +28,7 @@ impl Model for EventClass {
     ghost view = { λ a. record { section = a.section; ties = a.ties; external = a.external } };
 }
 
-/// Where a set files a member when no place is named.
+/// The position at which a set files a member if no position is named.
 #[derive(Drop)]
 pub enum Discipline {
     Fifo,
@@ -35,14 +36,15 @@ pub enum Discipline {
     Ranked(Keys),
 }
 
-/// Whose a set's lists are: one of the system, or one of each entity of a class, by its number.
+/// The owner of a set's lists: the system has one, or each entity of a class, given by its number,
+/// has one.
 #[derive(Clone, Copy, PartialEq, Eq)]
 pub enum Owner {
     System,
     OwnedBy(usize),
 }
 
-/// What a section is.
+/// The kind of a section.
 #[derive(Clone, Copy, PartialEq, Eq)]
 pub enum SectionKind {
     Main,

@@ -6,7 +6,7 @@ pub fn names_are_found()
     ensures { NamesAreFound }
 {}
 
-/// A linear expression has operations; a number or a variable alone has none.
+/// A linear expression has operations; a single number or variable has none.
 pub fn linear_expressions_are_lowered()
     ensures { LinearIsLowered }
 {}

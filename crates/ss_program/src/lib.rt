@@ -1,5 +1,5 @@
-//! The checked program: tables of distinct names, and sections as lists of places in which each name
-//! is its number in a table, with where each place goes on. `Program` keeps what makes it sound.
+//! The checked program: tables of distinct names, and sections as lists of places. In a place each
+//! name is its number in a table. Each place has its ways on. `Program` keeps its soundness.
 #![tactic(auto)]
 
 mod boxed;

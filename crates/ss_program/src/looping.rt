@@ -1,3 +1,4 @@
+//! Loops as places: FOR phrases with LOOP, FIND and COMPUTE.
 use crate::boxed::Boxed;
 use crate::condition::Condition;
 use crate::expr::Expr;
@@ -32,7 +33,7 @@ impl Model for Qualifiers {
     ghost view = { λ a. a.list.items };
 }
 
-/// What a FOR phrase goes through.
+/// The range of a FOR phrase.
 #[derive(Drop)]
 pub enum Phrase {
     /// `variable = first TO last [BY step]`, or `variable BACK FROM first TO last [BY step]`.
@@ -60,18 +61,18 @@ pub enum Phrase {
     },
 }
 
-/// Where a walk through a list begins.
+/// The begin of a walk through a list.
 #[derive(Drop)]
 pub enum Begin {
     /// At the first member, or at the last in reverse order.
     AtTheEnd,
     /// At the member that a value names.
     From(Expr),
-    /// At the one behind it in the walk's direction.
+    /// At the one after it in the walk's direction.
     After(Expr),
 }
 
-/// A FOR phrase with its qualifiers, and whether DO stands behind it.
+/// A FOR phrase with its qualifiers, and whether DO follows it.
 #[derive(Drop)]
 pub struct ForPhrase {
     pub phrase: Phrase,
@@ -79,7 +80,7 @@ pub struct ForPhrase {
     pub has_do: bool,
 }
 
-/// A target of COMPUTE, and what is assigned to it.
+/// A target of COMPUTE, and the statistic that is assigned to it.
 #[derive(Drop)]
 pub struct Telling {
     pub target: Target,

@@ -1,3 +1,4 @@
+//! The translation of a linear expression into operations on one accumulator.
 ghost use Rattle.std.specs.Prelude.{◌≡◌, [], option_map, IfOk};
 ghost use Rattle.ss_program.specs.ProgramExpr.{expr_of, term_of, factor_of, subscript_of};
 ghost use Rattle.ss_program.specs.Lowering as spec;
@@ -8,14 +9,14 @@ use crate::variable::Variable;
 use ss_words::TermSign;
 use std::alloc::AllocError;
 
-/// A number as a constant, where it is in range.
+/// A number as a constant, if it is in range.
 fn constant(n: u64) -> Option<i64>
     ensures { result ≡ spec.constant_of n }
 {
     i64::try_from(n).ok()
 }
 
-/// The factor that a term is, where it is one alone.
+/// The factor of a term, if the term is one factor only.
 fn lone_factor(t: &Term) -> Option<&Factor>
     ensures { option_map (λ f. factor_of f.now) result ≡ spec.lone_factor (term_of t.now) }
 {
@@ -25,7 +26,7 @@ fn lone_factor(t: &Term) -> Option<&Factor>
     }
 }
 
-/// The factor that a sum is, where it is one alone.
+/// The factor of a sum, if the sum is one factor only.
 fn factor_alone(e: &Sum) -> Option<&Factor>
     ensures { option_map (λ f. factor_of f.now) result ≡ spec.factor_alone (expr_of e.now) }
 {
@@ -76,28 +77,28 @@ fn variable_factor(f: &Factor) -> Option<Variable>
     }
 }
 
-/// The constant that a sum is, if it is one alone.
+/// The constant of a sum, if the sum is one constant only.
 fn constant_in(e: &Sum) -> Option<i64>
     ensures { result ≡ spec.constant_in (expr_of e.now) }
 {
     constant_factor(factor_alone(e)?)
 }
 
-/// The variable that a sum is, if it is one alone.
+/// The variable of a sum, if the sum is one variable only.
 fn variable_in(e: &Sum) -> Option<Variable>
     ensures { result ≡ spec.variable_in (expr_of e.now) }
 {
     variable_factor(factor_alone(e)?)
 }
 
-/// Whether a sum is a number or a variable alone.
+/// Whether a sum is a single number or variable.
 pub(crate) fn is_plain(e: &Sum) -> bool
     ensures { result ≡ spec.is_plain (expr_of e.now) }
 {
     constant_in(e).is_some() || variable_in(e).is_some()
 }
 
-/// The variable that a subscript is, if it is one alone.
+/// The variable of a subscript, if the subscript is one variable only.
 fn subscript_variable(subscript: &Subscript) -> Option<Variable>
     ensures { result ≡ spec.subscript_variable (subscript_of subscript.now) }
 {
@@ -139,7 +140,7 @@ fn variable_op(sign: TermSign, x: Variable) -> Option<Op>
     }
 }
 
-/// What a constant times a variable does as a further term.
+/// The operation of a constant times a variable as a further term.
 fn scaled_op(sign: TermSign, c: i64, x: Variable) -> Option<Op>
     ensures { result ≡ spec.scaled_op sign c x }
 {
@@ -152,7 +153,7 @@ fn scaled_op(sign: TermSign, c: i64, x: Variable) -> Option<Op>
     }
 }
 
-/// What an attribute of the entity that a variable names does as a further term.
+/// The operation of a further term that is an attribute of the entity that a variable names.
 fn attribute_op(sign: TermSign, class: usize, attribute: usize, x: Variable) -> Option<Op>
     ensures { result ≡ spec.attribute_op sign class attribute x }
 {
@@ -169,7 +170,7 @@ fn attribute_op(sign: TermSign, class: usize, attribute: usize, x: Variable) -> 
     }
 }
 
-/// What a factor alone does as a further term.
+/// The operation of one factor only as a further term.
 fn lone_term_op(sign: TermSign, f: &Factor) -> Option<Op>
     ensures { result ≡ spec.lone_term_op sign (factor_of f.now) }
 {
@@ -191,7 +192,7 @@ fn lone_term_op(sign: TermSign, f: &Factor) -> Option<Op>
     }
 }
 
-/// What two factors do as a further term, where they are a constant and a variable.
+/// The operation of two factors as a further term, if they are a constant and a variable.
 fn pair_term_op(sign: TermSign, f: &Factor, g: &Factor) -> Option<Op>
     ensures { result ≡ spec.pair_term_op sign (factor_of f.now) (factor_of g.now) }
 {
@@ -199,7 +200,7 @@ fn pair_term_op(sign: TermSign, f: &Factor, g: &Factor) -> Option<Op>
     scaled_op(sign, c, variable_factor(g)?)
 }
 
-/// What a further term does, where that is one operation.
+/// The operation of a further term, if one operation is enough.
 fn term_op(sign: TermSign, t: &Term) -> Option<Op>
     ensures { result ≡ spec.term_op sign (term_of t.now) }
 {
@@ -222,7 +223,7 @@ fn product_op(x: Variable) -> Option<Op>
     }
 }
 
-/// What a further factor does, where that is one operation.
+/// The operation of a further factor, if one operation is enough.
 fn factor_op(f: &Factor) -> Option<Op>
     ensures { result ≡ spec.factor_op (factor_of f.now) }
 {
@@ -241,7 +242,8 @@ fn factor_op(f: &Factor) -> Option<Op>
     }
 }
 
-/// Puts the operations of a sum, and whether it is linear. If not, what was put means nothing.
+/// Puts the operations of a sum, and says whether it is linear. If not, the put operations mean
+/// nothing.
 #[cycle(lower)]
 pub(crate) fn lower_sum(code: &mut Vec<Op>, e: &Sum) -> Result<bool, AllocError>
     requires { code.old.items ≡ [] }

@@ -1,8 +1,9 @@
+//! The statements that create and destroy entities, as places.
 use crate::expr::Expr;
 use crate::target::Target;
 
-/// What makes and ends entities. `is_called` says whether CALLED is written; without it the target
-/// or the value is the global variable of the class's name.
+/// A statement that makes or ends entities. `is_called` says whether CALLED is written; without it
+/// the target or the value is the global variable of the class's name.
 #[derive(Drop)]
 pub enum Making {
     /// `CREATE class [CALLED target]`.

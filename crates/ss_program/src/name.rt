@@ -1,3 +1,4 @@
+//! The bytes of one name, as every table of a program holds them.
 use std::marker::Model;
 
 /// A name, in upper case. Contracts see its bytes.

@@ -1,3 +1,4 @@
+//! Counts names while a program is checked; a map finds each count fast.
 ghost use Rattle.std.specs.Prelude.{◌≡◌, [], ◌∷◌, ◌++◌, bytes_eq, count_by, OnErr, OnOk};
 
 use crate::name::Name;
@@ -5,7 +6,7 @@ use std::alloc::{AllocError, Global};
 use std::collections::BTreeMap;
 use std::marker::Model;
 
-/// Names in the order in which they were put in, with how often each was. A name is counted in time
+/// Names in the order in which they were put in, with the count of each. A name is counted in time
 /// that grows with the logarithm of their number.
 #[derive(Drop)]
 pub struct NameCounts {
@@ -47,7 +48,7 @@ impl NameCounts {
         }
     }
 
-    /// Puts a name at the end. Where memory is refused the names are as before.
+    /// Puts a name at the end. If memory is refused, the names are as before.
     pub fn add(&mut self, name: &[u8]) -> Result<(), AllocError>
         ensures ok { OnOk result (self.new ≡ self.old ++ name.now ∷ []) }
         ensures err { OnErr result (self.new ≡ self.old) }
@@ -58,7 +59,7 @@ impl NameCounts {
         self.put(Name { bytes }, key, count)
     }
 
-    /// Puts a name at the end that was put in so many times; the key is this name.
+    /// Puts a name at the end that was put in `count` times before; the key is this name.
     fn put(&mut self, name: Name, key: Vec<u8>, count: usize) -> Result<(), AllocError>
         requires same { key.items ≡ name }
         requires count { count ≡ count_by (bytes_eq name) self.now }

@@ -1,3 +1,4 @@
+//! Gives each distinct name its number while a program is checked; a map finds the number fast.
 ghost use Rattle.std.specs.Prelude.{◌≡◌, ◌<◌, [], bytes_eq, length, position, IfOk, IfSome, OnErr, OnOk};
 ghost use Rattle.ss_program.specs.NameIndex.{with_name};
 
@@ -53,7 +54,7 @@ impl NameTable {
         self.places.get(name).copied()
     }
 
-    /// Puts a name at the end, unless it is in the table. Where memory is refused the table is as
+    /// Puts a name at the end, unless it is in the table. If memory is refused, the table is as
     /// before.
     pub fn add(&mut self, name: &[u8]) -> Result<(), AllocError>
         ensures ok { OnOk result (self.new ≡ with_name self.old name.now) }

@@ -1,3 +1,4 @@
+//! The names that the language itself declares.
 ghost use Rattle.std.specs.Prelude.{◌≡◌};
 ghost use Rattle.ss_program.specs.Names as names;
 

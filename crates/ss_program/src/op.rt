@@ -1,5 +1,6 @@
-/// What is done with the accumulator. Operands are resolved: constants are in range, and variables
-/// are numbers of tables.
+//! The operations that a linear expression is lowered to.
+/// An operation on the accumulator. Operands are resolved: constants are in range, and variables
+/// are numbers in tables.
 #[derive(Clone, Copy)]
 pub enum Op {
     LoadConstant(i64),

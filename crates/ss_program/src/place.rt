@@ -1,3 +1,4 @@
+//! The places that a section is a list of; each is one step of a run.
 use crate::boxed::Boxed;
 use crate::branch::Branch;
 use crate::call::{Call, Targets};
@@ -9,8 +10,8 @@ use crate::target::Target;
 use crate::timing::Timing;
 use ss_report::Picture;
 
-/// A place of a section: what one step runs. An assignment stands in it; what is rarer and large has
-/// a block of its own.
+/// A place of a section: the part that one step runs. An assignment is inside it; rarer and large
+/// parts have a block of their own.
 #[derive(Drop)]
 pub enum Place {
     Assign(Assign),
@@ -29,7 +30,7 @@ pub enum Place {
 /// An assignment.
 #[derive(Drop)]
 pub enum Assign {
-    /// `[LET] target = value`; `written` says whether the word LET stands in the text.
+    /// `[LET] target = value`; `written` says whether the word LET is in the text.
     Let {
         written: bool,
         target: Target,
@@ -47,7 +48,7 @@ pub enum Assign {
     },
 }
 
-/// What appends to the report.
+/// A statement that appends to the report.
 #[derive(Drop)]
 pub enum Output {
     /// `PRINT count LINES WITH values THUS picture`.
@@ -60,7 +61,7 @@ pub enum Output {
     Skip(Expr),
 }
 
-/// What ends a section or the run.
+/// A statement that ends a section or the run.
 #[derive(Clone, Copy, PartialEq, Eq)]
 pub enum Control {
     Stop,

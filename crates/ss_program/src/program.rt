@@ -1,3 +1,4 @@
+//! The whole checked program with its invariant, and the rows of its tables.
 ghost use Rattle.std.specs.Prelude.{◌≡◌, ◌<◌, length, position, slice_get, Some};
 ghost use Rattle.ss_program.specs.Program.{ProgramTable, event_of, is_main, main_number, places_of, spot_at};
 ghost use Rattle.ss_program.specs.ProgramSound.{IsSound};
@@ -12,7 +13,7 @@ use crate::ways::Ways;
 use std::marker::Model;
 
 /// A checked program. The names of its global variables, classes and sets, those of a class's
-/// attributes and those of a section's locals stand in order of declaration, each once in its
+/// attributes and those of a section's locals are in order of declaration, each once in its
 /// table.
 #[derive(Drop)]
 pub struct Program {
@@ -89,11 +90,11 @@ impl Program {
         drop(self);
     }
 
-    /// Tells its caller that the program is sound.
+    /// Lets its caller know that the program is sound.
     pub fn known(&self)
         ensures { IsSound self.now }
     {
-        // The invariant is known where a field is read.
+        // Reading a field makes the invariant known.
         let _ = &self.sections;
     }
 
@@ -103,7 +104,7 @@ impl Program {
         ensures main { result ≡ main_number self.now }
         ensures there { result < length self.now.sections }
     {
-        // The invariant is known where a field is read: there is one MAIN.
+        // Reading a field makes the invariant known: there is one MAIN.
         let _ = &self.sections;
         match self.find_main() {
             Some(number) => number,
@@ -145,7 +146,7 @@ impl Program {
         &self.sections[section].places[place]
     }
 
-    /// Where the place with this number of the section with this number goes on.
+    /// The ways on from the place with this number of the section with this number.
     pub fn ways(&self, section: usize, place: usize) -> Ways
         requires section { section < length self.now.sections }
         requires place { place < length (places_of (slice_get self.now.sections section)) }

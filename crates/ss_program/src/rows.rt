@@ -1,4 +1,4 @@
-//! What the rows of a program's tables say, by their numbers.
+//! The values in the rows of a program's tables, read by number without a failure.
 ghost use Rattle.std.specs.Prelude.{◌≡◌, [], option_map, slice_index_or};
 ghost use Rattle.ss_program.specs.Program.{class_of, section_of, set_of, spot_at};
 
@@ -7,7 +7,7 @@ use crate::name::Name;
 use crate::place::Spot;
 use crate::program::Program;
 
-/// The name with this number in a table, an empty one where there is none.
+/// The name with this number in a table, an empty one if there is none.
 pub fn name_at(names: &[Name], number: usize) -> &[u8]
     ensures { result.now ≡ slice_index_or names.now number [] }
 {
@@ -18,7 +18,7 @@ pub fn name_at(names: &[Name], number: usize) -> &[u8]
 }
 
 impl Program {
-    /// The name of the class with this number, an empty one where there is none.
+    /// The name of the class with this number, an empty one if there is none.
     pub fn class_name(&self, class: usize) -> &[u8]
         ensures { result.now ≡ (class_of self.now class).name }
     {
@@ -28,7 +28,7 @@ impl Program {
         }
     }
 
-    /// The number of the variable of the class with this number, 0 where there is none.
+    /// The number of the variable of the class with this number, 0 if there is none.
     pub fn class_variable(&self, class: usize) -> usize
         ensures { result ≡ (class_of self.now class).variable }
     {
@@ -48,7 +48,7 @@ impl Program {
         }
     }
 
-    /// The name of the set with this number, an empty one where there is none.
+    /// The name of the set with this number, an empty one if there is none.
     pub fn set_name(&self, set: usize) -> &[u8]
         ensures { result.now ≡ (set_of self.now set).name }
     {
@@ -58,7 +58,7 @@ impl Program {
         }
     }
 
-    /// Whose the lists of the set with this number are, the system's where there is none.
+    /// The owner of the lists of the set with this number, the system if there is none.
     pub fn set_owner(&self, set: usize) -> Owner
         ensures { result ≡ (set_of self.now set).owner }
     {
@@ -68,7 +68,7 @@ impl Program {
         }
     }
 
-    /// The class of the members of the set with this number, 0 where there is none.
+    /// The class of the members of the set with this number, 0 if there is none.
     pub fn member_class(&self, set: usize) -> usize
         ensures { result ≡ (set_of self.now set).member }
     {
@@ -78,7 +78,7 @@ impl Program {
         }
     }
 
-    /// The name of the section with this number, an empty one where there is none.
+    /// The name of the section with this number, an empty one if there is none.
     pub fn section_name(&self, section: usize) -> &[u8]
         ensures { result.now ≡ (section_of self.now section).name }
     {

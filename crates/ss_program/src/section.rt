@@ -1,3 +1,4 @@
+//! A section of a program, with its places and the ways on from each.
 ghost use Rattle.std.specs.Prelude.{◌≡◌, ◌<◌, ◌^◌, length, slice_get, Some, IfOk};
 ghost use Rattle.ss_program.specs.Match.{section_ways};
 
@@ -74,7 +75,7 @@ impl Model for Section {
     ghost invariant = { λ a. a.ways.items ≡ section_ways a.places.items };
 }
 
-/// What a section is made of, apart from its locals, its places and its local DEFINEs.
+/// The parts of a section other than its locals, its places and its local DEFINEs.
 #[derive(Drop)]
 pub struct Head {
     pub name: Name,
@@ -87,7 +88,7 @@ pub struct Head {
 }
 
 impl Section {
-    /// A section of these places, with where each goes on, and of these local DEFINEs.
+    /// A section of these places, with the ways on from each, and of these local DEFINEs.
     pub fn new(
         alloc: Global,
         head: Head,
@@ -125,7 +126,7 @@ impl Section {
         })
     }
 
-    /// Where the place with this number goes on.
+    /// The ways on from the place with this number.
     #[tactic(auto, using(crate::proofs::WaysLength::ways_length))]
     pub fn ways(&self, place: usize) -> Ways
         requires { place < length self.now.places }

@@ -1,3 +1,4 @@
+//! The tree of an expression, with names resolved to numbers.
 use crate::variable::Variable;
 use ss_words::{MemberKept, OwnerKept, TermSign};
 
@@ -73,7 +74,7 @@ pub struct Subscripted {
 #[derive(Drop)]
 #[cycle(sum)]
 pub enum Subscript {
-    /// No subscript is written: the global variable of a class's name stands for it.
+    /// No subscript is written: the global variable of a class's name is the subscript.
     Implied(usize),
     /// The system, which owns a list and has no subscript.
     System,

@@ -1,3 +1,4 @@
+//! The rows of the tables of classes and of sets.
 use crate::kinds::{ClassKind, Discipline, Owner};
 use crate::name::Name;
 use std::marker::Model;
@@ -41,7 +42,7 @@ impl Class {
     }
 }
 
-/// A set: its discipline, whose its lists are, and the number of its members' class.
+/// A set: its discipline, the owner of its lists, and the number of its members' class.
 #[derive(Drop)]
 pub struct Set {
     pub name: Name,

@@ -1,3 +1,4 @@
+//! The targets of assignments, and the lists of sets that a statement means.
 use crate::sum::Subscript;
 use crate::variable::Variable;
 use std::marker::Model;
@@ -19,7 +20,7 @@ impl Model for Index {
     ghost view = { λ a. subscript_of a.subscript.value };
 }
 
-/// Where a value is assigned.
+/// The target that a value is assigned to.
 #[derive(Drop)]
 pub enum Target {
     Variable(Variable),

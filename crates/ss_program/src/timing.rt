@@ -1,7 +1,8 @@
+//! The agenda's statements as places: they schedule and cancel notices, and start the simulation.
 use crate::expr::{Expr, Values};
 use crate::target::Target;
 
-/// What schedules event notices, takes them off, and starts events.
+/// A statement that schedules an event notice, takes one off, or starts events.
 #[derive(Drop)]
 pub enum Timing {
     Schedule(Schedule),
@@ -16,7 +17,7 @@ pub enum Timing {
     Start,
 }
 
-/// `SCHEDULE` of a notice of a class, with the values of its first attributes, at a time.
+/// A `SCHEDULE` of a notice of a class, with the values of its first attributes, at a time.
 #[derive(Drop)]
 pub struct Schedule {
     pub class: usize,
@@ -36,8 +37,8 @@ pub enum Notice {
     Known { is_called: bool, notice: Expr },
 }
 
-/// How arguments or parameters are written: in parentheses, or behind GIVEN. Of SCHEDULE parentheses
-/// stand before CALLED, and GIVEN behind it. Without arguments or parameters it is `Given`.
+/// How arguments or parameters are written: in parentheses, or after GIVEN. In SCHEDULE parentheses
+/// come before CALLED, and GIVEN after it. Without arguments or parameters it is `Given`.
 #[derive(Clone, Copy, PartialEq, Eq)]
 pub enum Listing {
     InParentheses,

@@ -1,4 +1,6 @@
-/// What a name in an expression or a target stands for (docs/LANGUAGE.md, "Names and values").
+//! The variables that a resolved name can be.
+/// The variable that a name in an expression or a target means (docs/LANGUAGE.md, "Names and
+/// values").
 #[derive(Clone, Copy, PartialEq, Eq)]
 pub enum Variable {
     /// A global variable, by its number in the program's table.

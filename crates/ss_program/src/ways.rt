@@ -1,3 +1,4 @@
+//! The ways on from each place; the places that belong together are found once, before a run.
 ghost use Rattle.std.specs.Prelude.{◌≡◌, ◌+◌, ◌^◌, ◌<◌, ◌≤◌, length, drop, reverse, IfOk};
 ghost use Rattle.ss_program.specs.Match as places;
 ghost use Rattle.ss_program.specs.Pairings.{is_wanted, goes_deeper, comes_back};
@@ -7,7 +8,7 @@ use crate::looping::Looping;
 use crate::place::{Place, Spot};
 use std::alloc::{AllocError, Global};
 
-/// What the entry of a FOR phrase sets back.
+/// The answer or statistics that the entry of a FOR phrase resets.
 #[derive(Clone, Copy, PartialEq, Eq)]
 pub enum Resets {
     Nothing,
@@ -17,29 +18,29 @@ pub enum Resets {
     Statistics,
 }
 
-/// Where a place goes on (docs/LANGUAGE.md, "Steps"), by the numbers of places of its section.
+/// The ways on from a place (docs/LANGUAGE.md, "Steps"), by the numbers of places of its section.
 #[derive(Clone, Copy, PartialEq, Eq)]
 pub struct Ways {
-    /// Where it goes on when it is done. END has none that counts.
+    /// The next place when it is done. For END the number has no meaning.
     pub next: usize,
-    /// Where a false IF and a closed loop go on; 0 for other places.
+    /// The place after a false IF or a closed loop; 0 for other places.
     pub exit: usize,
     /// How many loops FIND closes; 0 for other places.
     pub chain: usize,
-    /// What the entry of a FOR phrase sets back.
+    /// The answer or statistics that the entry of a FOR phrase resets.
     pub resets: Resets,
 }
 
-/// What belongs to a place, and in which direction it stands.
+/// The partner of a place, and the direction in which it is.
 #[derive(Clone, Copy)]
 pub(crate) enum Pairing {
-    /// The ELSE or ALWAYS behind an IF or ELSE.
+    /// The ELSE or ALWAYS after an IF or ELSE.
     BranchEnd,
-    /// The ALWAYS behind an IF.
+    /// The ALWAYS after an IF.
     EndOfIf,
     /// The IF before an ALWAYS.
     StartOfIf,
-    /// The LOOP behind a phrase with DO.
+    /// The LOOP after a phrase with DO.
     EndOfDo,
     /// The phrase before a LOOP.
     StartOfDo,
@@ -137,7 +138,7 @@ fn controls_next_place(place: &Place) -> bool
     }
 }
 
-/// How many of these places stand before the first one that is wanted.
+/// The number of these places before the first one that is wanted.
 fn distance_onward(pairing: Pairing, spots: &[Spot]) -> usize
     requires few { length spots.now < 2 ^ 63 }
     ensures distance { result
@@ -157,7 +158,7 @@ fn distance_onward(pairing: Pairing, spots: &[Spot]) -> usize
     count
 }
 
-/// How many of these places stand behind the last one that is wanted.
+/// The number of these places after the last one that is wanted.
 #[tactic(auto, using(crate::proofs::Backward::last_first))]
 fn distance_backward(pairing: Pairing, spots: &[Spot]) -> usize
     requires few { length spots.now < 2 ^ 63 }
@@ -235,7 +236,7 @@ fn earlier(pairing: Pairing, spots: &[Spot], i: usize) -> usize
     i.saturating_sub(1).saturating_sub(distance)
 }
 
-/// Whether a phrase without DO stands directly before place i.
+/// Whether the place directly before place i is a phrase without DO.
 fn is_controlled(spots: &[Spot], i: usize) -> bool
     ensures { result ≡ places.is_before spots.now places.controls_next_place i }
 {
@@ -394,8 +395,8 @@ fn place_ways(spots: &[Spot], i: usize, place: &Place) -> Ways
     }
 }
 
-/// Where each place of a section goes on. A section within the language's limits is gone through a
-/// bounded number of times: as often as IFs and FOR phrases may be open at once.
+/// The ways on from each place of a section. A section within the language's limits is gone through
+/// a bounded number of times: as often as IFs and FOR phrases may be open at once.
 pub(crate) fn section_ways(alloc: Global, spots: &[Spot]) -> Result<Vec<Ways>, AllocError>
     requires few { length spots.now < 2 ^ 63 }
     ensures { IfOk result (λ v. v.items ≡ places.section_ways spots.now) }

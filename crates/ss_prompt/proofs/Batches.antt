@@ -17,19 +17,19 @@ use Rattle.ss_prompt.specs.Reading.{plain_command_of, prompt_command_of}
 use Rattle.ss_prompt.specs.Laws.{IsPlain, ArePlain, AnswersFirst, PlainLinesAnswerTheBatch, PlainLinesLeadAsTheBatch}
 use Rattle.ss_prompt.proofs.Plains.{plain_read, plain_lines}
 
--- behind a line that ends none counts
+-- after a line that ends the batch no line counts
 up_to : (ends : Bool) (t : Input) (d : DebuggerState) (lines : List (List ℕ)) (text : List ℕ) →
     AnswersFirst t d lines text → AnswersFirst t d (if ends then [] else lines) (if ends then [] else text)
 unfolding AnswersFirst
 up_to true t d lines text h = refl
 up_to false t d lines text h = h
 
--- what a line is answered that is the plain command c, and what those behind it are
+-- the answer to a line that is the plain command c, and the answers to the lines after it
 abbrev with_rest : PromptState → Command → List (List ℕ) → List ℕ
 with_rest s c lines =
     plain_said s c ++ (if is_quit c then [] else answers prompt_meaning (plain_next s c) lines)
 
--- the answers to a line and to those behind it
+-- the answers to a line and to the lines after it
 answered_line : (s : PromptState) (line : List ℕ) (lines : List (List ℕ)) →
     prompt_command_of s.input.program line ≡ Plain (command_of line) → plain_command_of line ≡ command_of line →
     answers prompt_meaning s (line ∷ lines) ≡ with_rest s (command_of line) lines
@@ -54,7 +54,7 @@ plain_batch s (line ∷ lines) h =
           (answers prompt_meaning (plain_next s c) lines) (plain_batch (plain_next s c) lines h.1),
     )
 
--- the state behind a line
+-- the state after a line
 led_line : (s : PromptState) (line : List ℕ) →
     prompt_command_of s.input.program line ≡ Plain (command_of line) →
     prompt_state_after s (prompt_command_of s.input.program line) ≡ plain_next s (command_of line)

@@ -31,7 +31,7 @@ given model displays others k after h m l d = record {
   displays_are = sym d;
 }
 
--- what it stands for
+-- the state of the prompt for a lent debugger is that of the debugger and such a desk
 pub lent_is : (d : DebuggerView) (model : List ℕ) (displays : List Question) (k : PromptDeskView) →
     IsDeskOf model displays k → lent_state d model displays ≡ state_at d k
 lent_is d model displays k h = rw (h.model_is, h.lines_are, h.displays_are) refl

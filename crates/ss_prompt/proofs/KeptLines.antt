@@ -1,4 +1,5 @@
--- The lines of a text are the same at a console and in a batch, and what is kept of a line says what the line says.
+-- The lines of a text are the same at a console and in a batch, and the kept part of a line says
+-- the same as the line.
 use Rattle.std.proofs.Common.{◌≡◌, ℕ, ◌+◌, ◌<◌, ◌≤◌, Bool, true, false, not, ◌||◌, nat_lt}
 use Rattle.std.proofs.Common.{List, [], ◌∷◌, length, map, refl, ap, sym, ◌∙◌, arith}
 use Rattle.std.specs.Prelude.{nat_eq, ◌==◌, if◌then◌else◌}
@@ -40,7 +41,7 @@ words_at : (p : ℕ → Bool) (b : ℕ) (bs : List ℕ) (c : Bool) → p b ≡ c
 words_at p b bs true e h = rw e h
 words_at p b bs false e h = rw e (written_front b (slice_split p bs))
 
--- a line has words where some byte of it separates none
+-- a line has words if some byte of it is no separator
 pub words_there : (p : ℕ → Bool) (line : List ℕ) →
     has_some (filter is_written (slice_split p line)) ≡ list_any (λ x. not (p x)) line
 words_there p [] = refl
@@ -59,7 +60,7 @@ or_three false true c = refl
 or_three false false true = refl
 or_three false false false = refl
 
--- what separates words
+-- the bytes that separate words
 separates_is_stop : (b : ℕ) → separates (32 ∷ 9 ∷ 13 ∷ []) b ≡ is_stop b
 separates_is_stop b =
     rw (same_either_way 32 b, same_either_way 9 b, same_either_way 13 b)
@@ -130,9 +131,9 @@ unfolding lines without_empty_last command_lines
 lines_same [] = refl
 lines_same (b ∷ bs) = lines_at b bs (b == 10) refl (lines_same bs)
 
--- ---- what is kept of a line
+-- ---- the kept part of a line
 
--- what a line says that is too long, by whether it has a word
+-- the command in a line that is too long, by whether it has a word
 abbrev says : Bool → Command
 says some = if some then Bad else Blank
 
@@ -147,20 +148,20 @@ words_in line =
     words_there (separates word_separators) line
     ∙ any_same (λ b. not (separates word_separators b)) (λ b. not (is_stop b)) (λ b. ap not (separates_is_stop b)) line
 
--- what a line says in docs/DEBUGGER.md that is too long
+-- the command of docs/DEBUGGER.md in a line that is too long
 long_plain : (line : List ℕ) → nat_lt LONGEST_LINE (length line) ≡ true →
     plain_command_of line ≡ or_else (says (list_any (λ b. not (is_stop b)) line)) Bad
 unfolding plain_command_of first_whole_command_of command_of
 long_plain line e = rw (e, long_words (command_words line), words_in line) refl
 
--- what a line says that is too long
+-- the command in a line that is too long
 long_says : (program : ProgramTable) (line : List ℕ) → nat_lt LONGEST_LINE (length line) ≡ true →
     prompt_command_of program line
     ≡ or_own program (or_else (says (list_any (λ b. not (is_stop b)) line)) Bad) bad
 unfolding prompt_command_of own_command_of
 long_says program line e = rw (e, long_plain line e) refl
 
--- what is kept of a line says the same in docs/DEBUGGER.md
+-- the kept part of a line gives the same command of docs/DEBUGGER.md as the line
 plain_at : (line : List ℕ) (b : Bool) → nat_lt LONGEST_LINE (length line) ≡ b →
     plain_command_of (kept_part line) ≡ plain_command_of line
 plain_at line false e =

@@ -16,7 +16,7 @@ pub one_too_long : (word : List ℕ) → with_word None word ≡ None
 unfolding with_word
 one_too_long word = refl
 
--- one word made whole, and those behind it
+-- one word made whole, and the words after it
 pub one_whole : (program : ProgramTable) (at : Standing) (word : List ℕ) (more : List (List ℕ)) →
     all_whole program at (word ∷ more)
     ≡ made_whole program at word ∷ all_whole program (behind at (made_whole program at word)) more

@@ -1,4 +1,4 @@
--- What is told missing is what SHOW answers in every state.
+-- The text on a missing name is the answer of SHOW in every state.
 use Rattle.std.proofs.Common.{◌≡◌, ℕ, ℤ, ◌<◌, ◌==◌, Bool, true, false, ◌||◌, ◌&&◌, List, [], length, take, drop}
 use Rattle.std.proofs.Common.{Option, Some, None, Result, Ok, Err, refl, ap, arith, nat_lt, get_or}
 use Rattle.std.specs.Prelude.{codes, slice_get, position, if◌then◌else◌}

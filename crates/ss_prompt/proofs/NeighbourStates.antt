@@ -1,11 +1,11 @@
--- Where a debugger stands that has looked at a state beside its own.
+-- The state of a debugger that looked at a state next to its own.
 use Rattle.std.proofs.Common.{◌≡◌, ◌+◌, ◌≤◌, refl, arith}
 use Rattle.ss_machine.specs.Moment.{position}
 use Rattle.ss_debug.specs.Turn.{debugger_state_at}
 use Rattle.ss_debug.specs.View.{DebuggerView, debugger_state_of}
 use Rattle.ss_changes.specs.View.{IsBehind, IsAhead}
 
--- it stands in the same run, at most one step beside
+-- it is in the same run, at most one step away
 pub record StandsBeside (old new : DebuggerView) : Type 0 where
   pub input : new.machine.input ≡ old.machine.input
   pub state : debugger_state_of new ≡ debugger_state_at (debugger_state_of old) (position new.machine)

@@ -1,4 +1,4 @@
--- What commands leave as it is.
+-- The parts of the state that commands leave as they are.
 use Rattle.std.proofs.Common.{◌≡◌, ℕ, Bool, true, false, nat_le, Option, Some, None, refl}
 use Rattle.ss_debug.specs.Turn.{debugger_state_after}
 use Rattle.ss_debug.specs.declared.commands.Command.{Command}

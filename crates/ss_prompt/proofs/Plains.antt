@@ -41,7 +41,7 @@ kept (Forget n) other h = refl
 kept (Show q) other h = refl
 kept Quit other h = refl
 
--- a command of docs/DEBUGGER.md is read as it stands
+-- a command of docs/DEBUGGER.md is read as it is written
 pub plain_read : (line : List ℕ) → (command_of line ≡ Bad → ⊥) → plain_command_of line ≡ command_of line
 unfolding plain_command_of
 plain_read line h = kept (command_of line) (first_whole_command_of line) h
@@ -52,7 +52,7 @@ plain_lines program line h =
     ap (λ c. or_own program c (own_command_of program line)) (plain_read line h)
     ∙ stays program (command_of line) (own_command_of program line) h
 
--- ---- what is meant otherwise
+-- ---- commands that are meant otherwise
 
 differ : (n line : ℕ) → nat_eq n line ≡ false → Some n ≡ Some line → ⊥
 differ n line e h =

@@ -7,7 +7,7 @@ use Rattle.ss_debug.specs.Move.{line_at}
 use Rattle.ss_prompt.specs.Refusal.{refusal_at, refusal_with}
 use Rattle.ss_console.specs.Puts.{joined_texts}
 
--- lists behind a list, one after the other
+-- lists after a list, one after the other
 abbrev folded : List ℕ → List (List ℕ) → List ℕ
 folded first [] = first
 folded first (next ∷ more) = folded (first ++ next) more
@@ -24,7 +24,7 @@ folded_behind front first more =
     ap (λ v. front ++ v) (sym (joined_behind first more))
     ∙ sym (append_assoc front first (joined_texts more)) ∙ joined_behind (front ++ first) more
 
--- in state p, the word of whose status and the number behind it are these
+-- in state p, if the word of its status and the number after it are these
 pub told_with : (t : Input) (p : ℕ) (word number : List ℕ) → status_text (run t p).status ≡ word ++ number →
     refusal_at t p ≡ joined_texts (refusal_with t p word number)
 unfolding joined_texts refusal_at state_line moment_text place_text

@@ -35,7 +35,7 @@ on_line : (s : PromptState) (make : ℕ → Command) (line : Option ℕ) → IsS
 on_line s make None = same s
 on_line s make (Some line) = record { input = refl; model = refl; lines = refl }
 
--- behind a command
+-- after a command
 obeyed : (s : PromptState) (command : PromptCommand) → IsSameRun s (prompt_state_after s command)
 unfolding prompt_state_after
 obeyed s (prompt.Plain command) = record { input = refl; model = refl; lines = refl }
@@ -72,7 +72,7 @@ refused_plain s after (plain.Forget count) h = beside s after h.0
 refused_plain s after (plain.Show question) h = beside s after h.0
 refused_plain s after plain.Quit h = beside s after h.0
 
--- where memory was refused to a command
+-- if memory was refused for a command
 refused : (s after : PromptState) (command : PromptCommand) → IsRefused s command after → IsSameRun s after
 unfolding IsRefused IsTravelRefused HasLookedBeside HasLookedBack
 refused s after (prompt.Plain command) h = refused_plain s after command h
@@ -98,7 +98,7 @@ refused s after (prompt.Names name) h = unchanged s after h
 refused s after prompt.Warnings h = unchanged s after h
 refused s after (prompt.Help word) h = unchanged s after h
 
--- behind a command that was obeyed, or to which memory was refused
+-- after a command that was obeyed, or for which memory was refused
 pub stays : {T E : Type 0} (result : Result T E) (s after : PromptState) (command : PromptCommand) →
     OnOk result (after ≡ prompt_state_after s command) → OnErr result (IsRefused s command after) →
     IsSameRun s after

@@ -1,4 +1,4 @@
--- What the history tells, of a change that is found and of one that is not.
+-- The text of the history, on a change that is found and on one that is not.
 use Rattle.std.proofs.Common.{◌≡◌, ◌++◌, ℕ, List, Option, Some, None, refl, true, false}
 use Rattle.std.specs.Prelude.{codes, is_some}
 use Rattle.ss_state.specs.Run.{Input}
@@ -10,10 +10,10 @@ pub has_line : (t : Input) (o : Option ℕ) (line : Option ℕ) → line ≡ why
 has_line t None line e = rw e refl
 has_line t (Some q) line e = rw e refl
 
--- a line tells of a change
+-- a line reports a change
 pub ruleset found = (has_line)
 
--- where an entity ended
+-- the state in which an entity ended
 pub end_found : (t : Input) (words : List ℕ) (earliest : ℕ) (o : Option ℕ) → true ≡ is_some o →
     words ++ codes " ended in " ++ why_head t earliest o ≡ end_text t words earliest o
 end_found t words earliest None e = absurd (cc)

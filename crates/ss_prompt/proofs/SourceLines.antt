@@ -39,7 +39,7 @@ first_at b (c ∷ cs) false e =
     rw (ends b false e, before_at b (c ∷ cs) e, after_at b (c ∷ cs) e)
     (ap (onto_first b) (first_at c cs (separates line_separators c) refl))
 
--- the first line of a text, and those behind it
+-- the first line of a text, and the lines after it
 first_line : (text : List ℕ) → 0 < length text →
     command_lines text ≡ before_first (separates line_separators) text
     ∷ command_lines (after_first (separates line_separators) text)

@@ -1,4 +1,4 @@
--- Where a debugger stands to which memory was refused at a stop.
+-- The state of a debugger if memory was refused at a stop.
 use Rattle.std.proofs.Common.{◌≡◌, ◌⊎◌, inl, inr, refl, subst, ap}
 use Rattle.ss_debug.specs.AfterRefusal.{IsStateAfterRefusal}
 use Rattle.ss_debug.specs.declared.commands.Command.{Command}
@@ -14,7 +14,7 @@ use Rattle.ss_prompt.specs.PromptState.{PromptState, IsSameBeside}
 use Rattle.ss_prompt.specs.Stops.{HasLookedBeside, IsStopRefused}
 use Rattle.ss_prompt.specs.Travel.{travel_next, IsTravelRefused}
 
--- it stands where it stood
+-- it stays in its state
 pub at_place : (s after : PromptState) → after ≡ s → IsStopRefused s after
 unfolding IsStopRefused HasSearchedPast
 at_place s after e = inr (inl e)
@@ -24,7 +24,7 @@ pub by_past : (s after : PromptState) → HasSearchedPast s after → IsStopRefu
 unfolding IsStopRefused
 by_past s after h = inr h
 
--- a state beside was looked at, behind the search
+-- a state next to it was looked at, after the search
 pub by_changes : (s next after : PromptState) → next ≡ s → HasLookedBeside next after → IsStopRefused s after
 unfolding IsStopRefused
 by_changes s next after e h = inl (subst (λ (x : PromptState). HasLookedBeside x after) e h)
@@ -47,7 +47,7 @@ beside s after (inl h) = h.0
 beside s after (inr (inl e)) = same s after e
 beside s after (inr (inr h)) = h.1.0
 
--- behind a movement of docs/DEBUGGER.md
+-- after a movement of docs/DEBUGGER.md
 pub behind_plain : (s next after : PromptState) (m : PlainMovement) → next ≡ plain_next s (Move m)
     → IsStopRefused next after → IsPlainRefused s (Move m) after
 unfolding IsPlainRefused
@@ -55,7 +55,7 @@ behind_plain s next after m e h =
     let there : IsStopRefused (plain_next s (Move m)) after = subst (λ (x : PromptState). IsStopRefused x after) e h in
     (beside (plain_next s (Move m)) after there, inr there)
 
--- behind another one
+-- after another movement
 pub behind_travel : (s next after : PromptState) (m : Movement) → next ≡ travel_next s m → IsStopRefused next after
     → IsTravelRefused s m after
 unfolding IsTravelRefused
@@ -82,5 +82,5 @@ pub partly_travel : (s after : PromptState) (m : Movement) → IsSameBeside s af
 unfolding IsTravelRefused
 partly_travel s after m b h = (b, inl h)
 
--- behind movements
+-- after movements
 pub ruleset movements = (partly_plain, partly_travel, behind_plain, behind_travel)

@@ -2,7 +2,7 @@
 use Rattle.std.specs.Prelude.{⊤}
 use Rattle.ss_prompt.specs.Prompting.{prompt_answer, prompt_state_after, IsRefused}
 
--- a command's answer, and the states behind it
+-- a command's answer, and the states after it
 unfoldable pub commands : ⊤
 unfolding prompt_answer prompt_state_after IsRefused
 commands = tt

@@ -1,4 +1,4 @@
--- What is told of a line that is no command: the forms of its first word, or the nearest words.
+-- The answer to a line that is no command: the forms of its first word, or the nearest words.
 use Rattle.std.specs.Prelude.{ℕ, Bool, true, false, List, [], ◌∷◌, ◌++◌, take, codes, Option, Some, None, if◌then◌else◌}
 use Rattle.std.specs.List.{filter, list_all}
 use Rattle.std.specs.Char.{is_ascii_digit}
@@ -12,7 +12,7 @@ abbrev pub verb_of : List (List ℕ) → Option (List ℕ)
 verb_of [] = None
 verb_of (word ∷ more) = only_name_of (word ∷ [])
 
--- whether some word is digits alone
+-- whether some word is digits only
 abbrev pub has_number : List (List ℕ) → Bool
 has_number [] = false
 has_number (word ∷ words) = if list_all is_ascii_digit word then true else has_number words
@@ -21,17 +21,17 @@ has_number (word ∷ words) = if list_all is_ascii_digit word then true else has
 abbrev pub near_words : List ℕ → List (List ℕ)
 near_words word = filter (begins (take 2 word)) (command_words first_words)
 
--- words, each behind a blank
+-- words, each after a blank
 abbrev pub further_words : List (List ℕ) → List ℕ
 further_words [] = []
 further_words (word ∷ words) = 32 ∷ (word ++ further_words words)
 
--- the nearest words, or where the commands are told
+-- the nearest words, or that HELP lists the commands
 abbrev pub near_text : List (List ℕ) → List ℕ
-near_text [] = codes "HELP TELLS THE COMMANDS.\n"
+near_text [] = codes "HELP SHOWS THE COMMANDS.\n"
 near_text (word ∷ words) = codes "NEAREST: " ++ word ++ further_words words ++ 10 ∷ []
 
--- from where to where numbers go, if there is one
+-- the range of numbers, if there is a number
 abbrev pub range_text : Bool → List ℕ
 range_text false = []
 range_text true =
@@ -42,11 +42,11 @@ abbrev pub forms_or_near : List ℕ → Bool → List ℕ
 forms_or_near word numbered =
     if has_row word help_rows then rows_of word help_rows ++ range_text numbered else near_text (near_words word)
 
--- what is advised on a first word
+-- the advice on a first word
 abbrev pub advice : Option (List ℕ) → Bool → List ℕ
 advice None numbered = near_text []
 advice (Some word) numbered = forms_or_near word numbered
 
--- what is answered to a line that is no command, with this first word, with a number among its words or none
+-- the answer to a line that is no command, by its first word, and by whether a word is a number
 unfoldable pub unread_text : Option (List ℕ) → Bool → List ℕ
 unread_text word numbered = codes "BAD COMMAND\n" ++ advice word numbered

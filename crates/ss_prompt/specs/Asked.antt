@@ -27,12 +27,12 @@ abbrev pub count_in : Command → Option Question
 count_in (Show (Set name owner)) = Some (Count name owner)
 count_in _ = None
 
--- what two words or more ask as an attribute
+-- the question on an attribute that two words or more ask
 abbrev pub attribute_asked : List ℕ → List ℕ → List (List ℕ) → Option Question
 attribute_asked what word rest =
     attribute_in (command_behind (codes "SHOW") (what ∷ word ∷ [])) (only_name_of rest)
 
--- what they ask as a number of members
+-- the question on a number of members that two words or more ask
 abbrev pub count_asked : List ℕ → List (List ℕ) → Option Question
 count_asked what words =
     if bytes_eq what (codes "COUNT") then count_in (command_behind (codes "SHOW SET") words) else None
@@ -52,7 +52,7 @@ shown_or None other = other
 abbrev pub asked_of : List (List ℕ) → Option Question
 asked_of words = shown_or (question_of (command_behind (codes "SHOW") words)) (own_asked words)
 
--- what the only word asks, if it is a name: a set, or else a variable
+-- the question that the only word asks, if it is a name: a set, or else a variable
 abbrev pub bare_of : ProgramTable → Option (List ℕ) → Option Question
 bare_of program None = None
 bare_of program (Some name) = Some (bare_asked program name)
@@ -61,6 +61,6 @@ bare_of program (Some name) = Some (bare_asked program name)
 abbrev pub asked_or_bare : ProgramTable → List (List ℕ) → Option Question
 asked_or_bare program words = first_there (asked_of words) (bare_of program (only_name_of words))
 
--- the same as a program has its names, or which of them it hasn't
+-- that question as a program has its names, or which of them it hasn't
 abbrev pub asked_in : ProgramTable → List (List ℕ) → Option (Result Question Missing)
 asked_in program words = option_map (asked_of_program program) (asked_or_bare program words)

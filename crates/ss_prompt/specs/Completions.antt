@@ -1,4 +1,4 @@
--- The words that may stand in a line of the prompt, for who completes words.
+-- The words that may be in a line of the prompt, for programs that complete words.
 use Rattle.std.specs.Prelude.{ℕ, List, [], ◌∷◌, ◌++◌, codes}
 use Rattle.ss_program.specs.Program.{ProgramTable, ClassTable, SetTable, SectionTable}
 use Rattle.ss_debug.specs.CommandLines.{command_words}
@@ -9,7 +9,7 @@ abbrev pub word_lines : List (List ℕ) → List ℕ
 word_lines [] = []
 word_lines (word ∷ words) = word ++ 10 ∷ word_lines words
 
--- those behind other first words than SHOW
+-- the words after other first words than SHOW
 abbrev pub other_words : List ℕ
 other_words = codes "TO CHANGE EVENT END"
 

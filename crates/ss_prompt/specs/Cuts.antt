@@ -16,24 +16,24 @@ first_words =
     codes "STEP RUN NEXT BACK BREAK CLEAR FORGET SHOW QUIT OVER OUT GO LIST BREAKS DISPLAY UNDISPLAY HELP WHY HISTORY "
     ++ codes "NAMES WARNINGS"
 
--- those that may stand behind RUN
+-- the words that may come after RUN
 abbrev pub run_words : List ℕ
 run_words = codes "CHANGE"
 
--- those that may stand behind BACK
+-- the words that may come after BACK
 abbrev pub back_words : List ℕ
 back_words = codes "EVENT BREAK CHANGE OVER OUT"
 
--- those that a question may begin with
+-- the words that a question may begin with
 abbrev pub question_words : List ℕ
 question_words = codes "CLOCK WHERE VAR SET EVENTS TAKEN ENTRY REPORT COUNT"
 
--- those that may stand behind SHOW
+-- the words that may come after SHOW
 abbrev pub show_words : List ℕ
 show_words =
     codes "CLOCK WHERE VAR SET EVENTS TAKEN ENTRY REPORT COUNT IN CALLS LOCALS CLASSES SETS GLOBALS SECTIONS CHANGED"
 
--- the words that may stand somewhere
+-- the words that may come in a place of a line
 abbrev pub words_at : Standing → List ℕ
 words_at First = first_words
 words_at BehindRun = run_words
@@ -42,7 +42,7 @@ words_at BehindShow = show_words
 words_at Asked = question_words
 words_at Free = []
 
--- where the word behind a first word stands
+-- the place of the word after a first word
 abbrev pub behind_first : List ℕ → Standing
 behind_first word =
     if bytes_eq word (codes "RUN") then BehindRun else
@@ -53,11 +53,11 @@ behind_first word =
     if bytes_eq word (codes "DISPLAY") then Asked else
     if bytes_eq word (codes "HELP") then First else Free
 
--- where the word behind the second word of a movement stands
+-- the place of the word after the second word of a movement
 abbrev pub behind_movement : List ℕ → Standing
 behind_movement word = if bytes_eq word (codes "CHANGE") then Asked else Free
 
--- where the next word stands
+-- the place of the next word
 abbrev pub behind : Standing → List ℕ → Standing
 behind First word = behind_first word
 behind BehindRun word = behind_movement word
@@ -70,18 +70,18 @@ behind Free word = Free
 abbrev pub begins : List ℕ → List ℕ → Bool
 begins word other = nat_le (length word) (length other) && bytes_eq (take (length word) other) word
 
--- the only one of some words, or another where they are none or several
+-- the only one of some words, or another if they are none or several
 abbrev pub only_one : List ℕ → List (List ℕ) → List ℕ
 only_one word [] = word
 only_one word (other ∷ []) = other
 only_one word (other ∷ next ∷ more) = word
 
--- a word of three letters or more stands for the only word of a table that it begins
+-- a word of three letters or more means the only word of a table that it begins
 abbrev pub whole : List ℕ → List ℕ → List ℕ
 whole table word =
     if nat_lt (length word) 3 then word else only_one word (filter (begins word) (command_words table))
 
--- the word for which a letter stands that begins a line; another word as it is
+-- the word that a letter means at the beginning of a line; another word as it is
 abbrev pub word_of_letter : List ℕ → List ℕ
 word_of_letter word =
     if bytes_eq word (codes "S") then codes "STEP" else
@@ -90,19 +90,19 @@ word_of_letter word =
     if bytes_eq word (codes "B") then codes "BREAK" else
     if bytes_eq word (codes "Q") then codes "QUIT" else word
 
--- a word with its letter spelled, where it begins a line
+-- a word with its letter spelled, if it begins a line
 abbrev pub spelled : Standing → List ℕ → List ℕ
 spelled First word = word_of_letter word
 spelled at word = word
 
--- whether a question may stand here
+-- whether a question may come here
 abbrev pub is_asked : Standing → Bool
 is_asked BehindShow = true
 is_asked Asked = true
 is_asked _ = false
 
--- a word made whole by where it stands: one letter or more of it; where a question may stand, a name of the program
--- stays what it is
+-- a word made whole by its place in the line, from one letter or more of it; if a question may come
+-- there, a name of the program stays as it is
 abbrev pub made_whole : ProgramTable → Standing → List ℕ → List ℕ
 made_whole program at word =
     if is_asked at && is_declared program word then word else whole (words_at at) (spelled at word)

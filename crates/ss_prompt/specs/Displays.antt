@@ -1,5 +1,6 @@
 -- Questions that are answered at each stop.
-use Rattle.std.specs.Prelude.{ℕ, Bool, Option, Some, None, is_some, position, List, [], ◌∷◌, ◌++◌, length, codes, decimal, if◌then◌else◌, nat_le}
+use Rattle.std.specs.Prelude.{ℕ, Bool, Option, Some, None, is_some, position, List}
+use Rattle.std.specs.Prelude.{[], ◌∷◌, ◌++◌, length, codes, decimal, if◌then◌else◌, nat_le}
 use Rattle.std.specs.List.{list_any, remove}
 use Rattle.std.specs.Str.{bytes_eq}
 use Rattle.ss_trace.specs.declared.question.Question.{Question}
@@ -15,7 +16,7 @@ is_among displays text = list_any (λ d. bytes_eq (question_text d) text) displa
 abbrev pub is_full : List Question → Bool
 is_full displays = nat_le MOST_DISPLAYS (length displays)
 
--- the questions behind DISPLAY
+-- the questions after DISPLAY
 abbrev pub displays_with : List Question → Question → List Question
 displays_with displays question =
     if is_among displays (question_text question) then displays else
@@ -25,17 +26,17 @@ displays_with displays question =
 abbrev pub display_set : List ℕ → List ℕ
 display_set text = codes "DISPLAY " ++ text ++ codes " SET\n"
 
--- what DISPLAY answers
+-- the answer to DISPLAY
 abbrev pub display_text : List Question → List ℕ → List ℕ
 display_text displays text =
     if is_among displays text then display_set text else
     if is_full displays then codes "TOO MANY DISPLAYS\n" else display_set text
 
--- the same in a state of the prompt
+-- the answer to DISPLAY in a state of the prompt
 abbrev pub display_said : PromptState → Question → List ℕ
 display_said state question = display_text state.displays (question_text question)
 
--- the state behind it
+-- the state after DISPLAY
 abbrev pub display_next : PromptState → Question → PromptState
 display_next state question = with_displays state (displays_with state.displays question)
 
@@ -43,11 +44,11 @@ display_next state question = with_displays state (displays_with state.displays 
 abbrev pub cleared_text : List Question → List ℕ
 cleared_text displays = codes "DISPLAYS CLEARED: " ++ decimal (length displays) ++ 10 ∷ []
 
--- what UNDISPLAY answers
+-- the answer to UNDISPLAY
 abbrev pub undisplay_said : PromptState → List ℕ
 undisplay_said state = cleared_text state.displays
 
--- the state behind it
+-- the state after UNDISPLAY
 abbrev pub undisplay_next : PromptState → PromptState
 undisplay_next state = with_displays state []
 
@@ -70,10 +71,10 @@ undisplay_text displays text =
     if is_some (place_among displays text) then codes "DISPLAY " ++ text ++ codes " CLEARED\n"
     else codes "NO DISPLAY " ++ text ++ 10 ∷ []
 
--- what UNDISPLAY x answers
+-- the answer to UNDISPLAY x
 abbrev pub undisplay_one_said : PromptState → Question → List ℕ
 undisplay_one_said state question = undisplay_text state.displays (question_text question)
 
--- the state behind it
+-- the state after UNDISPLAY x
 abbrev pub undisplay_one_next : PromptState → Question → PromptState
 undisplay_one_next state question = with_displays state (displays_without state.displays (question_text question))

@@ -1,4 +1,4 @@
--- What explains that a rule of the checker refuses a model.
+-- The explanation of a refusal of a model by a rule of the checker.
 use Rattle.std.specs.Prelude.{ℕ, Bool, List, [], ◌∷◌, ◌++◌, codes, if◌then◌else◌, nat_eq}
 use Rattle.std.specs.List.{list_any}
 use Rattle.ss_sentences.specs.Wording.{rule_sentence}
@@ -13,8 +13,8 @@ has_blank sentence = list_any (λ b. nat_eq b 123) sentence
 abbrev pub rule_line : List ℕ → List ℕ → List ℕ
 rule_line code sentence = if has_blank sentence then [] else code ++ codes ": " ++ sentence ++ 10 ∷ []
 
--- what explains that a rule of the checker refuses a model at a line: what the rule means, the line as it is written,
--- and which name the breach is about
+-- the explanation of a refusal of a model by a rule of the checker at a line: the meaning of the
+-- rule, the line as it is written, and the name that the breach is about
 abbrev pub check_explanation : List ℕ → List ℕ → ℕ → List ℕ
 check_explanation model code line =
     rule_line code (rule_sentence code) ++ marked_line (source_lines model) (codes "> ") line

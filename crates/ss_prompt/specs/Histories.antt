@@ -1,4 +1,4 @@
--- WHY and HISTORY: what they read, what they answer.
+-- WHY and HISTORY: the words that they read, and their answers.
 use Rattle.std.specs.Prelude.{ℕ, ◌≡◌, ◌≤◌, List, [], ◌∷◌, ◌++◌, codes, Option, Some, None, Result}
 use Rattle.ss_debug.specs.CommandLines.{command_words}
 use Rattle.ss_debug.specs.Turn.{debugger_state_at}
@@ -30,7 +30,7 @@ abbrev pub rows_in : Command → Option ℕ
 rows_in (Forget n) = Some n
 rows_in _ = None
 
--- a question and a number of rows, where both are there
+-- a question and a number of rows, if both are there
 abbrev pub with_number : Option (Result Question Missing) → Option ℕ → Option (Result Question Missing × ℕ)
 with_number (Some x) (Some n) = Some (x, n)
 with_number _ _ = None
@@ -53,23 +53,23 @@ abbrev pub why_source : List (List ℕ) → Option ℕ → List ℕ
 why_source lines None = []
 why_source lines (Some line) = marked_line lines (codes "> ") line
 
--- what is told of a step, if there is one: its state line, its line of the model, and what it changed
+-- the text on a step, if there is one: its state line, its line of the model, and its change
 abbrev pub why_text : PromptState → Question → Option ℕ → List ℕ
 why_text state question step =
     why_head state.input state.debugger.earliest step ++ why_source state.lines (why_line state.input step)
     ++ why_change state.input question step
 
--- what WHY answers: that of the newest step, of those that are kept, at which the question changes
+-- the answer to WHY: the text on the newest kept step at which the question changes
 abbrev pub why_said : PromptState → Question → List ℕ
 why_said state question =
     why_text state question (newest_change state.input question state.debugger.earliest state.debugger.position)
 
--- what HISTORY answers
+-- the answer to HISTORY
 abbrev pub history_said : PromptState → Question → ℕ → List ℕ
 history_said state question rows =
     history_text state.input question rows state.debugger.earliest state.debugger.position
 
--- where memory was refused, the debugger stands between the earliest kept position and its own
+-- if memory was refused, the debugger is between the earliest kept position and its own
 unfoldable pub HasLookedBack : PromptState → PromptState → Type 0
 HasLookedBack state after =
     IsSameBeside state after × (after.debugger ≡ debugger_state_at state.debugger after.debugger.position)

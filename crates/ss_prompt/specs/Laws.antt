@@ -1,5 +1,6 @@
 -- Laws of the prompt, in other words than those of its definitions.
-use Rattle.std.specs.Prelude.{ℕ, ℤ, ◌≡◌, ◌⊎◌, true, false, List, [], ◌∷◌, ◌++◌, map, ⊤, Option, Some, None, Err, is_some}
+use Rattle.std.specs.Prelude.{ℕ, ℤ, ◌≡◌, ◌⊎◌, true, false, List, [], ◌∷◌}
+use Rattle.std.specs.Prelude.{◌++◌, map, ⊤, Option, Some, None, Err, is_some}
 use Rattle.ss_program.specs.Program.{ProgramTable}
 use Rattle.ss_debug.specs.declared.commands.Command.{Command}
 use Rattle.ss_debug.specs.declared.commands.Command.TheVariants.{Bad, Break, Show}
@@ -10,7 +11,8 @@ use Rattle.ss_debug.specs.Command.{command_of}
 use Rattle.ss_state.specs.Run.{Input, run}
 use Rattle.ss_store.specs.Store.{number_of, exists}
 use Rattle.ss_trace.specs.Question.{attribute_text, count_text}
-use Rattle.ss_debug.specs.Turn.{DebuggerState, show_answer, answer, debugger_state_after, debugger_state_after_lines, obeyed_lines}
+use Rattle.ss_debug.specs.Turn.{DebuggerState, show_answer, answer}
+use Rattle.ss_debug.specs.Turn.{debugger_state_after, debugger_state_after_lines, obeyed_lines}
 use Rattle.ss_console.specs.Dialogue.{answered, state_after_all}
 use Rattle.ss_console.specs.Lines.{lines, kept_part}
 use Rattle.ss_console.specs.Laws.{answers}
@@ -25,12 +27,12 @@ use Rattle.ss_prompt.specs.Reading.{plain_meant, plain_command_of, prompt_comman
 use Rattle.ss_prompt.specs.PromptState.{PromptState}
 use Rattle.ss_prompt.specs.Prompting.{prompt_answer, prompt_state_after, prompt_meaning}
 
--- a line is a command of docs/DEBUGGER.md that is meant so at the prompt: none but BREAK of a line without a place and
--- SHOW of an entity of a set
+-- a line is a command of docs/DEBUGGER.md that is meant so at the prompt: all are meant so but
+-- BREAK of a line without a place and SHOW of an entity of a set
 abbrev pub IsPlain : ProgramTable → List ℕ → Type 0
 IsPlain program line = (command_of line ≡ Bad → ⊥) × (plain_meant program (command_of line) ≡ Plain (command_of line))
 
--- each of some lines is one
+-- each of some lines is such a command
 unfoldable pub ArePlain : ProgramTable → List (List ℕ) → Type 0
 ArePlain program [] = ⊤
 ArePlain program (line ∷ lines) = IsPlain program line × ArePlain program lines
@@ -41,7 +43,7 @@ PlainLinesStay =
     (program : ProgramTable) (line : List ℕ) → (command_of line ≡ Bad → ⊥) →
     prompt_command_of program line ≡ plain_meant program (command_of line)
 
--- a command is meant so, or it is BREAK of a line without a place, or SHOW c k where c is no class, and a set
+-- a command is meant so, or is BREAK of a line without a place, or SHOW c k with c a set, no class
 abbrev pub IsMeant : ProgramTable → Command → Type 0
 IsMeant program command =
     (plain_meant program command ≡ Plain command)
@@ -49,32 +51,32 @@ IsMeant program command =
     ⊎ ((name : List ℕ) × (x : ℤ) × (command ≡ Show (Entity name x)) × (class_named program name ≡ None)
     × (is_some (set_named program name) ≡ true)))
 
--- so it is with every one
+-- that is so for every command
 abbrev pub FewAreMeantOtherwise : Type 0
 FewAreMeantOtherwise = (program : ProgramTable) (command : Command) → IsMeant program command
 
--- what is written begins with the answer of docs/DEBUGGER.md, and the debugger goes where it goes there
+-- the answer begins with that of docs/DEBUGGER.md, and the debugger goes to the same state as there
 abbrev pub PlainAnswersComeFirst : Type 0
 PlainAnswersComeFirst =
     (s : PromptState) (command : Command) →
     ((rest : List ℕ) × (prompt_answer s (Plain command) ≡ answer s.input s.debugger command ++ rest))
     × ((prompt_state_after s (Plain command)).debugger ≡ debugger_state_after s.input s.debugger command)
 
--- a text is the answers of docs/DEBUGGER.md to some lines, in order, behind each perhaps something more
+-- a text is the answers of docs/DEBUGGER.md to some lines, in order, after each perhaps more text
 unfoldable pub AnswersFirst : Input → DebuggerState → List (List ℕ) → List ℕ → Type 0
 AnswersFirst input debugger [] text = text ≡ []
 AnswersFirst input debugger (line ∷ lines) text =
     (more rest : List ℕ) × (text ≡ answer input debugger (command_of line) ++ more ++ rest)
     × AnswersFirst input (debugger_state_after input debugger (command_of line)) lines rest
 
--- so it is with what the prompt answers to lines that are all such commands, up to the first QUIT: with the answers of
--- a transcript
+-- that is so for the answers of the prompt to lines that are all such commands, up to the first
+-- QUIT: for the answers of a transcript
 abbrev pub PlainLinesAnswerTheBatch : Type 0
 PlainLinesAnswerTheBatch =
     (s : PromptState) (lines : List (List ℕ)) → ArePlain s.input.program lines →
     AnswersFirst s.input s.debugger (obeyed_lines lines) (answers prompt_meaning s lines)
 
--- and they lead to the state of which a transcript tells the report
+-- and they lead to the state whose report a transcript shows
 abbrev pub PlainLinesLeadAsTheBatch : Type 0
 PlainLinesLeadAsTheBatch =
     (s : PromptState) (lines : List (List ℕ)) → ArePlain s.input.program lines →
@@ -85,7 +87,7 @@ PlainLinesLeadAsTheBatch =
 abbrev pub LinesAreThoseOfTheBatch : Type 0
 LinesAreThoseOfTheBatch = (text : List ℕ) → lines text ≡ command_lines text
 
--- what is kept of a line says what the line says
+-- the kept part of a line gives the same command as the line
 abbrev pub KeptLinesSayTheSame : Type 0
 KeptLinesSayTheSame =
     (program : ProgramTable) (line : List ℕ) →
@@ -131,7 +133,7 @@ MissingClassesAreAnsweredSo =
     (show_answer input p (Entity class x) ≡ missing_text (missing.Class class))
     × (attribute_text class x name input p ≡ missing_text (missing.Class class))
 
--- and an attribute, where its entity is there
+-- and an attribute, if its entity is there
 abbrev pub MissingAttributesAreAnsweredSo : Type 0
 MissingAttributesAreAnsweredSo =
     (input : Input) (class : List ℕ) (x : ℤ) (name : List ℕ) (c p : ℕ) → class_named input.program class ≡ Some c →

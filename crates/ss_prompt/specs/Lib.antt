@@ -1,3 +1,4 @@
+-- The modules of the prompt: its commands, their reading, their answers, its state, and the laws.
 pub mod Source
 pub mod Names
 pub mod Explained

@@ -1,4 +1,4 @@
--- Lines of the model, as LIST tells them.
+-- Lines of the model, as LIST prints them.
 use Rattle.std.specs.Prelude.{ℕ, zero, suc, ◌+◌, ◌-◌, max, min, ◌||◌, List, [], ◌∷◌, ◌++◌, length, codes, decimal}
 use Rattle.std.specs.Prelude.{Option, Some, None, if◌then◌else◌, nat_eq, nat_lt}
 use Rattle.ss_debug.specs.Move.{line_at}
@@ -11,7 +11,7 @@ use Rattle.ss_prompt.specs.Sections.{section_named, no_section, last_line}
 abbrev pub mark_of : ℕ → ℕ → List ℕ
 mark_of present l = if nat_eq l present then codes "> " else codes ": "
 
--- so many lines from one on, each behind its number and a mark
+-- a number of lines from one on, each after its number and a mark
 abbrev pub listed_lines : List (List ℕ) → ℕ → ℕ → ℕ → List ℕ
 listed_lines lines present from zero = []
 listed_lines lines present from (suc k) =
@@ -29,13 +29,13 @@ listed_to lines present from to = listed_lines lines present from (min (length l
 abbrev pub no_line_text : ℕ → List ℕ
 no_line_text l = codes "NO LINE " ++ decimal l ++ 10 ∷ []
 
--- line l with the five before it and the five behind it
+-- line l with the five lines before it and the five after it
 abbrev pub listed_about : List (List ℕ) → ℕ → ℕ → List ℕ
 listed_about lines present l =
     if nat_eq l 0 || nat_lt (length lines) l then no_line_text l
     else listed_to lines present (max 1 (l - 5)) (l + 5)
 
--- what LIST answers, with a line or without
+-- the answer to LIST, with a line or without
 abbrev pub lines_said : PromptState → Option ℕ → List ℕ
 lines_said state (Some l) = listed_about state.lines (present_line state) l
 lines_said state None = listed_about state.lines (present_line state) (present_line state)
@@ -45,7 +45,7 @@ abbrev pub listed_between : List (List ℕ) → ℕ → ℕ → ℕ → List ℕ
 listed_between lines present from to =
     if nat_lt (length lines) from then no_line_text from else listed_to lines present from to
 
--- what LIST l m answers
+-- the answer to LIST l m
 abbrev pub lines_between_said : PromptState → ℕ → ℕ → List ℕ
 lines_between_said state from to = listed_between state.lines (present_line state) from to
 
@@ -55,6 +55,6 @@ section_listed state name None = no_section name
 section_listed state name (Some n) =
     listed_to state.lines (present_line state) (section_of state.input.program n).line (last_line state.input.program n)
 
--- what LIST r answers
+-- the answer to LIST r
 abbrev pub section_lines_said : PromptState → List ℕ → List ℕ
 section_lines_said state name = section_listed state name (section_named state.input.program name)

@@ -1,4 +1,4 @@
--- What the names of a question are in a program, and which of them it hasn't; before any run.
+-- The names of a question in a program, and which of them it hasn't; before any run.
 use Rattle.std.specs.Prelude.{ℕ, ℤ, ◌==◌, Bool, false, ◌||◌, ◌&&◌, List, codes, take, drop, is_some}
 use Rattle.std.specs.Prelude.{Option, Some, None, Result, Ok, Err, if◌then◌else◌}
 use Rattle.std.specs.List.{list_any}
@@ -32,7 +32,7 @@ is_declared program name =
 abbrev pub is_of_owners : List ℕ → Bool
 is_of_owners head = bytes_eq head (codes "F.") || (bytes_eq head (codes "L.") || bytes_eq head (codes "N."))
 
--- of members
+-- whether the kept attributes that begin so are those of members
 abbrev pub is_of_members : List ℕ → Bool
 is_of_members head = bytes_eq head (codes "P.") || (bytes_eq head (codes "S.") || bytes_eq head (codes "M."))
 
@@ -56,12 +56,12 @@ abbrev pub listed_by : List ℕ → Owner → Option ℤ → Result (List ℕ) M
 listed_by name System (Some x) = Err (missing.Owner x)
 listed_by name _ owner = Ok name
 
--- the same by the number of the set, if there is one of this name
+-- that name by the number of the set, if there is one of this name
 abbrev pub listed_in : ProgramTable → List ℕ → Option ℕ → Option ℤ → Result (List ℕ) Missing
 listed_in program name None owner = Err (missing.Set name)
 listed_in program name (Some s) owner = listed_by name (set_of program s).owner owner
 
--- the same
+-- that name by the name of the set
 abbrev pub listed : ProgramTable → List ℕ → Option ℤ → Result (List ℕ) Missing
 listed program name owner = listed_in program name (set_named program name) owner
 
@@ -106,9 +106,9 @@ abbrev pub bare_asked : ProgramTable → List ℕ → Question
 bare_asked program name =
     if is_some (set_named program name) then Shown (plain.Set name None) else Shown (plain.Variable name)
 
--- ---- what is told
+-- ---- the text on a missing name
 
--- that there is none of this name; of a set of the system, that it has no such owner
+-- that there is none of this name; for a set of the system, that it has no such owner
 unfoldable pub missing_text : Missing → List ℕ
 missing_text (missing.Variable name) = no_such_text (codes "VARIABLE") name
 missing_text (missing.Set name) = no_such_text (codes "SET") name

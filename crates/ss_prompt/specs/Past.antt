@@ -1,6 +1,5 @@
--- What the history tells of a fault where a movement stops: where the entity that is missing ended, or when the list
--- that
--- a loop names changed.
+-- The text of the history on a fault at which a movement stops: the state in which the missing
+-- entity ended, or in which the list that a loop names changed last.
 use Rattle.std.specs.Prelude.{ℕ, ◌≡◌, nat_lt, ◌⊎◌, List, [], ◌++◌, codes, decimal, if◌then◌else◌, Option, Some, None}
 use Rattle.ss_state.specs.Run.{Input, run}
 use Rattle.ss_debug.specs.declared.commands.Question.TheVariants.{Entity, Set}
@@ -22,11 +21,11 @@ number_phrase head n tail = head ++ decimal n ++ tail
 abbrev pub no_life_text : ℕ → List ℕ
 no_life_text earliest = number_phrase (codes " has not lived since STATE ") earliest (codes ".\n")
 
--- the same; where all steps are kept, it never was
+-- that an entity was in no state that is kept; if all steps are kept, that it was never made
 unfoldable pub no_end_text : ℕ → List ℕ
 no_end_text earliest = if nat_lt 0 earliest then no_life_text earliest else codes " was never made.\n"
 
--- where an entity that is missing ended: in the state whose step was the last at which it changed, if there is one
+-- the end of a missing entity: the state of the last step at which it changed, if there is one
 abbrev pub end_text : Input → List ℕ → ℕ → Option ℕ → List ℕ
 end_text input words earliest None = words ++ no_end_text earliest
 end_text input words earliest (Some q) = words ++ codes " ended in " ++ state_line input q
@@ -40,13 +39,13 @@ abbrev pub list_change_text : Input → List ℕ → ℕ → Option ℕ → List
 list_change_text input words earliest None = words ++ no_list_change_text earliest
 list_change_text input words earliest (Some q) = words ++ codes " changed last in " ++ state_line input q
 
--- the same of a question that is asked with these words, of the last step at which it changed; of others nothing
+-- that text for an entity or a list asked with these words, by its last change; else nothing
 abbrev pub change_text : Input → List ℕ → Question → ℕ → Option ℕ → List ℕ
 change_text input words (Shown (Entity name x)) earliest step = end_text input words earliest step
 change_text input words (Shown (Set name owner)) earliest step = list_change_text input words earliest step
 change_text input words _ earliest step = []
 
--- what is told of a question, if there is one
+-- the text of the history on a question, if there is one
 abbrev pub question_text : PromptState → List ℕ → Option Question → List ℕ
 question_text state words None = []
 question_text state words (Some x) =
@@ -62,11 +61,11 @@ words_asked s =
 abbrev pub question_asked : PromptState → Option Question
 question_asked state = asked_of (command_words (words_asked state))
 
--- what the history tells of the state's fault
+-- the text of the history on the state's fault
 abbrev pub past_told : PromptState → List ℕ
 past_told state = question_text state (words_asked state) (question_asked state)
 
--- where memory was refused to that: the history is asked something, and the debugger stands between the earliest kept
--- position and its own; or it stands where it stood
+-- if memory was refused for that text: the history is asked something, and the debugger is between
+-- the earliest kept position and its own; or the state is as it was
 unfoldable pub HasSearchedPast : PromptState → PromptState → Type 0
 HasSearchedPast state after = (after ≡ state) ⊎ ((question_asked state ≡ None → ⊥) × HasLookedBack state after)

@@ -20,7 +20,7 @@ nearer_line from nearest line = if nat_le from line && is_nearer line nearest th
 unfoldable pub next_line : ProgramTable → ℕ → Option ℕ
 next_line program from = fold (nearer_line from) None (flat_map section_lines program.sections)
 
--- the line behind it that has a place, if there is one
+-- the next line that has a place, if there is one
 abbrev pub next_text : Option ℕ → List ℕ
 next_text None = []
 next_text (Some next) = codes ", NEXT " ++ decimal next

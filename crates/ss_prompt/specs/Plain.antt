@@ -7,21 +7,21 @@ use Rattle.ss_debug.specs.AfterRefusal.{IsStateAfterRefusal}
 use Rattle.ss_prompt.specs.PromptState.{PromptState, with_debugger, IsSameBeside}
 use Rattle.ss_prompt.specs.Stops.{goes_back, stop_text, IsStopRefused}
 
--- the state behind one
+-- the state after a command
 abbrev pub plain_next : PromptState → Command → PromptState
 plain_next state command = with_debugger state (debugger_state_after state.input state.debugger command)
 
--- behind the answer of a movement stands what is told where it stops
+-- the text at the stop of a movement, which comes after its answer
 abbrev pub plain_stop : PromptState → Command → List ℕ
 plain_stop state (Move m) = stop_text (goes_back m) (plain_next state (Move m))
 plain_stop state command = []
 
--- what it answers
+-- the answer to a command
 abbrev pub plain_said : PromptState → Command → List ℕ
 plain_said state command = answer state.input state.debugger command ++ plain_stop state command
 
--- where memory was refused: a movement was made in part or whole, and then perhaps what is told of its end was refused;
--- any other command left all as it was
+-- if memory was refused: a movement was made in part or whole, and then perhaps memory for the text
+-- at its stop was refused; any other command left all as it was
 unfoldable pub IsPlainRefused : PromptState → Command → PromptState → Type 0
 IsPlainRefused state (Move m) after =
     IsSameBeside state after

@@ -1,4 +1,4 @@
--- The state of the prompt, and what is told at a stop.
+-- The state of the prompt, and the text at a stop.
 use Rattle.std.specs.Prelude.{ℕ, ◌≡◌, List, [], ◌∷◌, ◌++◌, codes}
 use Rattle.ss_state.specs.Run.{Input, run}
 use Rattle.ss_trace.specs.declared.question.Question.{Question}
@@ -11,7 +11,7 @@ use Rattle.ss_prompt.specs.Source.{source_lines, marked_line}
 use Rattle.ss_prompt.specs.Names.{warnings_told}
 use Rattle.ss_faults.specs.Sentence.{fault_text}
 
--- a debugger in the run of an input, its model and the lines of that, and the questions that are answered at each stop
+-- a debugger in the run of an input, its model and its lines, and the questions of each stop
 pub record PromptState : Type 0 where
   -- the bytes of the model
   pub model : List ℕ
@@ -19,12 +19,12 @@ pub record PromptState : Type 0 where
   pub lines : List (List ℕ)
   -- the program and its data
   pub input : Input
-  -- where the debugger stands, what it keeps, and its break lines
+  -- the position of the debugger, the steps that it keeps, and its break lines
   pub debugger : DebuggerState
   -- the questions that are answered at each stop
   pub displays : List Question
 
--- what a debugger with this model, these lines and these questions stands for
+-- the state of the prompt for a debugger with this model, these lines and these questions
 abbrev pub prompt_state_of : DebuggerView → List ℕ → List (List ℕ) → List Question → PromptState
 prompt_state_of debugger model lines displays = record {
   model = model;
@@ -34,7 +34,7 @@ prompt_state_of debugger model lines displays = record {
   displays = displays;
 }
 
--- what the prompt keeps beside a debugger
+-- the parts of the prompt that are not the debugger's
 pub record PromptDeskView : Type 0 where
   -- the bytes of the model
   pub model : List ℕ
@@ -47,15 +47,15 @@ pub record PromptDeskView : Type 0 where
 abbrev pub with_questions : PromptDeskView → List Question → PromptDeskView
 with_questions desk displays = record { model = desk.model; lines = desk.lines; displays = displays }
 
--- what a debugger and a desk stand for
+-- the state of the prompt for a debugger and a desk
 abbrev pub state_at : DebuggerView → PromptDeskView → PromptState
 state_at debugger desk = prompt_state_of debugger desk.model desk.lines desk.displays
 
--- what a debugger that is lent stands for, in the run of a model, with these questions
+-- the state of the prompt for a lent debugger, in the run of a model, with these questions
 abbrev pub lent_state : DebuggerView → List ℕ → List Question → PromptState
 lent_state debugger model displays = prompt_state_of debugger model (source_lines model) displays
 
--- the same, with the debugger in another state
+-- a state of the prompt, with the debugger in another state
 abbrev pub with_debugger : PromptState → DebuggerState → PromptState
 with_debugger state debugger =
     record {
@@ -66,7 +66,7 @@ with_debugger state debugger =
       displays = state.displays;
     }
 
--- the same, with other questions
+-- a state of the prompt, with other questions
 abbrev pub with_displays : PromptState → List Question → PromptState
 with_displays state displays =
     record {
@@ -92,20 +92,20 @@ abbrev pub answers_to : Input → ℕ → List Question → List ℕ
 answers_to input p [] = []
 answers_to input p (x ∷ xs) = answer_at input x p ++ answers_to input p xs
 
--- what the fault of a state means, and what it is about, where it is faulted
+-- the meaning of a state's fault, and the thing that it is about, if the state is faulted
 abbrev pub fault_told : Input → ℕ → List ℕ
 fault_told input p = fault_text input.program (run input p) (run input p).status
 
--- what is told of where the debugger stands: what the fault means, where there is one; the line of the model; the
--- answers to the questions of each stop
+-- the text on the debugger's state: the meaning of the fault, if there is one; the line of the
+-- model; the answers to the questions of each stop
 abbrev pub place_text : PromptState → List ℕ
 place_text state =
     fault_told state.input state.debugger.position ++ source_line state
     ++ answers_to state.input state.debugger.position state.displays
 
--- what is told at a terminal before the first line: that HELP tells the commands, what the model is warned of, and
--- where the debugger stands
+-- the text at a terminal before the first line: that HELP lists the commands, the warnings on the
+-- model, and the state of the debugger
 abbrev pub greeting : PromptState → List ℕ
 greeting state =
-    codes "HELP TELLS THE COMMANDS.\n" ++ warnings_told state.input.program state.model
+    codes "HELP SHOWS THE COMMANDS.\n" ++ warnings_told state.input.program state.model
     ++ state_line state.input state.debugger.position ++ place_text state

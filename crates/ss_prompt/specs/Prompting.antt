@@ -1,4 +1,4 @@
--- What a dialogue with the debugger means.
+-- The meaning of a dialogue with the debugger.
 use Rattle.std.specs.Prelude.{ℕ, ◌≡◌, List, Bool, false}
 use Rattle.ss_debug.specs.declared.commands.Command.TheVariants.{Break, Clear}
 use Rattle.ss_debug.specs.Turn.{is_quit as is_plain_quit}
@@ -7,7 +7,8 @@ use Rattle.ss_console.specs.Meaning.{Meaning}
 use Rattle.ss_prompt.specs.declared.commands.PromptCommand.{PromptCommand}
 use Rattle.ss_prompt.specs.declared.commands.PromptCommand.TheVariants.{Plain, Travel, Lines, SectionLines}
 use Rattle.ss_prompt.specs.declared.commands.PromptCommand.TheVariants.{BreakSection, ClearSection, Breaks}
-use Rattle.ss_prompt.specs.declared.commands.PromptCommand.TheVariants.{Changed, Missing, NoPlace, LinesBetween, UndisplayOne, Unread}
+use Rattle.ss_prompt.specs.declared.commands.PromptCommand.TheVariants.{Changed, Missing, NoPlace}
+use Rattle.ss_prompt.specs.declared.commands.PromptCommand.TheVariants.{LinesBetween, UndisplayOne, Unread}
 use Rattle.ss_prompt.specs.declared.commands.PromptCommand.TheVariants.{Ask, See, Why, History, Display, Undisplay}
 use Rattle.ss_prompt.specs.declared.commands.PromptCommand.TheVariants.{Names, Warnings, Help}
 use Rattle.ss_prompt.specs.Reading.{plain_command_of, prompt_command_of}
@@ -29,7 +30,7 @@ use Rattle.ss_prompt.specs.Advice.{unread_text}
 use Rattle.ss_prompt.specs.Help.{help_said}
 use Rattle.ss_prompt.specs.Refusal.{refusal_at}
 
--- what a command answers
+-- the answer to a command
 unfoldable pub prompt_answer : PromptState → PromptCommand → List ℕ
 prompt_answer state (Plain command) = plain_said state command
 prompt_answer state (Travel m) = travel_said state m
@@ -54,7 +55,7 @@ prompt_answer state (Names name) = names_said state.model name
 prompt_answer state Warnings = warnings_said state.input.program state.model
 prompt_answer state (Help word) = help_said word
 
--- the state behind a command
+-- the state after a command
 unfoldable pub prompt_state_after : PromptState → PromptCommand → PromptState
 prompt_state_after state (Plain command) = plain_next state command
 prompt_state_after state (Travel m) = travel_next state m
@@ -65,15 +66,14 @@ prompt_state_after state Undisplay = undisplay_next state
 prompt_state_after state (UndisplayOne q) = undisplay_one_next state q
 prompt_state_after state _ = state
 
--- whether a command ends the dialogue: QUIT alone
+-- whether a command ends the dialogue: only QUIT does
 abbrev pub is_quit : PromptCommand → Bool
 is_quit (Plain command) = is_plain_quit command
 is_quit _ = false
 
--- where memory was refused: a movement was made in part or whole, and then perhaps a step beside, or, at a fault of
--- which
--- the history tells, at an earlier state; WHY and HISTORY left the debugger perhaps at an earlier state, SHOW CHANGED a
--- step beside; any other command left all as it was
+-- if memory was refused: a movement was made in part or whole, and the debugger is then perhaps one
+-- step away, or, at a fault on which the history has a text, at an earlier state; WHY and HISTORY
+-- left it perhaps at an earlier state, SHOW CHANGED one step away; other commands changed nothing
 unfoldable pub IsRefused : PromptState → PromptCommand → PromptState → Type 0
 IsRefused state (Plain command) after = IsPlainRefused state command after
 IsRefused state (Travel m) after = IsTravelRefused state m after
@@ -82,11 +82,11 @@ IsRefused state (Why x) after = HasLookedBack state after
 IsRefused state (History x rows) after = HasLookedBack state after
 IsRefused state _ after = after ≡ state
 
--- the answer where memory was refused, in the state in which that left the debugger
+-- the answer if memory was refused, in the state in which that left the debugger
 abbrev pub refusal_text : PromptState → List ℕ
 refusal_text state = refusal_at state.input state.debugger.position
 
--- what a line says, by the names of the program
+-- the command in a line, by the names of the program
 abbrev pub command_in : PromptState → List ℕ → PromptCommand
 command_in state line = prompt_command_of state.input.program line
 

@@ -1,4 +1,4 @@
--- What a line of the prompt says.
+-- The command that a line of the prompt gives.
 use Rattle.std.specs.Prelude.{ℕ, ℤ, List, [], ◌∷◌, length, map, Option, Some, None, if◌then◌else◌, nat_lt, codes}
 use Rattle.std.specs.Prelude.{nat_eq, nat_le, is_some, Result, Ok, Err}
 use Rattle.std.specs.Char.{to_ascii_uppercase}
@@ -29,7 +29,8 @@ use Rattle.ss_prompt.specs.Cuts.{whole_line, first_whole_line}
 use Rattle.ss_prompt.specs.declared.commands.PromptCommand.{PromptCommand}
 use Rattle.ss_prompt.specs.declared.commands.PromptCommand.TheVariants.{Plain, Travel, Lines, SectionLines}
 use Rattle.ss_prompt.specs.declared.commands.PromptCommand.TheVariants.{BreakSection, ClearSection, Breaks}
-use Rattle.ss_prompt.specs.declared.commands.PromptCommand.TheVariants.{Changed, Missing, NoPlace, LinesBetween, UndisplayOne, Unread}
+use Rattle.ss_prompt.specs.declared.commands.PromptCommand.TheVariants.{Changed, Missing, NoPlace}
+use Rattle.ss_prompt.specs.declared.commands.PromptCommand.TheVariants.{LinesBetween, UndisplayOne, Unread}
 use Rattle.ss_prompt.specs.declared.commands.PromptCommand.TheVariants.{Ask, See, Why, History, Display, Undisplay}
 use Rattle.ss_prompt.specs.declared.commands.PromptCommand.TheVariants.{Names, Warnings, Help}
 
@@ -37,22 +38,22 @@ use Rattle.ss_prompt.specs.declared.commands.PromptCommand.TheVariants.{Names, W
 abbrev pub bad : PromptCommand
 bad = Plain Bad
 
--- the command that is made of what was read, or a bad one
+-- the command that is made of the thing that was read, or a bad one
 abbrev pub made_or_bad : {A : Type 0} → (A → PromptCommand) → Option A → PromptCommand
 made_or_bad make None = bad
 made_or_bad make (Some x) = make x
 
--- a command behind which no word may stand
+-- a command after which no word may come
 abbrev pub alone : PromptCommand → List (List ℕ) → PromptCommand
 alone command [] = command
 alone command (word ∷ more) = bad
 
--- OVER: so often as STEP makes steps
+-- OVER: as often as STEP makes steps
 abbrev pub over_of : Command → PromptCommand
 over_of (Move (Step n)) = Travel (Over n)
 over_of _ = bad
 
--- BACK OVER: the same
+-- BACK OVER: as often as STEP makes steps
 abbrev pub back_over_of : Command → PromptCommand
 back_over_of (Move (Step n)) = Travel (BackOver n)
 back_over_of _ = bad
@@ -67,7 +68,7 @@ abbrev pub go_of : Command → PromptCommand
 go_of (Move (RunTo position)) = Travel (Go position)
 go_of _ = bad
 
--- what stands behind GO
+-- the words after GO
 abbrev pub go_command : List (List ℕ) → PromptCommand
 go_command [] = bad
 go_command (word ∷ rest) =
@@ -79,11 +80,11 @@ abbrev pub asked_command : (AskedQuestion → PromptCommand) → Result AskedQue
 asked_command make (Ok x) = make x
 asked_command make (Err m) = Missing m
 
--- the same of some words, if they ask something
+-- a command on the question that some words ask, if they ask one
 abbrev pub question_command : ProgramTable → (AskedQuestion → PromptCommand) → List (List ℕ) → PromptCommand
 question_command program make words = made_or_bad (asked_command make) (asked_in program words)
 
--- what stands behind BACK
+-- the words after BACK
 abbrev pub back_command : ProgramTable → List (List ℕ) → PromptCommand
 back_command program [] = bad
 back_command program (word ∷ rest) =
@@ -92,13 +93,13 @@ back_command program (word ∷ rest) =
     if bytes_eq word (codes "TO") then back_to_of (command_behind (codes "RUN TO") rest) else
     if bytes_eq word (codes "CHANGE") then question_command program (λ x. Travel (BackChange x)) rest else bad
 
--- what stands behind RUN
+-- the words after RUN
 abbrev pub run_command : ProgramTable → List (List ℕ) → PromptCommand
 run_command program [] = bad
 run_command program (word ∷ rest) =
     if bytes_eq word (codes "CHANGE") then question_command program (λ x. Travel (RunChange x)) rest else bad
 
--- HISTORY: the longest question whose names the program has counts; else what the longest one misses is told
+-- HISTORY of the longest question whose names the program has, else the longest's missing name
 abbrev pub history_by : Option (Result AskedQuestion Unknown) → Option (Result AskedQuestion Unknown × ℕ) →
     PromptCommand
 history_by (Some (Ok x)) other = History x ROWS_UNLESS_SAID
@@ -107,11 +108,11 @@ history_by (Some (Err m)) other = Missing m
 history_by None (Some (Err m, rows)) = Missing m
 history_by None None = bad
 
--- what stands behind HISTORY: a question, and perhaps a number of rows
+-- the words after HISTORY: a question, and perhaps a number of rows
 unfoldable pub history_command : ProgramTable → List (List ℕ) → PromptCommand
 history_command program words = history_by (asked_in program words) (with_rows program words)
 
--- what stands behind SHOW that is no question: CHANGED, or what else is seen
+-- the words after SHOW that are no question: CHANGED, or another sight
 abbrev pub sight_command : List (List ℕ) → PromptCommand
 sight_command [] = bad
 sight_command (word ∷ rest) =
@@ -123,12 +124,12 @@ bare_command program name =
     if is_some (class_named program name) then See (Living name) else
     if is_declared program name then Ask (bare_asked program name) else See (Living name)
 
--- what is seen, where a bare name is what it is declared as
+-- a sight; a bare name is read by its declaration
 abbrev pub seen_command : ProgramTable → PromptCommand → PromptCommand
 seen_command program (See (Living name)) = bare_command program name
 seen_command program command = command
 
--- what stands behind SHOW: a question, or what else is seen
+-- the words after SHOW: a question, or another sight
 abbrev pub show_command : ProgramTable → Option AskedQuestion → List (List ℕ) → PromptCommand
 show_command program (Some x) words = asked_command Ask (asked_of_program program x)
 show_command program None words = seen_command program (sight_command words)
@@ -143,29 +144,29 @@ abbrev pub lines_between : Command → Command → PromptCommand
 lines_between (Break from) (Break to) = if nat_le from to then LinesBetween from to else bad
 lines_between _ _ = bad
 
--- what stands behind LIST
+-- the words after LIST
 abbrev pub list_command : List (List ℕ) → PromptCommand
 list_command [] = Lines None
 list_command (word ∷ []) = lines_of (command_behind (codes "BREAK") (word ∷ [])) (only_name_of (word ∷ []))
 list_command (word ∷ next ∷ rest) =
     lines_between (command_behind (codes "BREAK") (word ∷ [])) (command_behind (codes "BREAK") (next ∷ rest))
 
--- what stands behind NAMES
+-- the words after NAMES
 abbrev pub names_command : List (List ℕ) → PromptCommand
 names_command [] = Names None
 names_command (word ∷ rest) = made_or_bad (λ name. Names (Some name)) (only_name_of (word ∷ rest))
 
--- what stands behind HELP: the first word counts
+-- the words after HELP: the first word counts
 abbrev pub help_command : List (List ℕ) → PromptCommand
 help_command [] = Help None
 help_command (word ∷ rest) = made_or_bad (λ name. Help (Some name)) (only_name_of (word ∷ []))
 
--- what stands behind UNDISPLAY: nothing, or a question
+-- the words after UNDISPLAY: none, or a question
 abbrev pub undisplay_command : ProgramTable → List (List ℕ) → PromptCommand
 undisplay_command program [] = Undisplay
 undisplay_command program (word ∷ rest) = question_command program UndisplayOne (word ∷ rest)
 
--- what the words of a line say that is none of docs/DEBUGGER.md
+-- the command in the words of a line that is none of docs/DEBUGGER.md
 unfoldable pub own_in_words : ProgramTable → List (List ℕ) → PromptCommand
 own_in_words program [] = bad
 own_in_words program (verb ∷ rest) =
@@ -192,36 +193,36 @@ abbrev pub break_command : ℕ → Option ℕ → PromptCommand
 break_command line None = NoPlace line None
 break_command line (Some next) = if nat_eq next line then Plain (Break line) else NoPlace line (Some next)
 
--- c k, where c may be a set
+-- c k; c may be a set
 abbrev pub entity_command : ProgramTable → List ℕ → ℤ → PromptCommand
 entity_command program name x =
     if is_some (class_named program name) then Plain (Show (Entity name x)) else
     if is_some (set_named program name) then Plain (Show (Set name (Some x))) else Plain (Show (Entity name x))
 
--- a command of docs/DEBUGGER.md as it is meant at the prompt, where BREAK wants a line with a place, and a set may
--- stand in the place of a class
+-- a command of docs/DEBUGGER.md as it is meant at the prompt: BREAK needs a line with a place, and
+-- a set may come in place of a class
 unfoldable pub plain_meant : ProgramTable → Command → PromptCommand
 plain_meant program (Break line) = break_command line (next_line program line)
 plain_meant program (Show (Entity name x)) = entity_command program name x
 plain_meant program command = Plain command
 
--- what is a command of docs/DEBUGGER.md stays one; else another is tried
+-- a command of docs/DEBUGGER.md stays one; else another is tried
 abbrev pub or_own : ProgramTable → Command → PromptCommand → PromptCommand
 or_own program Bad own = own
 or_own program command own = plain_meant program command
 
--- a command, or what is to be told of words that are none
+-- a command, or the advice on words that are none
 abbrev pub advised : List (List ℕ) → PromptCommand → PromptCommand
 advised words (Plain Bad) = Unread (verb_of words) (has_number words)
 advised words command = command
 
--- what a line says whose words are whole, if it is not too long
+-- the command in a line whose words are whole, if it is not too long
 abbrev pub own_of_whole : ProgramTable → Option (List ℕ) → PromptCommand
 own_of_whole program None = bad
 own_of_whole program (Some line) =
     or_own program (command_of line) (advised (command_words line) (own_in_words program (command_words line)))
 
--- what a line in upper case says that is none of docs/DEBUGGER.md as it stands: its words are made whole
+-- the command in a line that is none of docs/DEBUGGER.md as written: in upper case, its words whole
 unfoldable pub own_command_of : ProgramTable → List ℕ → PromptCommand
 own_command_of program line =
     if nat_lt LONGEST_LINE (length line) then bad
@@ -232,16 +233,16 @@ abbrev pub or_else : Command → Command → Command
 or_else Bad other = other
 or_else command other = command
 
--- what a line says in docs/DEBUGGER.md with its first word made whole
+-- the command of docs/DEBUGGER.md in a line with its first word made whole
 unfoldable pub first_whole_command_of : List ℕ → Command
 first_whole_command_of line =
     if nat_lt LONGEST_LINE (length line) then Bad
     else command_or_bad (first_whole_line (map to_ascii_uppercase line))
 
--- what a line says in docs/DEBUGGER.md as it stands, or else with its first word made whole
+-- the command of docs/DEBUGGER.md in a line as written, or else with its first word made whole
 unfoldable pub plain_command_of : List ℕ → Command
 plain_command_of line = or_else (command_of line) (first_whole_command_of line)
 
--- what a line says about a program
+-- the command in a line about a program
 unfoldable pub prompt_command_of : ProgramTable → List ℕ → PromptCommand
 prompt_command_of program line = or_own program (plain_command_of line) (own_command_of program line)

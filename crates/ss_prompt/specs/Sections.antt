@@ -27,7 +27,7 @@ first_line program n = spot_line (spot_at program n 0)
 abbrev pub last_line : ProgramTable → ℕ → ℕ
 last_line program n = spot_line (spot_at program n (length (places_of (slice_get program.sections n)) - 1))
 
--- BREAK or CLEAR of a line, or a bad one behind the last line that they take
+-- BREAK or CLEAR of a line, or a bad command past the last line that they take
 abbrev pub command_on : (ℕ → Command) → ℕ → Command
 command_on make line = if nat_le line GREATEST_LINE then make line else Bad
 
@@ -40,20 +40,20 @@ taken_line (Some line) = if nat_le line GREATEST_LINE then Some line else None
 abbrev pub line_of_section : ProgramTable → List ℕ → Option ℕ
 line_of_section program name = option_map (first_line program) (section_named program name)
 
--- what a command on the line of a section answers, or that there is no such section
+-- the answer to a command on the line of a section, or that there is no such section
 abbrev pub on_line_said : PromptState → (ℕ → Command) → List ℕ → Option ℕ → List ℕ
 on_line_said state make name None = no_section name
 on_line_said state make name (Some line) = answer state.input state.debugger (command_on make line)
 
--- the state behind it
+-- the state after it
 abbrev pub on_line_next : PromptState → (ℕ → Command) → Option ℕ → PromptState
 on_line_next state make None = state
 on_line_next state make (Some line) = plain_next state (command_on make line)
 
--- what BREAK r or CLEAR r answers: what BREAK or CLEAR answers on the line of the first place of section r
+-- the answer to BREAK r or CLEAR r: that of BREAK or CLEAR on the line of section r's first place
 abbrev pub on_section_said : PromptState → (ℕ → Command) → List ℕ → List ℕ
 on_section_said state make name = on_line_said state make name (line_of_section state.input.program name)
 
--- the state behind it
+-- the state after it
 abbrev pub on_section_next : PromptState → (ℕ → Command) → List ℕ → PromptState
 on_section_next state make name = on_line_next state make (line_of_section state.input.program name)

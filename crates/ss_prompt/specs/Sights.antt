@@ -1,4 +1,4 @@
--- What SHOW tells beside questions.
+-- The sights that SHOW gives, next to its answers to questions.
 use Rattle.std.specs.Prelude.{ℕ, Bool, ◌||◌, List, [], ◌∷◌, codes, Option, Some, None, if◌then◌else◌}
 use Rattle.std.specs.Str.{bytes_eq}
 use Rattle.ss_state.specs.Run.{Input}
@@ -20,7 +20,7 @@ abbrev pub living_of : Option (List ℕ) → Option Sight
 living_of None = None
 living_of (Some name) = Some (Living name)
 
--- what one word behind SHOW tells
+-- the sight of one word after SHOW
 abbrev pub sight_alone : List ℕ → Option Sight
 sight_alone what =
     if bytes_eq what (codes "CALLS") then Some Calls else
@@ -35,12 +35,12 @@ abbrev pub places_of : Command → Option Sight
 places_of (Show (Entity class x)) = Some (Places class x)
 places_of _ = None
 
--- c v, where both are names
+-- c v, if both are names
 abbrev pub entity_by : Option (List ℕ) → Option (List ℕ) → Option (List ℕ) → Option Sight
 entity_by (Some class) (Some variable) attribute = Some (ByVariable class variable attribute)
 entity_by _ _ _ = None
 
--- c v a, where all are names
+-- c v a, if all are names
 abbrev pub attribute_by : Option (List ℕ) → Option (List ℕ) → Option (List ℕ) → Option Sight
 attribute_by class variable None = None
 attribute_by class variable (Some name) = entity_by class variable (Some name)
@@ -56,7 +56,7 @@ abbrev pub is_question_word : List ℕ → Bool
 is_question_word what =
     bytes_eq what (codes "VAR") || bytes_eq what (codes "SET") || bytes_eq what (codes "COUNT")
 
--- what some words behind SHOW tell
+-- the sight of some words after SHOW
 abbrev pub sight_of : List (List ℕ) → Option Sight
 sight_of [] = None
 sight_of (what ∷ []) = sight_alone what
@@ -64,7 +64,7 @@ sight_of (what ∷ word ∷ rest) =
     if bytes_eq what (codes "IN") then places_of (command_behind (codes "SHOW") (word ∷ rest)) else
     if is_question_word what then None else by_variable what word rest
 
--- what is told in state p
+-- the text of a sight in state p
 abbrev pub sight_said : Sight → Input → ℕ → List ℕ
 sight_said Calls input p = calls_text input p
 sight_said Locals input p = locals_text input p

@@ -1,4 +1,4 @@
--- What is told where a movement stops.
+-- The text at the stop of a movement.
 use Rattle.std.specs.Prelude.{ℕ, ◌≡◌, ◌⊎◌, ◌+◌, ◌≤◌, Bool, true, false, nat_lt, List, ◌++◌}
 use Rattle.ss_debug.specs.declared.commands.Movement.{Movement as PlainMovement}
 use Rattle.ss_debug.specs.declared.commands.Movement.TheVariants.{Back, BackEvent, BackBreak}
@@ -16,7 +16,7 @@ goes_back BackEvent = true
 goes_back BackBreak = true
 goes_back _ = false
 
--- whether a movement beside those goes back from position p
+-- whether a movement that is none of docs/DEBUGGER.md goes back from position p
 abbrev pub travels_back : Movement → ℕ → Bool
 travels_back (BackOver n) p = true
 travels_back BackOut p = true
@@ -25,28 +25,29 @@ travels_back (BackChange x) p = true
 travels_back (Go q) p = nat_lt q p
 travels_back _ p = false
 
--- what the last step changed; where a movement went back, what the next one will change
+-- the changes of the last step; if a movement went back, the changes of the next one
 abbrev pub changes_told : Bool → PromptState → List ℕ
 changes_told false state = stop_changes state.input state.debugger.earliest state.debugger.position
 changes_told true state = stop_changes_ahead state.input state.debugger.position
 
--- what is told where a movement stops, that went back or not: what the fault means, where there is one, and what the
--- history tells of it; the line of the model; what changed, or will; the answers to the questions of each stop
+-- the text at the stop of a movement, which went back or not: the meaning of the fault, if there is
+-- one, and the text of the history on it; the line of the model; the changes, past or to come; the
+-- answers to the questions of each stop
 abbrev pub stop_text : Bool → PromptState → List ℕ
 stop_text is_back state =
     fault_told state.input state.debugger.position ++ past_told state ++ source_line state ++ changes_told is_back state
     ++ answers_to state.input state.debugger.position state.displays
 
--- what SHOW CHANGED answers
+-- the answer to SHOW CHANGED
 abbrev pub changed_said : PromptState → List ℕ
 changed_said state = changed_text state.input state.debugger.earliest state.debugger.position
 
--- where memory was refused to what changed, the debugger stands where it stood, or one step beside
+-- if memory was refused for the changes, the debugger is at its position, or one step away
 unfoldable pub HasLookedBeside : PromptState → PromptState → Type 0
 HasLookedBeside state after =
     IsSameBeside state after × (after.debugger ≡ debugger_state_at state.debugger after.debugger.position)
     × (state.debugger.position ≤ after.debugger.position + 1) × (after.debugger.position ≤ state.debugger.position + 1)
 
--- where memory was refused to what is told at a stop: to what changed, or to what the history tells
+-- if memory was refused for the text at a stop: for the changes, or for the text of the history
 unfoldable pub IsStopRefused : PromptState → PromptState → Type 0
 IsStopRefused state after = HasLookedBeside state after ⊎ HasSearchedPast state after

@@ -1,21 +1,21 @@
--- The movements beside those of docs/DEBUGGER.md.
+-- The movements that are none of docs/DEBUGGER.md.
 use Rattle.std.specs.Prelude.{ℕ, ◌⊎◌, List, ◌++◌}
 use Rattle.ss_trace.specs.declared.movement.Movement.{Movement}
 use Rattle.ss_trace.specs.Turn.{answer, state_after, IsStateAfterRefusal}
 use Rattle.ss_prompt.specs.PromptState.{PromptState, with_debugger, IsSameBeside}
 use Rattle.ss_prompt.specs.Stops.{travels_back, stop_text, IsStopRefused}
 
--- the state behind one
+-- the state after a movement
 abbrev pub travel_next : PromptState → Movement → PromptState
 travel_next state movement = with_debugger state (state_after state.input state.debugger movement)
 
--- what it answers, and what is told where it stops
+-- the answer to a movement, and the text at its stop
 abbrev pub travel_said : PromptState → Movement → List ℕ
 travel_said state movement =
     answer state.input state.debugger movement
     ++ stop_text (travels_back movement state.debugger.position) (travel_next state movement)
 
--- where memory was refused it was made in part or whole, and then perhaps what is told of its end was refused
+-- if memory was refused, it was made in part or whole, and perhaps the text at its stop was refused
 unfoldable pub IsTravelRefused : PromptState → Movement → PromptState → Type 0
 IsTravelRefused state movement after =
     IsSameBeside state after

@@ -1,4 +1,4 @@
-//! What is told of a line that is no command: the forms of its first word, or the nearest words.
+//! The answer to a line that is no command: the forms of its first word, or the nearest words.
 ghost use Rattle.std.specs.Prelude.{◌≡◌, ◌++◌, [], OnOk};
 ghost use Rattle.std.specs.Char.{is_ascii_digit};
 ghost use Rattle.std.specs.List.{filter, list_all};
@@ -25,14 +25,14 @@ pub(crate) fn verb_of(line: &[u8]) -> Option<Name>
     name_of_word(word)
 }
 
-/// Whether a word is digits alone.
+/// Whether a word is digits only.
 fn is_number(word: &[u8]) -> bool
     ensures { result ≡ list_all is_ascii_digit word.now }
 {
     word.iter().all(|b| b.is_ascii_digit())
 }
 
-/// Whether some word of a line is digits alone.
+/// Whether some word of a line is digits only.
 pub(crate) fn has_number(line: &[u8]) -> bool
     ensures { result ≡ has_number (command_words line.now) }
 {
@@ -46,14 +46,14 @@ pub(crate) fn has_number(line: &[u8]) -> bool
     false
 }
 
-/// Appends where the commands are told.
+/// Appends that HELP lists the commands.
 fn push_nothing_near(text: &mut Vec<u8>) -> Result<(), AllocError>
     ensures { OnOk result (text.new.items ≡ text.old.items ++ near_text []) }
 {
-    text.extend_from_slice(b"HELP TELLS THE COMMANDS.\n")
+    text.extend_from_slice(b"HELP SHOWS THE COMMANDS.\n")
 }
 
-/// Appends the words that begin with the first letters of a word, or where the commands are told.
+/// Appends the words that begin with the first letters of a word, or that HELP lists the commands.
 fn push_near(text: &mut Vec<u8>, word: &[u8]) -> Result<(), AllocError>
     ensures { OnOk result (text.new.items
         ≡ text.old.items ++ near_text (near_words word.now)) }
@@ -68,7 +68,7 @@ fn push_near(text: &mut Vec<u8>, word: &[u8]) -> Result<(), AllocError>
     text.extend_from_slice(b"\n")
 }
 
-/// Appends the words of a table that begin so, each behind a blank.
+/// Appends the words of a table that begin so, each after a blank.
 fn push_further(text: &mut Vec<u8>, table: &[u8], head: &[u8]) -> Result<(), AllocError>
     ensures { OnOk result (text.new.items ≡ text.old.items
         ++ further_words (filter (begins head.now) (command_words table.now))) }
@@ -82,7 +82,7 @@ fn push_further(text: &mut Vec<u8>, table: &[u8], head: &[u8]) -> Result<(), All
     Ok(())
 }
 
-/// Appends from where to where numbers go, if there is one.
+/// Appends the range of numbers, if there is a number.
 fn push_range(text: &mut Vec<u8>, is_numbered: bool) -> Result<(), AllocError>
     ensures { OnOk result (text.new.items ≡ text.old.items ++ range_text is_numbered) }
 {
@@ -106,7 +106,7 @@ fn push_forms(text: &mut Vec<u8>, word: &[u8], is_numbered: bool) -> Result<(), 
     push_range(text, is_numbered)
 }
 
-/// Appends what is advised on a first word.
+/// Appends the advice on a first word.
 fn push_advice(text: &mut Vec<u8>, word: Option<Name>, is_numbered: bool) -> Result<(), AllocError>
     ensures { OnOk result (text.new.items ≡ text.old.items ++ advice word is_numbered) }
 {
@@ -116,7 +116,7 @@ fn push_advice(text: &mut Vec<u8>, word: Option<Name>, is_numbered: bool) -> Res
     }
 }
 
-/// Appends what is answered to a line that is no command.
+/// Appends the answer to a line that is no command.
 #[tactic(auto, unfolding(crate::specs::Advice::unread_text))]
 pub(crate) fn push_unread(
     text: &mut Vec<u8>,

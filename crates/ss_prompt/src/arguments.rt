@@ -1,4 +1,4 @@
-//! What stands behind the first word of a line is read.
+//! Reads the words after the first word of a line.
 ghost use Rattle.std.specs.Prelude.{◌≡◌, ◌∷◌, [], codes};
 ghost use Rattle.ss_debug.specs.CommandLines.{command_words};
 ghost use Rattle.ss_prompt.specs.Words.{command_behind, only_name_of};
@@ -23,7 +23,7 @@ use ss_debug::{Command, Movement as PlainMovement, Name};
 use ss_program::Program;
 use ss_trace::{Movement, Question};
 
-/// A command behind which no word may stand.
+/// A command after which no word may come.
 pub(crate) fn alone(command: PromptCommand, rest: &[u8]) -> PromptCommand
     ensures { result ≡ alone command (command_words rest.now) }
 {
@@ -33,7 +33,7 @@ pub(crate) fn alone(command: PromptCommand, rest: &[u8]) -> PromptCommand
     command
 }
 
-/// OVER: so often as STEP makes steps.
+/// OVER: as often as STEP makes steps.
 pub(crate) fn over(rest: &[u8]) -> PromptCommand
     ensures { result ≡ over_of (command_behind (codes "STEP") (command_words rest.now)) }
 {
@@ -43,7 +43,7 @@ pub(crate) fn over(rest: &[u8]) -> PromptCommand
     }
 }
 
-/// BACK OVER: the same.
+/// BACK OVER: as often as STEP makes steps.
 fn back_over(rest: &[u8]) -> PromptCommand
     ensures { result ≡ back_over_of (command_behind (codes "STEP") (command_words rest.now)) }
 {
@@ -63,7 +63,7 @@ fn back_to(rest: &[u8]) -> PromptCommand
     }
 }
 
-/// What stands behind GO: END, or a position.
+/// The words after GO: END, or a position.
 pub(crate) fn go(rest: &[u8]) -> PromptCommand
     ensures { result ≡ go_command (command_words rest.now) }
 {
@@ -93,7 +93,7 @@ fn run_change(program: &Program, rest: &[u8]) -> PromptCommand
     }
 }
 
-/// BACK CHANGE: the same.
+/// BACK CHANGE: a question.
 fn back_change(program: &Program, rest: &[u8]) -> PromptCommand
     ensures { result ≡ question_command program.now (λ x. prompt.Travel (trace.BackChange x))
         (command_words rest.now) }
@@ -105,7 +105,7 @@ fn back_change(program: &Program, rest: &[u8]) -> PromptCommand
     }
 }
 
-/// What stands behind RUN.
+/// The words after RUN.
 pub(crate) fn run(program: &Program, rest: &[u8]) -> PromptCommand
     ensures { result ≡ run_command program.now (command_words rest.now) }
 {
@@ -118,7 +118,7 @@ pub(crate) fn run(program: &Program, rest: &[u8]) -> PromptCommand
     PromptCommand::Plain(Command::Bad)
 }
 
-/// What stands behind SHOW that is no question: CHANGED, or what else is seen.
+/// The words after SHOW that are no question: CHANGED, or another sight.
 fn sight_command(rest: &[u8]) -> PromptCommand
     ensures { result ≡ sight_command (command_words rest.now) }
 {
@@ -144,7 +144,7 @@ fn bare_command(program: &Program, name: Name) -> PromptCommand
     PromptCommand::Ask(bare(program, name))
 }
 
-/// What is seen, where a bare name is what it is declared as.
+/// A sight; a bare name is read by its declaration.
 fn seen_command(program: &Program, command: PromptCommand) -> PromptCommand
     ensures { result ≡ seen_command program.now command }
 {
@@ -154,7 +154,7 @@ fn seen_command(program: &Program, command: PromptCommand) -> PromptCommand
     }
 }
 
-/// What stands behind SHOW that is none of docs/DEBUGGER.md: a question, or what else is seen.
+/// The words after SHOW that are none of docs/DEBUGGER.md: a question, or another sight.
 pub(crate) fn show(program: &Program, rest: &[u8]) -> PromptCommand
     ensures { result ≡ show_command program.now (own_asked (command_words rest.now))
         (command_words rest.now) }
@@ -168,7 +168,7 @@ pub(crate) fn show(program: &Program, rest: &[u8]) -> PromptCommand
     }
 }
 
-/// What stands behind WHY: a question.
+/// The words after WHY: a question.
 pub(crate) fn why(program: &Program, rest: &[u8]) -> PromptCommand
     ensures { result ≡ question_command program.now prompt.Why (command_words rest.now) }
 {
@@ -206,7 +206,7 @@ fn history_by(
     }
 }
 
-/// What stands behind HISTORY: a question, and perhaps a number of rows.
+/// The words after HISTORY: a question, and perhaps a number of rows.
 #[tactic(auto, unfolding(crate::specs::Reading::history_command))]
 pub(crate) fn history(program: &Program, rest: &[u8]) -> PromptCommand
     ensures { result ≡ history_command program.now (command_words rest.now) }
@@ -214,7 +214,7 @@ pub(crate) fn history(program: &Program, rest: &[u8]) -> PromptCommand
     history_by(asked_in(program, rest), with_rows(program, rest))
 }
 
-/// What stands behind BACK.
+/// The words after BACK.
 pub(crate) fn back(program: &Program, rest: &[u8]) -> PromptCommand
     ensures { result ≡ back_command program.now (command_words rest.now) }
 {
@@ -236,7 +236,7 @@ pub(crate) fn back(program: &Program, rest: &[u8]) -> PromptCommand
     PromptCommand::Plain(Command::Bad)
 }
 
-/// One word behind LIST: a line as BREAK takes it, or the name of a section.
+/// One word after LIST: a line as BREAK takes it, or the name of a section.
 fn lines_of(word: &[u8]) -> PromptCommand
     ensures { result ≡ list_command (word.now ∷ []) }
 {
@@ -261,8 +261,7 @@ fn lines_between(from: Command, to: Command) -> PromptCommand
     }
 }
 
-/// What stands behind LIST: nothing, a line as BREAK takes it, two of them, or the name of a
-/// section.
+/// The words after LIST: none, a line as BREAK takes it, two of them, or the name of a section.
 pub(crate) fn list(rest: &[u8]) -> PromptCommand
     ensures { result ≡ list_command (command_words rest.now) }
 {
@@ -278,7 +277,7 @@ pub(crate) fn list(rest: &[u8]) -> PromptCommand
     )
 }
 
-/// What stands behind BREAK: the name of a section.
+/// The words after BREAK: the name of a section.
 pub(crate) fn break_section(rest: &[u8]) -> PromptCommand
     ensures { result ≡ made_or_bad prompt.BreakSection (only_name_of (command_words rest.now)) }
 {
@@ -288,7 +287,7 @@ pub(crate) fn break_section(rest: &[u8]) -> PromptCommand
     }
 }
 
-/// What stands behind CLEAR: the same.
+/// The words after CLEAR: the name of a section.
 pub(crate) fn clear_section(rest: &[u8]) -> PromptCommand
     ensures { result ≡ made_or_bad prompt.ClearSection (only_name_of (command_words rest.now)) }
 {
@@ -298,7 +297,7 @@ pub(crate) fn clear_section(rest: &[u8]) -> PromptCommand
     }
 }
 
-/// What stands behind DISPLAY: a question.
+/// The words after DISPLAY: a question.
 pub(crate) fn display(program: &Program, rest: &[u8]) -> PromptCommand
     ensures { result ≡ question_command program.now prompt.Display (command_words rest.now) }
 {
@@ -309,7 +308,7 @@ pub(crate) fn display(program: &Program, rest: &[u8]) -> PromptCommand
     }
 }
 
-/// What stands behind UNDISPLAY: nothing, or a question.
+/// The words after UNDISPLAY: none, or a question.
 pub(crate) fn undisplay(program: &Program, rest: &[u8]) -> PromptCommand
     ensures { result ≡ undisplay_command program.now (command_words rest.now) }
 {
@@ -323,7 +322,7 @@ pub(crate) fn undisplay(program: &Program, rest: &[u8]) -> PromptCommand
     }
 }
 
-/// What stands behind NAMES: nothing, or a name.
+/// The words after NAMES: none, or a name.
 pub(crate) fn names(rest: &[u8]) -> PromptCommand
     ensures { result ≡ names_command (command_words rest.now) }
 {
@@ -336,7 +335,7 @@ pub(crate) fn names(rest: &[u8]) -> PromptCommand
     }
 }
 
-/// What stands behind HELP: nothing, or a word; what is behind that does not count.
+/// The words after HELP: none, or a word; the words after that one do not count.
 pub(crate) fn help(rest: &[u8]) -> PromptCommand
     ensures { result ≡ help_command (command_words rest.now) }
 {

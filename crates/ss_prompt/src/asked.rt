@@ -1,4 +1,4 @@
-//! Questions whose answers may change are read.
+//! Reads the questions whose answers may change.
 ghost use Rattle.std.specs.Prelude.{◌≡◌};
 ghost use Rattle.ss_debug.specs.CommandLines.{command_words};
 ghost use Rattle.ss_prompt.specs.Asked.{attribute_asked, count_asked, own_asked, asked_of};
@@ -57,7 +57,7 @@ pub(crate) fn asked(words: &[u8]) -> Option<Question>
     }
 }
 
-/// What the words of a line ask, a bare name too.
+/// The question that the words of a line ask, a bare name too.
 fn asked_or_bare(program: &Program, words: &[u8]) -> Option<Question>
     ensures { result ≡ asked_or_bare program.now (command_words words.now) }
 {
@@ -68,7 +68,7 @@ fn asked_or_bare(program: &Program, words: &[u8]) -> Option<Question>
     Some(bare(program, name))
 }
 
-/// The same as a program has its names, or which of them it hasn't.
+/// That question as a program has its names, or which of them it hasn't.
 pub(crate) fn asked_in(program: &Program, words: &[u8]) -> Option<Result<Question, Missing>>
     ensures { result ≡ asked_in program.now (command_words words.now) }
 {

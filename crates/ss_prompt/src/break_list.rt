@@ -1,11 +1,11 @@
-//! The break lines are told.
+//! Prints the break lines.
 ghost use Rattle.std.specs.Prelude.{◌≡◌, ◌++◌, map, OnOk};
 ghost use Rattle.ss_prompt.specs.Breaks.{break_rows, breaks_text};
 
 use crate::source::push_marked_line;
 use std::alloc::AllocError;
 
-/// Appends some lines of the model, each behind its number and a colon.
+/// Appends some lines of the model, each after its number and a colon.
 fn push_break_rows(
     text: &mut Vec<u8>,
     lines: &[&[u8]],

@@ -1,4 +1,4 @@
-//! What a line of the prompt says.
+//! The commands of the prompt, one of which each line gives.
 ghost use Rattle.std.specs.Prelude.{◌≡◌};
 ghost use Rattle.ss_prompt.specs.Sections.{line_of_section, taken_line};
 
@@ -14,7 +14,7 @@ use ss_trace::{Movement, Question};
 pub enum PromptCommand {
     /// A line of docs/DEBUGGER.md, or one that is no command.
     Plain(Command),
-    /// A movement beside those of docs/DEBUGGER.md.
+    /// A movement that is none of docs/DEBUGGER.md.
     Travel(Movement),
     /// LIST: the lines about this one, or about the present one.
     Lines(Option<u32>),
@@ -30,15 +30,15 @@ pub enum PromptCommand {
     ClearSection(Name),
     /// BREAKS: the break lines.
     Breaks,
-    /// SHOW c k a, SHOW COUNT: a question beside those of docs/DEBUGGER.md.
+    /// SHOW c k a, SHOW COUNT: a question that is none of docs/DEBUGGER.md.
     Ask(Question),
-    /// SHOW: what else is seen of a state.
+    /// SHOW: another sight of a state.
     See(Sight),
-    /// SHOW CHANGED: what the last step changed.
+    /// SHOW CHANGED: the changes of the last step.
     Changed,
     /// WHY: the newest step at which a question changed.
     Why(Question),
-    /// HISTORY: so many steps at which a question changed, the newest first.
+    /// HISTORY: a number of steps at which a question changed, the newest first.
     History(Question, u64),
     /// DISPLAY: a question that is answered at each stop.
     Display(Question),
@@ -50,9 +50,9 @@ pub enum PromptCommand {
     Unread(Option<Name>, bool),
     /// A question of a name that the model hasn't.
     Missing(Missing),
-    /// NAMES: the names of the model, or what is told of this one.
+    /// NAMES: the names of the model, or the text on this one.
     Names(Option<Name>),
-    /// WARNINGS: what the model is warned of.
+    /// WARNINGS: the warnings on the model.
     Warnings,
     /// HELP: the commands, or those that begin with this word.
     Help(Option<Name>),
@@ -71,7 +71,7 @@ impl PromptCommand {
         )
     }
 
-    /// The line that it makes a break line, or no break line any more, where it does one of these.
+    /// The line that it makes a break line, or no break line any more, if it does one of these.
     pub fn point(&self, program: &Program) -> Option<u32>
         ensures { result ≡ point_of program.now self.now }
     {

@@ -1,4 +1,4 @@
-//! The words that may stand in a line, for who completes words.
+//! The words that may be in a line, for programs that complete words.
 ghost use Rattle.std.specs.Prelude.{◌≡◌, ◌++◌, ◌∷◌, [], OnOk};
 ghost use Rattle.ss_debug.specs.CommandLines.{command_words};
 ghost use Rattle.ss_prompt.specs.Completions.{word_lines, attribute_lines, set_lines, section_lines};
@@ -9,7 +9,7 @@ use crate::pieces::next_word;
 use ss_program::{Class, Name, Program, Section, Set};
 use std::alloc::AllocError;
 
-/// The words behind other first words than SHOW.
+/// The words after other first words than SHOW.
 const OTHER_WORDS: &[u8] = b"TO CHANGE EVENT END";
 
 /// Appends a word, and the end of its line.
@@ -87,11 +87,11 @@ fn push_commands(text: &mut Vec<u8>) -> Result<(), AllocError>
     push_table(text, OTHER_WORDS)
 }
 
-/// Appends the words that may stand in a line of the prompt (docs/PROMPT.md), each on a line: those
-/// of the commands, and the names of a program in the order of its tables. A name that stands in
-/// several tables is told as often.
+/// Appends the words that may be in a line of the prompt (docs/PROMPT.md), each on a line: those
+/// of the commands, and the names of a program in the order of its tables. A name in several tables
+/// is appended for each of them.
 ///
-/// `AllocError` where a growth was refused; then what was appended does not count.
+/// `AllocError` if a growth was refused; then the text that was appended does not count.
 pub fn push_completions(text: &mut Vec<u8>, program: &Program) -> Result<(), AllocError>
     ensures { OnOk result (text.new.items ≡ text.old.items ++ completions program.now) }
 {

@@ -19,20 +19,20 @@ pub(crate) const FIRST_WORDS: &[u8] =
     b"STEP RUN NEXT BACK BREAK CLEAR FORGET SHOW QUIT OVER OUT GO LIST BREAKS DISPLAY UNDISPLAY HELP \
     WHY HISTORY NAMES WARNINGS";
 
-/// The words that may stand behind SHOW.
+/// The words that may come after SHOW.
 pub(crate) const SHOW_WORDS: &[u8] =
     b"CLOCK WHERE VAR SET EVENTS TAKEN ENTRY REPORT COUNT IN CALLS LOCALS CLASSES SETS GLOBALS SECTIONS CHANGED";
 
-/// Where a word stands.
+/// The place of a word in its line.
 #[derive(Clone, Copy)]
 pub(crate) enum Standing {
     /// It is the first of its line.
     First,
-    /// Behind RUN.
+    /// After RUN.
     BehindRun,
-    /// Behind BACK.
+    /// After BACK.
     BehindBack,
-    /// Behind SHOW.
+    /// After SHOW.
     BehindShow,
     /// A question begins with it.
     Asked,
@@ -40,7 +40,7 @@ pub(crate) enum Standing {
     Free,
 }
 
-/// Where the word behind a first word stands.
+/// The place of the word after a first word.
 fn behind_first(word: &[u8]) -> Standing
     ensures { result ≡ behind_first word.now }
 {
@@ -62,7 +62,7 @@ fn behind_first(word: &[u8]) -> Standing
     Standing::Free
 }
 
-/// Where the word behind the second word of a movement stands.
+/// The place of the word after the second word of a movement.
 fn behind_movement(word: &[u8]) -> Standing
     ensures { result ≡ behind_movement word.now }
 {
@@ -74,7 +74,7 @@ fn behind_movement(word: &[u8]) -> Standing
 }
 
 impl Standing {
-    /// The words that may stand there.
+    /// The words that may come there.
     fn words(self) -> &'static [u8]
         ensures { result.now ≡ words_at self }
     {
@@ -88,7 +88,7 @@ impl Standing {
         }
     }
 
-    /// Where the next word stands.
+    /// The place of the next word.
     fn behind(self, word: &[u8]) -> Standing
         ensures { result ≡ behind self word.now }
     {
@@ -99,7 +99,7 @@ impl Standing {
         }
     }
 
-    /// Whether a question may stand there.
+    /// Whether a question may come there.
     fn is_asked(self) -> bool
         ensures { result ≡ is_asked self }
     {
@@ -114,7 +114,7 @@ fn begins(word: &[u8], other: &[u8]) -> bool
     word.len() <= other.len() && &other[..word.len()] == word
 }
 
-/// The first word of a table that a word begins, and what stands behind it.
+/// The first word of a table that a word begins, and the words after it.
 #[tactic(auto, using(crate::proofs::Filters::kept_first, crate::proofs::Filters::passed_first))]
 pub(crate) fn first_begun<'a>(table: &'a [u8], word: &[u8]) -> Option<(&'a [u8], &'a [u8])>
     ensures words { MatchOption result (filter (begins word.now) (command_words table.now) ≡ [])
@@ -132,8 +132,8 @@ pub(crate) fn first_begun<'a>(table: &'a [u8], word: &[u8]) -> Option<(&'a [u8],
     None
 }
 
-/// The word of a table for which a word of three letters or more stands, since it begins that one
-/// alone; else the word as it is.
+/// The only word of a table that a word of three letters or more begins, which it means; else the
+/// word as it is.
 #[tactic(auto, unfolding(crate::specs::Cuts::whole))]
 fn whole<'a>(table: &'a [u8], word: &'a [u8]) -> &'a [u8]
     ensures { result.now ≡ whole table.now word.now }
@@ -150,7 +150,7 @@ fn whole<'a>(table: &'a [u8], word: &'a [u8]) -> &'a [u8]
     other
 }
 
-/// The word for which a letter stands that begins a line; another word as it is.
+/// The word that a letter means at the beginning of a line; another word as it is.
 fn word_of_letter(word: &[u8]) -> &[u8]
     ensures { result.now ≡ word_of_letter word.now }
 {
@@ -172,7 +172,7 @@ fn word_of_letter(word: &[u8]) -> &[u8]
     word
 }
 
-/// A word with its letter spelled, where it begins a line.
+/// A word with its letter spelled, if it begins a line.
 fn spelled(at: Standing, word: &[u8]) -> &[u8]
     ensures { result.now ≡ spelled at word.now }
 {
@@ -182,8 +182,8 @@ fn spelled(at: Standing, word: &[u8]) -> &[u8]
     }
 }
 
-/// A word made whole by where it stands: one letter or more of it; where a question may stand, a
-/// name of the program stays what it is.
+/// A word made whole by its place in the line, from one letter or more of it. If a question may
+/// come there, a name of the program stays as it is.
 fn made_whole<'a>(program: &Program, at: Standing, word: &'a [u8]) -> &'a [u8]
     ensures { result.now ≡ made_whole program.now at word.now }
 {

@@ -1,4 +1,4 @@
-//! What the prompt keeps beside a debugger: with a debugger that is lent it obeys commands.
+//! The parts of the prompt that are not the debugger's: with a lent debugger they obey commands.
 ghost use Rattle.std.specs.Prelude.{◌≡◌, ◌++◌, [], map, OnOk, OnErr, IfOk, IsOk, true};
 ghost use Rattle.ss_console.specs.Going.{go_of};
 ghost use Rattle.ss_machine.specs.Moment.{position};
@@ -42,8 +42,8 @@ use std::alloc::{AllocError, Global};
 use std::marker::Model;
 use std::mem::swap;
 
-/// What the prompt keeps beside a debugger: the model, the lines of that, and the questions that are
-/// answered at each stop.
+/// The parts of the prompt that are not the debugger's: the model, its lines, and the questions
+/// that are answered at each stop.
 #[derive(Drop)]
 pub(crate) struct PromptDesk<'a> {
     model: &'a [u8],
@@ -99,7 +99,7 @@ impl<'a> PromptDesk<'a> {
         swap(&mut self.displays, displays);
     }
 
-    /// Appends what the fault means, where the state is faulted.
+    /// Appends the meaning of the fault, if the state is faulted.
     fn push_fault<S: SetBoard>(
         &self,
         debugger: &Debugger<S>,
@@ -127,7 +127,7 @@ impl<'a> PromptDesk<'a> {
         push_marked_line(answer, &self.lines, b"> ", present_line(machine))
     }
 
-    /// Appends what is told of where the debugger stands.
+    /// Appends the text on the debugger's state.
     fn push_place_text<S: SetBoard>(
         &self,
         debugger: &Debugger<S>,
@@ -141,7 +141,7 @@ impl<'a> PromptDesk<'a> {
         push_answers(debugger, &self.displays, text)
     }
 
-    /// Appends what the last step changed; where a movement went back, what the next one will.
+    /// Appends the changes of the last step; if a movement went back, the changes of the next one.
     #[tactic(auto, using(crate::proofs::NeighbourStates::beside), unfolding(crate::specs::Stops::HasLookedBeside))]
     fn push_changes<S: SetBoard>(
         &self,
@@ -163,7 +163,7 @@ impl<'a> PromptDesk<'a> {
         }
     }
 
-    /// Appends what is told where a movement stops, that went back or not.
+    /// Appends the text at the stop of a movement, which went back or not.
     #[tactic(auto, using(crate::proofs::StopRefusals::stops))]
     fn push_stop<S: SetBoard>(
         &self,
@@ -185,7 +185,7 @@ impl<'a> PromptDesk<'a> {
         push_answers(debugger, &self.displays, answer)
     }
 
-    /// Appends what the model is warned of.
+    /// Appends the warnings on the model.
     fn push_warnings<S: SetBoard>(
         &self,
         debugger: &Debugger<S>,
@@ -197,9 +197,9 @@ impl<'a> PromptDesk<'a> {
         push_all_warnings(self.alloc, self.model, debugger.machine().program(), text)
     }
 
-    /// Appends what is told at a terminal before the first line is read: that HELP tells the
-    /// commands, what the model is warned of, and where the debugger stands. After `AllocError` a
-    /// part of it may stand there.
+    /// Appends the text at a terminal before the first line is read: that HELP lists the commands,
+    /// the warnings on the model, and the state of the debugger. After `AllocError` a part of it
+    /// may be there.
     pub fn push_greeting<S: SetBoard>(
         &self,
         debugger: &Debugger<S>,
@@ -208,7 +208,7 @@ impl<'a> PromptDesk<'a> {
         ensures { OnOk result (text.new.items
             ≡ text.old.items ++ greeting (state_at debugger.now self.now)) }
     {
-        text.extend_from_slice(b"HELP TELLS THE COMMANDS.\n")?;
+        text.extend_from_slice(b"HELP SHOWS THE COMMANDS.\n")?;
         self.push_warnings(debugger, text)?;
         push_place(debugger, text)?;
         self.push_place_text(debugger, text)
@@ -244,7 +244,7 @@ impl<'a> PromptDesk<'a> {
         }
     }
 
-    /// A movement beside those of docs/DEBUGGER.md.
+    /// A movement that is none of docs/DEBUGGER.md.
     #[tactic(auto, using(crate::proofs::StopRefusals::movements))]
     fn travel<S: SetBoard>(
         &self,
@@ -264,7 +264,7 @@ impl<'a> PromptDesk<'a> {
         self.push_stop(debugger, is_back, answer)
     }
 
-    /// SHOW of what else is seen.
+    /// SHOW of another sight.
     fn see<S: SetBoard>(
         &self,
         debugger: &Debugger<S>,
@@ -369,7 +369,7 @@ impl<'a> PromptDesk<'a> {
         undisplay_one(self.alloc, &mut self.displays, &question, answer)
     }
 
-    /// Does what a command says, and appends its whole answer.
+    /// Does the work of a command, and appends its whole answer.
     #[tactic(auto, unfolding(crate::proofs::Unfoldings::commands))]
     fn follow<S: SetBoard>(
         &mut self,
@@ -416,9 +416,9 @@ impl<'a> PromptDesk<'a> {
         Ok(Go::On)
     }
 
-    /// Does what a command of docs/PROMPT.md says with a debugger that is lent, and appends its whole
-    /// answer. `AllocError` where memory was refused: then nothing of the answer counts, and the
-    /// debugger may stand at another state of the same run. QUIT wants no memory.
+    /// Does the work of a command of docs/PROMPT.md with a debugger that is lent, and appends its
+    /// whole answer. `AllocError` if memory was refused: then nothing of the answer counts, and the
+    /// debugger may be at another state of the same run. QUIT needs no memory.
     pub fn obey<S: SetBoard>(
         &mut self,
         debugger: &mut Debugger<S>,

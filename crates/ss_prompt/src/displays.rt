@@ -73,7 +73,7 @@ fn push_set(answer: &mut Vec<u8>, text: &[u8]) -> Result<(), AllocError>
     answer.extend_from_slice(b" SET\n")
 }
 
-/// Answers no question at stops any more, and tells how many there were.
+/// Answers no question at stops any more, and says how many there were.
 pub(crate) fn undisplay(
     displays: &mut Vec<Question>,
     answer: &mut Vec<u8>,
@@ -139,7 +139,7 @@ pub(crate) fn undisplay_one(
     Ok(())
 }
 
-/// Appends the answers to some questions, where the machine stands.
+/// Appends the answers to some questions, in the state of the machine.
 pub(crate) fn push_answers<S: SetBoard>(
     debugger: &Debugger<S>,
     questions: &[Question],

@@ -1,4 +1,4 @@
-//! What explains that a rule of the checker refuses a model.
+//! The explanation of a refusal of a model by a rule of the checker.
 ghost use Rattle.std.specs.Prelude.{◌≡◌, ◌++◌, OnOk};
 ghost use Rattle.ss_sentences.specs.Wording.{rule_sentence};
 ghost use Rattle.ss_prompt.specs.Explained.{has_blank, rule_line, check_explanation};
@@ -15,7 +15,7 @@ fn has_blank(sentence: &[u8]) -> bool
     sentence.iter().any(|b| *b == b'{')
 }
 
-/// Appends what a rule means, if its sentence has no blank.
+/// Appends the meaning of a rule, if its sentence has no blank.
 fn push_rule(text: &mut Vec<u8>, code: &str) -> Result<(), AllocError>
     ensures { OnOk result (text.new.items
         ≡ text.old.items ++ rule_line code.now (rule_sentence code.now)) }
@@ -30,9 +30,9 @@ fn push_rule(text: &mut Vec<u8>, code: &str) -> Result<(), AllocError>
     text.extend_from_slice(b"\n")
 }
 
-/// Appends what explains that the rule of the checker with this code refuses a model at a line,
-/// which is counted from 1: what the rule means, the line as it is written, and which name the breach
-/// is about. After `AllocError` a part of it may be there.
+/// Appends the explanation of a refusal of a model by the rule of the checker with this code at a
+/// line, which is counted from 1: the meaning of the rule, the line as it is written, and the name
+/// that the breach is about. After `AllocError` a part of it may be there.
 pub fn push_check_explanation(
     alloc: Global,
     model: &[u8],

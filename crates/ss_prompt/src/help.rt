@@ -5,8 +5,7 @@ ghost use Rattle.ss_prompt.specs.Help.{all_rows, rows_of, has_row, help_rows, he
 use ss_debug::Name;
 use std::alloc::AllocError;
 
-/// A row for each form of a command: the word that it begins with; how it is written, and what it
-/// does.
+/// A row for each form of a command: the word that it begins with; its form, and its effect.
 pub const HELP_ROWS: [(&[u8], &[u8]); 57] = [
     (b"STEP", b"STEP [n]: n steps forward, 1 if not said"),
     (
@@ -16,7 +15,7 @@ pub const HELP_ROWS: [(&[u8], &[u8]); 57] = [
     (b"RUN", b"RUN TO t: forward to time t or a break line"),
     (
         b"RUN",
-        b"RUN CHANGE x: forward to behind a step that changes x",
+        b"RUN CHANGE x: forward to after a step that changes x",
     ),
     (b"NEXT", b"NEXT: forward to the next event start"),
     (
@@ -35,7 +34,10 @@ pub const HELP_ROWS: [(&[u8], &[u8]); 57] = [
         b"BACK",
         b"BACK OVER [n]: back over n statements of this section",
     ),
-    (b"BACK", b"BACK OUT: back to what called this section"),
+    (
+        b"BACK",
+        b"BACK OUT: back to the statement that called this section",
+    ),
     (b"BACK", b"BACK TO t: back to a state before time t"),
     (b"GO", b"GO p: to state p, forward or back"),
     (b"GO", b"GO END: forward to the end, without a bound"),
@@ -65,7 +67,7 @@ pub const HELP_ROWS: [(&[u8], &[u8]); 57] = [
     ),
     (
         b"SHOW",
-        b"SHOW IN c k: the lists in which it stands, and when it is to happen",
+        b"SHOW IN c k: the lists that it is in, and when it is due",
     ),
     (
         b"SHOW",
@@ -105,7 +107,7 @@ pub const HELP_ROWS: [(&[u8], &[u8]); 57] = [
     (b"UNDISPLAY", b"UNDISPLAY x: answer x at stops no more"),
     (
         b"NAMES",
-        b"NAMES: the names of the model, how often each stands, and its first line",
+        b"NAMES: the names of the model, how often each occurs, and its first line",
     ),
     (
         b"NAMES",
@@ -206,7 +208,7 @@ fn push_no_help(text: &mut Vec<u8>, word: &[u8]) -> Result<(), AllocError>
     text.extend_from_slice(b"\n")
 }
 
-/// Appends what HELP answers on a word, by these rows.
+/// Appends the answer to HELP on a word, by these rows.
 fn push_help_by(
     text: &mut Vec<u8>,
     word: &[u8],
@@ -223,7 +225,7 @@ fn push_help_by(
     push_no_help(text, word)
 }
 
-/// Appends what HELP answers.
+/// Appends the answer to HELP.
 #[tactic(auto, unfolding(crate::specs::Help::help_said))]
 pub(crate) fn push_help(text: &mut Vec<u8>, word: Option<Name>) -> Result<(), AllocError>
     ensures { OnOk result (text.new.items ≡ text.old.items ++ help_said word) }

@@ -1,4 +1,4 @@
-//! What stands behind HISTORY is read.
+//! Reads the words after HISTORY.
 ghost use Rattle.std.specs.Prelude.{◌≡◌, [], codes};
 ghost use Rattle.ss_debug.specs.CommandLines.{command_words};
 ghost use Rattle.ss_prompt.specs.Words.{line_behind, command_behind};
@@ -12,7 +12,7 @@ use ss_debug::Command;
 use ss_program::Program;
 use ss_trace::Question;
 
-/// How many rows HISTORY tells where it isn't said.
+/// How many rows HISTORY shows if no number is given.
 pub const ROWS_UNLESS_SAID: u64 = 10;
 
 /// A line of the words of another without the last, if it is no longer than a line may be.
@@ -34,7 +34,7 @@ fn all_but_last(line: &[u8]) -> Option<Line>
     Some(made)
 }
 
-/// What the last word of a line says behind FORGET.
+/// The command in the last word of a line after FORGET.
 fn forget_last(line: &[u8]) -> Command
     ensures { result ≡ command_behind (codes "FORGET") (only_last (command_words line.now)) }
 {

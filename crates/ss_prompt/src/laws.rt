@@ -18,15 +18,15 @@ pub fn plain_answers_come_first()
     ensures { PlainAnswersComeFirst }
 {}
 
-/// Lines that are all such commands are answered as in a transcript, with more behind each answer,
-/// and lead to the state of which that tells the report.
+/// Lines that are all such commands are answered as in a transcript, with more after each answer,
+/// and lead to the state whose report the transcript shows.
 pub fn plain_lines_answer_the_batch()
     ensures answers { PlainLinesAnswerTheBatch }
     ensures report { PlainLinesLeadAsTheBatch }
 {}
 
-/// The lines of a text, each as a console keeps it, say what they say in a batch, and a text of such
-/// commands alone is answered as in its transcript, with more behind each answer.
+/// The lines of a text, each as a console keeps it, give the same commands as in a batch. A text of
+/// only such commands is answered as in its transcript, with more after each answer.
 pub fn plain_texts_answer_the_batch()
     ensures lines { LinesAreThoseOfTheBatch }
     ensures kept { KeptLinesSayTheSame }
@@ -40,8 +40,8 @@ pub fn other_commands_leave_the_debugger()
     ensures position { OthersStandStill }
 {}
 
-/// What a question names that a program hasn't is told as SHOW answers it in every state; of an
-/// attribute, where the entity is there.
+/// A name in a question that a program hasn't is reported as SHOW answers it in every state; for an
+/// attribute, if the entity is there.
 pub fn what_is_missing_is_answered_so()
     ensures variables { MissingVariablesAreAnsweredSo }
     ensures lists { MissingListsAreAnsweredSo }

@@ -14,7 +14,7 @@ use ss_links::SetBoard;
 use ss_trace::Question;
 use std::alloc::{AllocError, Global};
 
-/// Does what a command says, in the run of a model with these lines.
+/// Does the work of a command, in the run of a model with these lines.
 fn answer_with<'a, S: SetBoard>(
     alloc: Global,
     debugger: &mut Debugger<S>,
@@ -42,11 +42,11 @@ fn answer_with<'a, S: SetBoard>(
     obeyed
 }
 
-/// Does what a command of docs/PROMPT.md says with a debugger that is lent, in the run of a model,
-/// and appends its whole answer. The questions are those that are answered at each stop.
+/// Does the work of a command of docs/PROMPT.md with a debugger that is lent, in the run of a
+/// model, and appends its whole answer. The questions are those that are answered at each stop.
 ///
-/// `AllocError` where memory was refused: then nothing of the answer counts, and the debugger stands
-/// where a prompt leaves it, in the same run.
+/// `AllocError` if memory was refused: then nothing of the answer counts, and the debugger is in a
+/// state in which a prompt leaves it, in the same run.
 pub fn answer_command<S: SetBoard>(
     alloc: Global,
     debugger: &mut Debugger<S>,

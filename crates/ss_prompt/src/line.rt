@@ -1,4 +1,4 @@
-//! Lines that are made of words, and what they say to the debugger.
+//! Lines that are made of words, and the debugger's commands in them.
 ghost use Rattle.std.specs.Prelude.{◌≡◌, ◌<◌, ◌≤◌, ◌∷◌, [], length, fold, codes, None, Some};
 ghost use Rattle.ss_console.specs.declared.lines.TheConstants.{LONGEST_LINE};
 ghost use Rattle.ss_debug.specs.CommandLines.{command_words};
@@ -25,7 +25,7 @@ impl Model for Line {
 }
 
 impl Line {
-    /// A line of these bytes; none where they are more than a line may have.
+    /// A line of these bytes; none if they are more than a line may have.
     pub fn new(bytes: &[u8]) -> Option<Line>
         ensures fits { length bytes.now ≤ LONGEST_LINE → result ≡ Some bytes.now }
         ensures long { LONGEST_LINE < length bytes.now → result ≡ None }
@@ -54,7 +54,7 @@ impl Line {
         Some(line)
     }
 
-    /// The line with the words of another behind its own, if it is no longer than a line may be.
+    /// The line with the words of another after its own, if it is no longer than a line may be.
     #[tactic(auto, using(crate::proofs::Lines::too_long))]
     pub fn with_words(self, rest: &[u8]) -> Option<Line>
         ensures { result ≡ fold with_word (Some self) (command_words rest.now) }
@@ -85,7 +85,7 @@ fn line_behind(head: &[u8], rest: &[u8]) -> Option<Line>
     line.with_words(rest)
 }
 
-/// What the words of a line say to the debugger behind a beginning.
+/// The debugger's command in the words of a line after a beginning.
 pub(crate) fn command_behind(head: &[u8], rest: &[u8]) -> Command
     requires { length head.now ≤ LONGEST_LINE }
     ensures { result ≡ command_behind head.now (command_words rest.now) }
@@ -96,7 +96,7 @@ pub(crate) fn command_behind(head: &[u8], rest: &[u8]) -> Command
     }
 }
 
-/// What one word says to the debugger behind a beginning.
+/// The debugger's command in one word after a beginning.
 pub(crate) fn command_of_word(head: &[u8], word: &[u8]) -> Command
     requires { length head.now ≤ LONGEST_LINE }
     ensures { result ≡ command_behind head.now (word.now ∷ []) }
@@ -120,7 +120,7 @@ pub(crate) fn name_of_word(word: &[u8]) -> Option<Name>
     }
 }
 
-/// What two words say to the debugger behind SHOW.
+/// The debugger's command in two words after SHOW.
 #[tactic(auto, using(crate::proofs::Lines::one_too_long))]
 pub(crate) fn command_of_two(what: &[u8], word: &[u8]) -> Command
     ensures { result ≡ command_behind (codes "SHOW") (what.now ∷ word.now ∷ []) }

@@ -7,7 +7,7 @@ use crate::source::push_marked_line;
 use itoa::Buffer;
 use std::alloc::AllocError;
 
-/// How many lines before a line, and how many behind it, are listed with it.
+/// How many lines before a line, and how many after it, are listed with it.
 const LINES_BESIDE: usize = 5;
 
 /// The mark of a line: that of the present place, or another.
@@ -17,7 +17,7 @@ fn mark_of(present: usize, line: usize) -> &'static [u8]
     if line == present { b"> " } else { b": " }
 }
 
-/// Appends so many lines from one on.
+/// Appends a number of lines from one on.
 fn push_lines(
     text: &mut Vec<u8>,
     lines: &[&[u8]],

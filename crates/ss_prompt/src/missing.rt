@@ -1,4 +1,4 @@
-//! What the names of a question are in a program, and which of them it hasn't.
+//! The names of a question in a program, and which of them it hasn't.
 ghost use Rattle.std.specs.Prelude.{◌≡◌, ◌++◌, OnOk, is_some};
 ghost use Rattle.std.specs.List.{list_any};
 ghost use Rattle.std.specs.Str.{bytes_eq};
@@ -15,7 +15,7 @@ use ss_program::{Name as DeclaredName, Owner, Program, Section};
 use ss_trace::Question;
 use std::alloc::AllocError;
 
-/// What a question names that the model hasn't.
+/// The name or the owner in a question that the model hasn't.
 #[derive(Drop)]
 pub enum Missing {
     /// No variable has this name: neither a global one, nor one of any section.
@@ -204,9 +204,9 @@ fn shown(program: &Program, question: PlainQuestion) -> Result<Question, Missing
     }
 }
 
-/// A question as a program has its names, before any run: a set in the place of a class is asked for
-/// the list of an owner. The error is the first of its names that the program hasn't; of a list of
-/// the system that is asked for by a number, that number.
+/// A question as a program has its names, before any run: a set in place of a class is asked for
+/// the list of an owner. The error is the first of its names that the program hasn't. For a list of
+/// the system that is asked for by a number, the error is that number.
 #[tactic(auto, unfolding(crate::specs::Missing::asked_of_program))]
 pub fn asked_of_program(program: &Program, question: Question) -> Result<Question, Missing>
     ensures { result ≡ spec.asked_of_program program.now question }
@@ -218,7 +218,7 @@ pub fn asked_of_program(program: &Program, question: Question) -> Result<Questio
     }
 }
 
-/// What a bare name asks: a set, or else a variable.
+/// The question that a bare name asks: a set, or else a variable.
 pub(crate) fn bare(program: &Program, name: Name) -> Question
     ensures { result ≡ spec.bare_asked program.now name }
 {
@@ -250,8 +250,9 @@ fn push_no_entity(text: &mut Vec<u8>, class: &[u8], x: i64) -> Result<(), AllocE
     text.extend_from_slice(b"\n")
 }
 
-/// Appends what the model hasn't, as SHOW answers it, a line: `NO VARIABLE v`, `NO SET s`, `NO CLASS
-/// c`, `NO ATTRIBUTE a`, or `NO ENTITY SYSTEM k`. After `AllocError` a part of it may be there.
+/// Appends the thing that the model hasn't, as SHOW answers it, a line: `NO VARIABLE v`,
+/// `NO SET s`, `NO CLASS c`, `NO ATTRIBUTE a`, or `NO ENTITY SYSTEM k`. After `AllocError` a part
+/// of it may be there.
 #[tactic(auto, unfolding(crate::specs::Missing::missing_text))]
 pub fn push_missing(text: &mut Vec<u8>, missing: &Missing) -> Result<(), AllocError>
     ensures { OnOk result (text.new.items ≡ text.old.items ++ spec.missing_text missing.now) }

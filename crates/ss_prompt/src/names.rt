@@ -1,4 +1,4 @@
-//! The names of a model, and what it is warned of.
+//! The names of a model, and the warnings on it.
 ghost use Rattle.std.specs.Prelude.{◌≡◌, ◌++◌, OnOk};
 ghost use Rattle.ss_prompt.specs.Names.{names_said, warnings_told, warnings_said};
 
@@ -7,7 +7,7 @@ use ss_names::{push_name, push_names, push_program_warnings, push_warnings};
 use ss_program::Program;
 use std::alloc::{AllocError, Global};
 
-/// Appends what NAMES answers: the names of a model, or what one of them is.
+/// Appends the answer to NAMES: the names of a model, or the text on one of them.
 #[tactic(auto, unfolding(crate::specs::Names::names_said))]
 pub(crate) fn push_names_said(
     alloc: Global,
@@ -28,7 +28,7 @@ pub(crate) fn push_names_said(
     answer.extend_from_slice(b"NO NAMES\n")
 }
 
-/// Appends what a model is warned of: of its words, and of its program.
+/// Appends the warnings on a model: on its words, and on its program.
 #[tactic(auto, unfolding(crate::specs::Names::warnings_told))]
 pub(crate) fn push_all_warnings(
     alloc: Global,
@@ -42,7 +42,7 @@ pub(crate) fn push_all_warnings(
     push_program_warnings(alloc, program, model, text)
 }
 
-/// Appends what WARNINGS answers.
+/// Appends the answer to WARNINGS.
 #[tactic(auto, unfolding(crate::specs::Names::warnings_said))]
 pub(crate) fn push_warnings_said(
     alloc: Global,

@@ -17,7 +17,7 @@ fn separator_at(text: &[u8]) -> usize
     text.len()
 }
 
-/// What stands before the first separator of words, and behind it; all and nothing where there is
+/// The text before the first separator of words, and the text after it; all and nothing if there is
 /// none.
 fn split_at_separator(text: &[u8]) -> (&[u8], &[u8])
     ensures before { result.0.now ≡ before_first (separates word_separators) text.now }
@@ -32,7 +32,7 @@ fn split_at_separator(text: &[u8]) -> (&[u8], &[u8])
     (&text[..n], &text[n + 1..])
 }
 
-/// The first word of a line, and what stands behind it; none where the line has no words.
+/// The first word of a line, and the text after it; none if the line has no words.
 #[tactic(auto, using(ss_debug::proofs::Splits::words_first, ss_debug::proofs::Splits::words_none))]
 pub(crate) fn next_word(line: &[u8]) -> Option<(&[u8], &[u8])>
     ensures words { MatchOption result (command_words line.now ≡ [])

@@ -53,7 +53,7 @@ fn push_next(text: &mut Vec<u8>, next: Option<usize>) -> Result<(), AllocError>
     push_number(text, next as u64)
 }
 
-/// Appends that no place is on a line, and which line behind it has one.
+/// Appends that no place is on a line, and which line after it has one.
 pub(crate) fn push_no_place(
     text: &mut Vec<u8>,
     line: u32,

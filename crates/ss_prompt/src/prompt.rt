@@ -49,7 +49,7 @@ impl<'a, S: SetBoard> Prompt<'a, S> {
         Prompt { debugger, desk }
     }
 
-    /// Gives the debugger away, and lets go of what is kept beside it.
+    /// Gives the debugger away, and lets go of the other parts of the prompt.
     pub fn into_debugger(self) -> Debugger<S>
         ensures input { result.machine.input ≡ self.entry.input }
         ensures state { debugger_state_of result ≡ self.entry.debugger }
@@ -67,9 +67,9 @@ impl<'a, S: SetBoard> Prompt<'a, S> {
         self.debugger.machine().status()
     }
 
-    /// Appends what is told at a terminal before the first line is read: that HELP tells the
-    /// commands, what the model is warned of, and where the debugger stands. After `AllocError` a
-    /// part of it may stand there.
+    /// Appends the text at a terminal before the first line is read: that HELP lists the commands,
+    /// the warnings on the model, and the state of the debugger. After `AllocError` a part of it
+    /// may be there.
     pub fn push_greeting(&self, text: &mut Vec<u8>) -> Result<(), AllocError>
         ensures { OnOk result (text.new.items ≡ text.old.items ++ greeting self.now) }
     {
@@ -77,7 +77,7 @@ impl<'a, S: SetBoard> Prompt<'a, S> {
     }
 }
 
-/// Whether the dialogue goes on behind a line: only QUIT ends it.
+/// Whether the dialogue goes on after a line: only QUIT ends it.
 fn going(line: &[u8]) -> Go
     ensures { result ≡ go_of (is_plain_quit (plain_command_of line.now)) }
 {

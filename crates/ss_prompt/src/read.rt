@@ -1,4 +1,4 @@
-//! Lines of the prompt are read.
+//! Reads the lines of the prompt.
 ghost use Rattle.std.specs.Prelude.{◌≡◌};
 ghost use Rattle.ss_debug.specs.CommandLines.{command_words};
 ghost use Rattle.ss_prompt.specs.Reading.{own_in_words, own_of_whole, own_command_of, break_command};
@@ -22,7 +22,7 @@ use ss_debug::{Command, Name, Question as PlainQuestion, command};
 use ss_program::Program;
 use ss_trace::Movement;
 
-/// What the words of a line say that is none of docs/DEBUGGER.md.
+/// The command in the words of a line that is none of docs/DEBUGGER.md.
 #[tactic(auto, unfolding(crate::specs::Reading::own_in_words))]
 fn own_in_words(program: &Program, line: &[u8]) -> PromptCommand
     ensures { result ≡ own_in_words program.now (command_words line.now) }
@@ -95,7 +95,7 @@ fn break_command(program: &Program, line: u32) -> PromptCommand
     PromptCommand::NoPlace(line, next)
 }
 
-/// `c k`, where c may be a set.
+/// `c k`; c may be a set.
 fn entity_command(program: &Program, name: Name, x: i64) -> PromptCommand
     ensures { result ≡ entity_command program.now name x }
 {
@@ -107,8 +107,8 @@ fn entity_command(program: &Program, name: Name, x: i64) -> PromptCommand
     PromptCommand::Plain(Command::Show(question))
 }
 
-/// A command of docs/DEBUGGER.md as it is meant at the prompt, where BREAK wants a line with a
-/// place, and a set may stand in the place of a class.
+/// A command of docs/DEBUGGER.md as it is meant at the prompt: BREAK needs a line with a place,
+/// and a set may come in place of a class.
 #[tactic(auto, unfolding(crate::specs::Reading::plain_meant))]
 fn plain_meant(program: &Program, command: Command) -> PromptCommand
     ensures { result ≡ plain_meant program.now command }
@@ -120,7 +120,7 @@ fn plain_meant(program: &Program, command: Command) -> PromptCommand
     }
 }
 
-/// A command, or what is to be told of a line that is none.
+/// A command, or the advice on a line that is none.
 fn advised(line: &[u8], command: PromptCommand) -> PromptCommand
     ensures { result ≡ advised (command_words line.now) command }
 {
@@ -132,7 +132,7 @@ fn advised(line: &[u8], command: PromptCommand) -> PromptCommand
     }
 }
 
-/// What a line says whose words are whole, if it is not too long.
+/// The command in a line whose words are whole, if it is not too long.
 fn own_of_whole(program: &Program, line: Option<Line>) -> PromptCommand
     ensures { result ≡ own_of_whole program.now line }
 {
@@ -146,7 +146,7 @@ fn own_of_whole(program: &Program, line: Option<Line>) -> PromptCommand
     }
 }
 
-/// What a line says that is none of docs/DEBUGGER.md as it stands.
+/// The command in a line that is none of docs/DEBUGGER.md as it is written.
 #[tactic(auto, unfolding(crate::specs::Reading::own_command_of), using(ss_debug::proofs::Names::take_front))]
 fn own_command(program: &Program, line: &[u8]) -> PromptCommand
     ensures { result ≡ own_command_of program.now line.now }
@@ -160,7 +160,7 @@ fn own_command(program: &Program, line: &[u8]) -> PromptCommand
     own_of_whole(program, whole_line(program, &upper[..line.len()]))
 }
 
-/// What a line says in docs/DEBUGGER.md with its first word made whole.
+/// The command of docs/DEBUGGER.md in a line with its first word made whole.
 #[tactic(auto, unfolding(crate::specs::Reading::first_whole_command_of), using(ss_debug::proofs::Names::take_front))]
 fn first_whole_command(line: &[u8]) -> Command
     ensures { result ≡ first_whole_command_of line.now }
@@ -177,7 +177,7 @@ fn first_whole_command(line: &[u8]) -> Command
     }
 }
 
-/// What a line says in docs/DEBUGGER.md as it stands, or else with its first word made whole.
+/// The command of docs/DEBUGGER.md in a line as written, or else with its first word made whole.
 #[tactic(auto, unfolding(crate::specs::Reading::plain_command_of))]
 pub(crate) fn plain_command(line: &[u8]) -> Command
     ensures { result ≡ plain_command_of line.now }
@@ -188,8 +188,8 @@ pub(crate) fn plain_command(line: &[u8]) -> Command
     }
 }
 
-/// What a line of the prompt says about a program (docs/PROMPT.md): what it says in
-/// docs/DEBUGGER.md, where it is a command there; else what it says with its words made whole. It
+/// The command in a line of the prompt about a program (docs/PROMPT.md): the command of
+/// docs/DEBUGGER.md, if the line is one; else the command of the line with its words made whole. It
 /// takes no memory.
 #[tactic(auto, unfolding(crate::specs::Reading::prompt_command_of))]
 pub fn prompt_command(program: &Program, line: &[u8]) -> PromptCommand

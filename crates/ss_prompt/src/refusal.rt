@@ -1,4 +1,4 @@
-//! That memory was refused is told, and where the debugger stands then.
+//! The answer if memory was refused: that it was, and the state of the debugger then.
 ghost use Rattle.std.specs.Prelude.{◌≡◌, ◌-◌, ◌^◌, ◌<◌, ◌++◌, OnOk, OnErr};
 ghost use Rattle.ss_console.specs.Event.{Adds, write_events};
 ghost use Rattle.ss_console.specs.Faults.{one_more_put};
@@ -57,8 +57,8 @@ fn put_parts<'a, C: Console>(
     )
 }
 
-/// Writes that memory was refused, and where a machine stands, by the word of its status and the
-/// number behind that word.
+/// Writes that memory was refused, and the state of a machine, by the word of its status and the
+/// number after that word.
 fn put_with<S: SetBoard, C: Console>(
     console: &mut C,
     machine: &Machine<S>,
@@ -94,7 +94,7 @@ fn put_with<S: SetBoard, C: Console>(
     )
 }
 
-/// Writes that memory was refused, and the state line of a machine; it wants no memory itself.
+/// Writes that memory was refused, and the state line of a machine; it needs no memory itself.
 pub(crate) fn put_refusal_at<S: SetBoard, C: Console>(
     console: &mut C,
     machine: &Machine<S>,
@@ -115,7 +115,7 @@ pub(crate) fn put_refusal_at<S: SetBoard, C: Console>(
     put_with(console, machine, word, number)
 }
 
-/// The word of a status, and the number behind it.
+/// The word of a status, and the number after it.
 fn status_pieces(status: Status, number: &mut Buffer) -> (&[u8], &[u8])
     ensures { status_text status ≡ result.0.now ++ result.1.now }
 {

@@ -10,7 +10,7 @@ use ss_machine::Machine;
 use ss_program::{Program, Spot};
 use std::alloc::AllocError;
 
-/// The line of a place, 0 where there is none.
+/// The line of a place, 0 if there is none.
 fn line_of(places: &[Spot], place: usize) -> usize
     ensures { result ≡ spot_line (slice_get places.now place) }
 {
@@ -53,7 +53,7 @@ pub(crate) fn last_line(program: &Program, section: usize) -> usize
     line_of(places, places.len().saturating_sub(1))
 }
 
-/// The line of the place where a machine stands.
+/// The line of the present place of a machine.
 pub(crate) fn present_line<S: SetBoard>(machine: &Machine<S>) -> usize
     ensures { result ≡ line_at machine.now.input (moment_position machine.now) }
 {

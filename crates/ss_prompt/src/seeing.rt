@@ -1,4 +1,4 @@
-//! What is seen of a state: read, and told.
+//! The sights of a state: their reading, and their texts.
 ghost use Rattle.std.specs.Prelude.{◌≡◌, ◌++◌, codes, OnOk};
 ghost use Rattle.ss_machine.specs.Moment.{position};
 ghost use Rattle.ss_debug.specs.CommandLines.{command_words};
@@ -18,7 +18,7 @@ use ss_links::SetBoard;
 use ss_machine::Machine;
 use std::alloc::{AllocError, Global};
 
-/// What one word behind SHOW tells.
+/// The sight of one word after SHOW.
 fn sight_alone(what: &[u8]) -> Option<Sight>
     ensures { result ≡ sight_alone what.now }
 {
@@ -76,7 +76,7 @@ fn is_question_word(what: &[u8]) -> bool
     what == b"VAR".as_slice() || what == b"SET".as_slice() || what == b"COUNT".as_slice()
 }
 
-/// What the words of a line behind SHOW tell.
+/// The sight of the words of a line after SHOW.
 pub(crate) fn sight(words: &[u8]) -> Option<Sight>
     ensures { result ≡ sight_of (command_words words.now) }
 {
@@ -93,7 +93,7 @@ pub(crate) fn sight(words: &[u8]) -> Option<Sight>
     by_variable(what, word, rest)
 }
 
-/// Appends what is told where the machine stands.
+/// Appends the text of a sight, in the state of the machine.
 pub(crate) fn push_sight<S: SetBoard>(
     alloc: Global,
     text: &mut Vec<u8>,

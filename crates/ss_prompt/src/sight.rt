@@ -1,7 +1,7 @@
-//! What is seen of a state, beside the questions.
+//! The sights of a state, next to the questions.
 use ss_debug::Name;
 
-/// What SHOW tells of a state beside the questions (docs/PROMPT.md).
+/// A sight of a state that SHOW gives, next to its answers to questions (docs/PROMPT.md).
 #[derive(Drop)]
 pub enum Sight {
     /// SHOW CALLS: the frames, the last first.
@@ -20,6 +20,6 @@ pub enum Sight {
     Living(Name),
     /// SHOW c v, SHOW c v a: the entity whose number this variable holds, or this attribute of it.
     ByVariable(Name, Name, Option<Name>),
-    /// SHOW IN c k: the lists in which this entity stands, and when it is to happen.
+    /// SHOW IN c k: the lists in which this entity is, and when it is to happen.
     Places(Name, i64),
 }

@@ -30,7 +30,7 @@ pub fn source_lines<'a>(alloc: Global, model: &'a [u8]) -> Result<Vec<&'a [u8]>,
     Ok(lines)
 }
 
-/// Line `number` of the model, the first of which is line 1; nothing where there is none.
+/// Line `number` of the model, the first of which is line 1; nothing if there is none.
 fn line_text<'a>(lines: &[&'a [u8]], number: usize) -> &'a [u8]
     ensures { result.now ≡ line_text (map (λ line. line.now) lines.now) number }
 {
@@ -40,8 +40,8 @@ fn line_text<'a>(lines: &[&'a [u8]], number: usize) -> &'a [u8]
     lines[number - 1]
 }
 
-/// Appends line `number` of the model behind its number and a mark; behind the mark stands nothing
-/// where there is no such line.
+/// Appends line `number` of the model after its number and a mark; nothing comes after the mark if
+/// there is no such line.
 pub fn push_marked_line(
     text: &mut Vec<u8>,
     lines: &[&[u8]],

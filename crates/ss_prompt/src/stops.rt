@@ -15,7 +15,7 @@ pub(crate) fn goes_back(movement: PlainMovement) -> bool
     )
 }
 
-/// Whether a movement beside those goes back from a position.
+/// Whether a movement that is none of docs/DEBUGGER.md goes back from a position.
 pub(crate) fn travels_back(movement: &Movement, position: u64) -> bool
     ensures { result ≡ travels_back movement.now position }
 {

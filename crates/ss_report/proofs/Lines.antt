@@ -53,7 +53,7 @@ line_parts-field : (bs : List ℕ) → 0 < prefix_len is_asterisk bs
 line_parts-field [] h = absurd (omega arith)
 line_parts-field (b ∷ bs) h = line_parts-field_cons b bs (is_asterisk b) refl h
 
--- a field, and what stands behind it
+-- a field, and the parts after it
 pub first_field : (bs behind : List ℕ) (width : ℕ) → width ≡ prefix_len is_asterisk bs → 0 < width
     → behind ≡ drop width bs → line_parts bs ≡ field width ∷ line_parts behind
 first_field bs behind width e h b = rw (b, e) (line_parts-field bs (rw e at h))
@@ -74,7 +74,7 @@ line_parts-bytes : (bs : List ℕ) → BeginsWithBytes bs
 line_parts-bytes [] = refl
 line_parts-bytes (b ∷ bs) = BeginsWithBytes-cons b bs (is_asterisk b) refl (line_parts-bytes bs)
 
--- bytes, and what stands behind them
+-- bytes, and the parts after them
 pub first_bytes : (bs text behind : List ℕ) (n : ℕ) → n ≡ position_or_len is_asterisk bs → text ≡ take n bs
     → behind ≡ drop n bs → line_parts bs ≡ map (λ b. byte b) text ++ line_parts behind
 first_bytes bs text behind n e t b = rw (t, b, e) (line_parts-bytes bs)

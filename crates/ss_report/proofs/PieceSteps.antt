@@ -13,7 +13,7 @@ use Rattle.ss_report.specs.declared.piece.Piece.{Piece}
 use Rattle.ss_report.specs.declared.piece.Piece.TheVariants as p
 use Rattle.ss_report.proofs.Texts.{count_by-bytes, parts_text-bytes, parts_len-bytes}
 
--- what is left begins with the parts of the next piece
+-- the parts that are left begin with the parts of the next piece
 pub parts_of-drop : (ps : List Piece) (i : ℕ) (p : Piece) → i < length ps → p ≡ get_or ps i p
     → parts_of (drop i ps) ≡ piece_parts p ++ parts_of (drop (i + 1) ps)
 parts_of-drop ps i p h e = rw (drop_more ps i p h, ← e) refl
@@ -66,7 +66,7 @@ pub list_any-map : {X : Type 0} (f : X → List ℕ) (xs : List X)
 list_any-map f [] = refl
 list_any-map f (x ∷ xs) = rw (list_any-map f xs) refl
 
--- what is written so far, and the text of what is left
+-- the bytes written so far, and the text of the parts that are left
 pub written-text : (old new all : List ℕ) (left rest : List Part) (bs : List ℕ) (vs : List ℤ)
     → left ≡ map (λ b. byte b) bs ++ rest → new ≡ old ++ bs → old ++ parts_text left vs ≡ all
     → new ++ parts_text rest vs ≡ all

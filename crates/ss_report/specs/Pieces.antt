@@ -1,4 +1,4 @@
--- The lines that the pieces of a compiled picture stand for.
+-- The lines that the pieces of a compiled picture represent.
 use Rattle.std.specs.Prelude.{ℕ, Bool, true, false, List, [], ◌∷◌, ◌++◌, map, replicate, sum_by}
 use Rattle.std.specs.List.{flat_map}
 use Rattle.ss_words.specs.declared.characters.TheConstants.{ASTERISK}
@@ -6,7 +6,7 @@ use Rattle.ss_report.specs.Pictures.{Part, field, byte, line_end}
 use Rattle.ss_report.specs.declared.piece.Piece.{Piece}
 use Rattle.ss_report.specs.declared.piece.Piece.TheVariants as p
 
--- the parts that a piece stands for
+-- the parts that a piece represents
 abbrev pub piece_parts : Piece → List Part
 piece_parts (p.Text t) = map (λ b. byte b) t.items
 piece_parts (p.Field n) = field n ∷ []

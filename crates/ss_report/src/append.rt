@@ -1,3 +1,4 @@
+//! Appending to bytes that have room, so that a print cannot fail halfway.
 ghost use Rattle.std.specs.Prelude.{◌≡◌, ◌+◌, ◌≤◌, ◌++◌, length, replicate, vec_len, vec_capacity};
 
 /// Appends bytes for which there is room.
@@ -11,7 +12,7 @@ pub(crate) fn append(bytes: &mut Vec<u8>, text: &[u8])
     let _ = bytes.extend_from_slice(text);
 }
 
-/// Appends a byte so many times; there is room.
+/// Appends a byte `times` times; there is room.
 pub(crate) fn append_times(bytes: &mut Vec<u8>, byte: u8, times: usize)
     requires { vec_len bytes.old + times ≤ vec_capacity bytes.old }
     ensures items { bytes.new.items ≡ bytes.old.items ++ replicate times byte }

@@ -1,5 +1,5 @@
-//! What a model prints: pictures with values in their fields, and the report that they are appended
-//! to.
+//! The output that a model prints: pictures with values in their fields, and the report to which
+//! they are appended.
 #![tactic(auto)]
 
 mod append;

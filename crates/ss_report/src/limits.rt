@@ -1,4 +1,4 @@
 //! The limit of a report (docs/LANGUAGE.md, "Limits"). The definitions read this name too.
 
-/// A report has at most so many bytes; a PRINT or a SKIP that would pass them is F19.
+/// The most bytes of a report; a PRINT or a SKIP that would pass them is F19.
 pub const LONGEST_REPORT: usize = 16_777_216;

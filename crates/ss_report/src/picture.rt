@@ -1,3 +1,4 @@
+//! The pictures of PRINT, cut into pieces once, so that each print only fills the fields in.
 ghost use Rattle.std.specs.Prelude.{◌≡◌, ℤ, ◌+◌, ◌≤◌, ◌↔◌, ◌++◌, [], List, length, map, min, IfOk, IsTrue, vec_len};
 ghost use Rattle.std.specs.Prelude.{vec_capacity};
 ghost use Rattle.std.specs.List.{list_any};
@@ -11,7 +12,7 @@ use thiserror::Error;
 /// Why no picture is made of lines.
 #[derive(Clone, Copy, Debug, Drop, PartialEq, Eq, Error)]
 pub enum PictureFault {
-    /// A stop stands directly between two asterisks of a line.
+    /// A stop is directly between two asterisks of a line.
     #[error("a decimal field")]
     DecimalField,
     #[error("out of memory")]
@@ -46,7 +47,7 @@ impl<T: Drop> From<AllocFailed<T>> for PictureFault {
 pub struct Picture {
     pieces: Vec<Piece>,
     fields: usize,
-    /// How many bytes its text has; `usize::MAX` where these are more.
+    /// How many bytes its text has; `usize::MAX` if there are more.
     text_len: usize,
 }
 
@@ -69,8 +70,8 @@ impl Model for Picture {
 impl Picture {
     /// The picture with these lines, which have no line ends.
     ///
-    /// `DecimalField` where a stop stands directly between two asterisks of one line, and else
-    /// `Memory` where a growth was refused.
+    /// `DecimalField` if a stop is directly between two asterisks of one line, and else `Memory` if
+    /// a growth was refused.
     pub fn new(alloc: Global, lines: Vec<Vec<u8>>) -> Result<Self, PictureFault>
         ensures ok { IfOk result (λ picture. picture ≡ map (λ l. l.items) lines.items) }
         ensures decimal_field { (result ≡ Err PictureFault.DecimalField)
@@ -96,7 +97,7 @@ impl Picture {
         self.fields
     }
 
-    /// How many bytes its text has, whatever the values; `usize::MAX` where these are more.
+    /// How many bytes its text has, whatever the values; `usize::MAX` if there are more.
     pub(crate) fn text_len(&self) -> usize
         ensures value { result ≡ min (length (picture_text self.now [])) usize.MAX }
         ensures whatever_the_values { (values : List ℤ) →
@@ -116,14 +117,14 @@ impl Picture {
     }
 }
 
-/// Whether a stop stands directly between two asterisks of a line.
+/// Whether a stop is directly between two asterisks of a line.
 fn is_any_decimal(lines: &[Vec<u8>]) -> bool
     ensures { result ≡ list_any (λ l. has_decimal l.items) lines.now }
 {
     lines.iter().any(|line| is_decimal(line))
 }
 
-/// Whether a stop stands directly between two asterisks.
+/// Whether a stop is directly between two asterisks.
 fn is_decimal(line: &[u8]) -> bool
     ensures { result ≡ has_decimal line.now }
 {

@@ -1,3 +1,4 @@
+//! The pieces of a picture: how lines are cut into them, and how they are written with values.
 ghost use Rattle.std.specs.Prelude.{◌≡◌, ◌==◌, ◌+◌, ◌-◌, ◌^◌, ◌<◌, ◌≤◌, ◌++◌, ◌∷◌, [], drop, length, map, min};
 ghost use Rattle.std.specs.Prelude.{count_by, IfOk, OnOk, vec_len, vec_capacity};
 ghost use Rattle.std.specs.List.{position_or_len, prefix_len};
@@ -11,12 +12,12 @@ use itoa::Buffer;
 use ss_words::characters::{ASTERISK, BLANK, LINE_FEED};
 use std::alloc::{AllocError, Global};
 
-/// What a picture consists of, in order.
+/// A part of a picture; a picture is a list of them, in order.
 #[derive(Debug, Drop)]
 pub(crate) enum Piece {
     /// Bytes of a line, none of them an asterisk.
     Text(Vec<u8>),
-    /// A run of so many asterisks.
+    /// A run of this number of asterisks.
     Field(usize),
     LineEnd,
 }
@@ -48,7 +49,7 @@ fn add_line(alloc: Global, pieces: &mut Vec<Piece>, line: &[u8]) -> Result<(), A
     Ok(())
 }
 
-/// The first piece of a line, and what stands behind it.
+/// The first piece of a line, and the bytes after it.
 #[tactic(auto, using(crate::proofs::Lines::first_field))]
 fn first_piece(alloc: Global, line: &[u8]) -> Result<(Piece, &[u8]), AllocError>
     requires { 0 < length line.now }
@@ -91,7 +92,7 @@ pub(crate) fn count_fields(pieces: &[Piece]) -> usize
         .count()
 }
 
-/// How many bytes the text has; `usize::MAX` where these are more.
+/// How many bytes the text has; `usize::MAX` if there are more.
 pub(crate) fn text_len(pieces: &[Piece]) -> usize
     ensures { result ≡ min (parts_len (parts_of pieces.now)) usize.MAX }
 {
@@ -102,7 +103,7 @@ pub(crate) fn text_len(pieces: &[Piece]) -> usize
     len
 }
 
-/// How many bytes of the text a piece stands for.
+/// How many bytes of the text a piece gives.
 fn piece_len(piece: &Piece) -> usize
     ensures { result ≡ parts_len (piece_parts piece.now) }
 {

@@ -1,3 +1,4 @@
+//! The report of a run: the bytes that PRINT and SKIP have appended, and their limit.
 ghost use Rattle.std.specs.Prelude.{◌≡◌, ◌+◌, ◌<◌, ◌≤◌, ◌↔◌, ◌⊎◌, ◌++◌, [], length, take, replicate, OnOk, OnErr};
 ghost use Rattle.std.specs.Prelude.{IfErr, vec_len, vec_capacity};
 ghost use Rattle.ss_words.specs.declared.characters.TheConstants.{LINE_FEED};
@@ -65,8 +66,8 @@ impl Report {
 
     /// Appends a picture with these values, one a field (docs/LANGUAGE.md, "PRINT and SKIP").
     ///
-    /// `ReportFull` (F19) where the report would have more than `LONGEST_REPORT` bytes, `Memory`
-    /// where the room was refused. Either leaves the report as it was.
+    /// `ReportFull` (F19) if the report would have more than `LONGEST_REPORT` bytes, `Memory` if
+    /// the room was refused. Either leaves the report as it was.
     pub fn print(&mut self, picture: &Picture, values: &[i64]) -> Result<(), StepFault>
         requires { length values.now ≡ field_count picture.now }
         ensures ok { OnOk result (self.new ≡ self.old ++ picture_text picture.now values.now) }
@@ -81,10 +82,10 @@ impl Report {
         Ok(())
     }
 
-    /// Appends so many line feeds (docs/LANGUAGE.md, "PRINT and SKIP").
+    /// Appends `lines` line feeds (docs/LANGUAGE.md, "PRINT and SKIP").
     ///
-    /// `ReportFull` (F19) where the report would have more than `LONGEST_REPORT` bytes, `Memory`
-    /// where the room was refused. Either leaves the report as it was.
+    /// `ReportFull` (F19) if the report would have more than `LONGEST_REPORT` bytes, `Memory` if
+    /// the room was refused. Either leaves the report as it was.
     pub fn skip(&mut self, lines: usize) -> Result<(), StepFault>
         ensures ok { OnOk result (self.new ≡ self.old ++ replicate lines LINE_FEED) }
         ensures err { OnErr result (self.new ≡ self.old) }
@@ -99,7 +100,7 @@ impl Report {
     }
 }
 
-/// Makes room for so many more bytes of a report, in doubling over many calls. After an error its
+/// Makes room for `added` more bytes of a report, in doubling over many calls. After an error its
 /// bytes are as before.
 fn reserve(bytes: &mut Vec<u8>, added: usize) -> Result<(), StepFault>
     requires { vec_len bytes.old ≤ LONGEST_REPORT }

@@ -1,4 +1,4 @@
--- Readings of parts that do not stand there.
+-- Readings of parts that are not there.
 use Rattle.std.proofs.Common.{◌≡◌, Bool, false, List, Option, None, Ok, ◌∙◌}
 use Rattle.ss_words.specs.declared.mark.Mark.{Mark}
 use Rattle.ss_words.specs.Plain.{Plain}

@@ -1,4 +1,4 @@
--- Readings of what stands in the place of a part, and of what is made of a part.
+-- Readings of an alternative in the place of a part, and of the value that is made of a part.
 use Rattle.std.proofs.Common.{◌≡◌, List, Option, None, Ok, ◌∙◌}
 use mathlib.Core.Logic.{inr}
 use Rattle.ss_words.specs.Plain.{Plain}

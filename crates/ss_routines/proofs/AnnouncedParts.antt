@@ -1,6 +1,6 @@
--- A reading that may stop behind a word that announces a part for which there is no room: what is read keeps the
--- limits, and where
--- reading fails a tree within the limits begins with the words read, or with all of them but that one.
+-- A reading that may stop after a word that announces a part for which there is no room. The part
+-- that is read keeps the limits. If reading fails, a tree within the limits begins with the words
+-- read, or with all of them but that one.
 use Rattle.std.proofs.Common.{◌≡◌, ◌⊎◌, true, List, [], ◌∷◌, ◌++◌, Option, Some, Result, Ok, Err}
 use Rattle.std.proofs.Common.{refl, sym, ap, ◌∙◌, append_assoc}
 use mathlib.Core.Logic.{inl, inr}
@@ -14,7 +14,7 @@ use Rattle.ss_routines.specs.Refused.{announces}
 abbrev pub IsBegun : {A : Type 0} → (A → Type 0) → (A → List Plain) → List Plain → Type 0
 IsBegun {A} fits sp q = (a : A) × fits a × (x : List Plain) × (sp a ≡ q ++ x)
 
--- the last word announces what may not stand there
+-- the last word announces a part that may not be there
 pub record Announced {A : Type 0} (fits : A → Type 0) (sp : A → List Plain) (pre q : List Plain) : Type 0 where
   pub front : List Plain
   pub last : Plain

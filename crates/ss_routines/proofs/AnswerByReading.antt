@@ -1,4 +1,4 @@
--- What words are answered with, computed by reading them.
+-- The answers to words, computed by reading them.
 use Rattle.std.proofs.Common.{◌≡◌, ℕ, ◌-◌, List, [], ◌∷◌, length, Ok, Err, refl, arith}
 use Rattle.ss_words.specs.declared.fault.TextRule.TheVariants as rule
 use Rattle.ss_words.specs.declared.refusal.Refusal.TheVariants.{Unexpected, PastLimit}

@@ -1,4 +1,4 @@
--- What the reading of statements has counted where it stops.
+-- The counts of the reading of statements at the word at which it stops.
 use Rattle.std.proofs.Common.{◌≡◌, ◌⊎◌, ℕ, zero, suc, ◌≤◌, ◌<◌, Bool, true, false, List, [], ◌∷◌, ◌++◌, Option}
 use Rattle.std.proofs.Common.{Some, None, Result, Ok, Err, refl, sym, ap, subst, ◌∙◌, append_assoc, arith}
 use mathlib.Core.Logic.{inl, inr}
@@ -82,10 +82,10 @@ module _ (h : Bool) (n i fs : ℕ) where
   unfolding star
   star_tally p x = many_tally h n i fs p [] (λ a xs. a ∷ xs) x
 
--- ---- what may stand there or not
+-- ---- a part that may be there or not
 
 module _ (from : Place) (n i fs : ℕ) where
-  -- where it does not, nothing is read
+  -- if it is not there, nothing is read
   abbrev pub FoundAt : {A : Type 0} → Result (Option A) Refusal → List Plain → List Plain → Type 0
   FoundAt (Ok None) ws r = ws ≡ r
   FoundAt (Ok (Some a)) ws r = (q : List Plain) × (ws ≡ q ++ r) × EvenAt from q
@@ -126,7 +126,7 @@ module _ (from : Place) (n i fs : ℕ) where
     unfolding made bind
     made_reads p x = record { at = λ ws. made_read (p ws).0 ws (p ws).1 (x.at ws) }
 
-  -- of what is read, that it is there
+  -- the part that is read is there
   some_found : {A : Type 0} (o : Result A Refusal) (ws r : List Plain) → OutAt from false n i fs o ws r
       → (let x : Read (Option A) = goes_on (λ a. pure (Some a)) o r in FoundAt x.0 ws x.1)
   unfolding pure
@@ -213,7 +213,7 @@ module _ (from : Place) (n i fs : ℕ) where
       unfolding either bind
       either_reads p x = record { at = λ ws. either_read (p ws).0 ws (p ws).1 (x.at ws) }
 
-  -- a mark and what stands behind it, if the mark stands there
+  -- a mark and the part after it, if the mark is there
   module _ {A : Type 0} (k : Mark) (p : Reading A)
       (x : (ws : List Plain) → OutAt from false n i fs (p ws).0 (mark k ∷ ws) (p ws).1) where
     abbrev if_there : Bool → Reading (Option A)
@@ -240,7 +240,7 @@ module _ (n i fs : ℕ) where
   full_at from q (Some (name v)) f = f
   full_at from q _ f = absurd f
 
-  -- what may begin anywhere
+  -- a part that may begin anywhere
   at_place : {A : Type 0} (from : Place) (o : Result (Option A) Refusal) (ws r : List Plain)
       → FoundAt Anywhere n i fs o ws r → FoundAt from n i fs o ws r
   at_place from (Ok None) ws r out = out
@@ -271,7 +271,7 @@ module _ (n i fs : ℕ) where
   found_at : {A : Type 0} (from : Place) (p : Reading (Option A)) → Finds Anywhere n i fs p → Finds from n i fs p
   found_at from p x = record { at = λ ws. at_place from (p ws).0 ws (p ws).1 (x.at ws) }
 
-  -- where no phrase stands innermost
+  -- if no phrase is innermost
   out_of : {A : Type 0} (o : Result (Option A) Refusal) (ws r : List Plain) → FoundAt Settled n i fs o ws r
       → Out false n i fs o ws r
   out_of (Ok None) ws r e = ([], e, nothing)
@@ -286,7 +286,7 @@ module _ (n i fs : ℕ) where
 -- ---- a mark of which no more may be open
 
 module _ (A : Type 0) (k : Mark) where
-  -- what stands there
+  -- the answer if no more may be open
   abbrev shut_answer : Bool → List Plain → Read (Option A)
   shut_answer true ws = (Err PastLimit, ws)
   shut_answer false ws = (Ok None, ws)
@@ -359,7 +359,7 @@ inner_option sp h (Some a) = h a
 abbrev Anyhow : {A : Type 0} → A → List Plain → Type 0
 Anyhow a q = Unit {0}
 
--- nothing, or words that close the phrases that stand innermost
+-- nothing, or words that close the innermost phrases
 abbrev Begun : Option Simple → List Plain → Type 0
 Begun None q = q ≡ []
 Begun (Some a) q = (os : List Open) → open_behind true os q ≡ without_inner_phrases os
@@ -418,7 +418,7 @@ module _ (n : ℕ) where
   -- ---- statements
 
   module _ (i fs : ℕ) where
-    -- a statement that holds no other, behind a phrase or where none stands innermost
+    -- a statement that holds no other, after a phrase or if no phrase is innermost
     simple_found : (from : Place)
         → ((q : List Plain) → Inner q → ((os : List Open) → open_behind true os q ≡ without_inner_phrases os)
         → (b : Bool) (os : List Open) → At from b os → open_behind b os q ≡ without_inner_phrases os)
@@ -442,7 +442,7 @@ module _ (n : ℕ) where
           (simple_at n ws).0 ws (simple_at n ws).1 (p.at ws);
     }
 
-    -- a word that closes the phrases that stand innermost, and a part behind it
+    -- a word that closes the innermost phrases, and a part after it
     module _ {A : Type 0} (k : Mark) (one : Leaves 0 (mark k ∷ [])) (none : builds (mark k) ≡ false)
         (shuts : (os : List Open) → step true os (mark k) ≡ without_inner_phrases os) where
       started : (o : Result A Refusal) (ws r : List Plain) → PartOut n Anyhow o ws r
@@ -477,7 +477,7 @@ module _ (n : ℕ) where
       unfolding if_mark
       started_finds p x = mark_finds Behind n i fs k p (λ ws. started (p ws).0 ws (p ws).1 (x.at ws))
 
-    -- IF and what stands behind it
+    -- IF and the part after it
     module _ (inside : Reading Block) (x : Tally false n i fs inside) where
       branch_shuts : Shuts false (mark (m.Reserved r.If)) (m.Reserved r.Always) n i fs n (suc i) (encloses_if n i fs)
           (branch_with n inside)
@@ -524,7 +524,7 @@ module _ (n : ℕ) where
       level_tally =
           made_tally false n i fs block_of _ (star_tally false n i fs (statement_with n b l) statement_tally)
 
-      -- DO and what stands behind it
+      -- DO and the part after it
       do_finds : Finds Anywhere n i fs (if_mark (m.Reserved r.Do) (before (block_with n b l) (m.Reserved r.Loop)))
       unfolding if_mark before
       do_finds =
@@ -536,7 +536,7 @@ module _ (n : ℕ) where
           (λ a. made_shuts false w k n i fs n i z (λ u. a) (expect k) (close_shuts false w k n i fs n i z))
           (block_with n b l) level_tally))
 
-      -- what stands behind a phrase
+      -- the part after a phrase
       controlled_reads : Reads Behind n i fs (controlled_with n b l)
       unfolding controlled_with
       controlled_reads =
@@ -550,13 +550,13 @@ module _ (n : ℕ) where
           (found_at n i fs Behind l tl)) _
           (found_at n i fs Behind _ do_finds))
 
-      -- ---- FOR, a phrase, and what stands behind it
+      -- ---- FOR, a phrase, and the part after it
 
       abbrev the_for : Plain
       the_for = mark (m.Reserved r.For)
 
       module _ (a : List Plain) (x : Inner a) (l0 : Leaves 0 a) (y : Walks false a true) where
-        -- what is open behind words behind the phrase
+        -- the open parts after words after the phrase
         led : (c : Bool) (os : List Open) (q : List Plain)
             → open_behind c os (the_for ∷ (a ++ q)) ≡ open_behind true (For ∷ os) q
         led c os q =

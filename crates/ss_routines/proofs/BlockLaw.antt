@@ -1,4 +1,4 @@
--- What holds of the reading of statements.
+-- The laws of the reading of statements.
 use Rattle.std.proofs.Common.{◌≡◌, ◌⊎◌, ℕ, suc, ◌≤◌, List, [], ◌∷◌, ◌++◌}
 use Rattle.std.proofs.Common.{Option, Some, None, Result, Ok, Err, refl, sym, ap, ◌∙◌, append_assoc, arith}
 use Rattle.std.specs.List.{flat_map}
@@ -44,7 +44,7 @@ use Rattle.ss_routines.proofs.PartingWords.{Settled, settled, statement_parts, c
 use Rattle.ss_routines.proofs.PartingWords.{NoStatement}
 use Rattle.ss_routines.proofs.PartingWords.{EndsBlock, if_begins, for_begins, always_ends, loop_ends, otherwise_ends}
 
--- ---- the same part by other words for its spelling and for what keeps the limits
+-- ---- the same part with other words for its spelling and for keeping the limits
 
 module _ {rooms : Rooms} {n : ℕ} {A : Type 0} (F : Form rooms n A) (sp : A → List Plain) (fits : A → Type 0)
     (spelled : (a : A) → sp a ≡ F.sp a) (there : (a : A) → F.fits a → fits a) (back : (a : A) → fits a → F.fits a) where
@@ -78,7 +78,8 @@ module _ {rooms : Rooms} {n : ℕ} {A : Type 0} (F : Form rooms n A) (sp : A →
 
 -- ---- the limits
 
--- n parentheses, i IFs and f phrases may be open at once; so many are
+-- n parentheses, i IFs and f phrases may be open at once; the other three are the numbers in the
+-- part
 pub record Fits (n i f parentheses ifs phrases : ℕ) : Type 0 where
   pub deep : parentheses ≤ n
   pub branches : ifs ≤ i
@@ -106,7 +107,7 @@ module _ (n i f : ℕ) where
   abbrev pub FitsLoop : Looping → Type 0
   FitsLoop x = FitsStatement (loop x.0 x.1)
 
--- the plain words of IF and what stands behind it
+-- the plain words of IF and the part after it
 abbrev pub spell_branch : Branching → List Plain
 spell_branch x = spell_one (branch x.0 x.1.0 x.1.1)
 
@@ -114,11 +115,11 @@ spell_branch x = spell_one (branch x.0 x.1.0 x.1.1)
 abbrev pub branch_words : Branching → List Plain
 branch_words x = spell_question x.0 ++ spell_block x.1.0 ++ spell_otherwise x.1.1 ++ mark (m.Reserved r.Always) ∷ []
 
--- the plain words of FOR and what stands behind it
+-- the plain words of FOR and the part after it
 abbrev pub spell_loop : Looping → List Plain
 spell_loop x = spell_statement (loop x.0 x.1)
 
--- the laws of IF and of FOR with what stands behind them
+-- the laws of IF and of FOR with the part after each of them
 abbrev pub BranchLaw : Rooms → ℕ → ℕ → ℕ → Reading (Option Branching) → Reading (Option Branching) → Type 0
 BranchLaw rooms n i f p p' = PartLaw rooms n (FitsBranch n i f) spell_branch Anything (Not (m.Reserved r.If)) p p'
 
@@ -230,7 +231,7 @@ module _ (rooms : Rooms) (n k : ℕ) (w : Wider rooms n k) where
   condition_ends : (y : List Plain) → Settled y → EndsCondition y
   condition_ends y h = let q = h.quiet in q.condition
 
-  -- the plain words behind FOR
+  -- the plain words after FOR
   abbrev pub loop_words : Looping → List Plain
   loop_words x = PhraseWords rooms n k w x.0 ++ spell_controlled x.1
 
@@ -277,7 +278,7 @@ module _ (rooms : Rooms) (n k : ℕ) (w : Wider rooms n k) where
           }
 
   module _ (i f : ℕ) where
-    -- ---- behind IF
+    -- ---- after IF
 
     module _ (p p' : Reading Block) (lb : Law rooms n (FitsBlock n i f) spell_block EndsBlock p p') where
       abbrev a_block : Form rooms n Block
@@ -482,7 +483,7 @@ module _ (rooms : Rooms) (n k : ℕ) (w : Wider rooms n k) where
       the_block =
           form_of rooms n (FitsBlock n i f) spell_block EndsBlock (block_with n b l) (block_with k b' l') block_level
 
-      -- ---- what stands behind a phrase
+      -- ---- the part after a phrase
 
       abbrev must_one : Form rooms n One
       must_one =
@@ -566,7 +567,7 @@ module _ (rooms : Rooms) (n k : ℕ) (w : Wider rooms n k) where
           whole_controlled controlled_spelled controlled_there controlled_back in
           record { good = g.good; near = g.near; counted = g.counted; again = g.again }
 
-    -- ---- behind FOR
+    -- ---- after FOR
 
     module _ (p p' : Reading Controlled) (lc : Law rooms n (FitsControlled n i f) spell_controlled Calm p p') where
       abbrev a_controlled : Form rooms n Controlled

@@ -1,4 +1,4 @@
--- What holds of the reading of statements, however many IFs and phrases may be open.
+-- The laws of the reading of statements, for each number of IFs and phrases that may be open.
 use Rattle.std.proofs.Common.{◌≡◌, ℕ, zero, suc, [], ◌∷◌, Option, refl, arith}
 use Rattle.ss_words.specs.declared.mark.Mark.TheVariants as m
 use Rattle.ss_words.specs.declared.reserved.Reserved.TheVariants as r
@@ -34,9 +34,9 @@ no_loop : (n i : ℕ) (x : Looping) → FitsLoop n i 0 x → ⊥
 no_loop n i x h = let g = h.loops in absurd (omega (arith, g))
 
 module _ (rooms : Rooms) (n k : ℕ) (w : Wider rooms n k) where
-  -- ---- where one more may be open
+  -- ---- if one more may be open
 
-  -- IF, from what stands behind it
+  -- IF, from the part after it
   branch_more : (i j f : ℕ) (p p' : Reading Block) → Law rooms n (FitsBlock n i f) spell_block EndsBlock p p'
       → BranchLaw rooms n (suc i) f (if_allowed (suc i) (m.Reserved r.If) (branch_with n p))
       (if_allowed (suc j) (m.Reserved r.If) (branch_with k p'))
@@ -48,7 +48,7 @@ module _ (rooms : Rooms) (n k : ℕ) (w : Wider rooms n k) where
 
   module _ (i f g : ℕ) (b b' : Reading (Option Branching)) (lb : BranchLaw rooms n i f b b')
       (l l' : Reading (Option Looping)) (ll : LoopLaw rooms n i f l l') where
-    -- what stands behind FOR, from its parts
+    -- the part after FOR, from its parts
     looping : Law rooms n (FitsLoop n i (suc f)) (loop_words rooms n k w) Calm
         (pair (phrase_at n) (controlled_with n b l)) (pair (phrase_at k) (controlled_with k b' l'))
     looping =
@@ -65,7 +65,7 @@ module _ (rooms : Rooms) (n k : ℕ) (w : Wider rooms n k) where
         (pair (phrase_at n) (controlled_with n b l)) (pair (phrase_at k) (controlled_with k b' l')) looping) in
         record { good = a.good; near = a.near; counted = a.counted; some = a.some; goes = a.goes; stops = a.stops }
 
--- ---- where none may be open
+-- ---- if none may be open
 
 module _ (n : ℕ) where
   branch_none : (f : ℕ) (p p' : Reading Branching) → BranchLaw same n 0 f (if_allowed 0 (m.Reserved r.If) p)

@@ -42,7 +42,7 @@ use Rattle.ss_routines.specs.PlacesAtLines.{noting_block, noting_must, noting_la
 -- ---- readings made of readings
 
 module _ {A B C : Type 0} (words k : ℕ) (out : C → B) where
-  -- one reading, and a second and third behind it
+  -- one reading, and a second and a third after it
   pub assoc_writes : {D : Type 0} (p : Reading A) (g : A → Reading D) (h : D → Reading C) (p' : Reading B)
       → Writes words out k (bind p (λ a. bind (g a) h)) p' → Writes words out k (bind (bind p g) h) p'
   unfolding bind
@@ -171,7 +171,7 @@ module _ {A B D : Type 0} (words k : ℕ) (fits : A → Type 0) (sp : A → List
       none r ∙ lj.at r (omega (arith, h, ap length e, ap length s, length-append q r)) ∙ second (j r).0 (j r).1
   behind_first (Err e) ws r h read g some none = refl
 
-  -- the first item tells itself what it notes
+  -- the first item itself says which places it notes
   pub first_writes : (g : A → List Spot) → ((a : A) → g a ≡ acc ++ flatA a)
       → Writes words (noted flat acc) k (made_of f (either_of i j))
       (bind i (λ o. elim o [ Some a ↦ pure (true, g a) | None ↦ j' ]))
@@ -305,7 +305,7 @@ module _ (lines : List ℕ) (n : ℕ) where
           | false ↦ (λ u. pure_good _ _ _ None tt refl)
         ]) (eat (m.Reserved r.Else)) (eat_good (m.Reserved r.Else)))
 
-    -- the words behind the question, up to ALWAYS
+    -- the words after the question, up to ALWAYS
     abbrev to_always : Reading Otherwise
     to_always = before (made otherwise_of (if_mark (m.Reserved r.Else) inside)) (m.Reserved r.Always)
 
@@ -325,7 +325,7 @@ module _ (lines : List ℕ) (n : ℕ) where
         (made otherwise_of (if_mark (m.Reserved r.Else) inside)) (noting_else lines n inside' acc) else_good
         (else_writes k acc)
 
-    -- what a question and the words behind it write, where IF is word k
+    -- the places that a question and the words after it write, if IF is word k
     abbrev branch_out : ℕ → List Spot → Branching → List Spot
     branch_out k acc x = acc ++ flat_one lines k (branch x.0 x.1.0 x.1.1)
 
@@ -389,7 +389,7 @@ module _ (lines : List ℕ) (n : ℕ) where
             (noting_statement lines n b' l') (flat_statement lines) flat_list gt (λ k. refl) (λ k t ts. refl)
             statement_writes k acc)
 
-        -- ---- what stands behind a phrase
+        -- ---- the part after a phrase
 
         abbrev Last : Type 0
         Last = Unit {0} ⊎ ((Several Computed × Expr) ⊎ One)
@@ -421,7 +421,7 @@ module _ (lines : List ℕ) (n : ℕ) where
         module _ (fitsL : Looping → Type 0) (gl : Good (fits_option fitsL)
             (spell_option (λ x. spell_statement (loop x.0 x.1))) [] l) (fitsB : Block → Type 0)
             (gb : Good fitsB spell_block [] (block_with n b l)) where
-          -- the phrase f begins with word k, and what stands behind it with word j
+          -- the phrase f begins with word k, and the part after it begins with word j
           abbrev controlled_out : ℕ → Phrase → ℕ → List Spot → Controlled → List Spot
           controlled_out k f j acc c = acc ++ flat_loop lines k f j c
 

@@ -1,4 +1,4 @@
--- What one of several readings reads or refuses, behind those that do not stand there.
+-- The part that one of several readings reads or refuses, after those that are not there.
 use Rattle.std.proofs.Common.{◌≡◌, List, Option, Some, None, Ok, Err, refl, ap, ◌∙◌}
 use Rattle.std.specs.Prelude.{◌⊎◌}
 use mathlib.Core.Logic.{inr}
@@ -7,7 +7,7 @@ use Rattle.ss_words.specs.Reading.{Read, Reading, goes_on, bind, pure}
 use Rattle.ss_words.proofs.ReadBack.{then}
 use Rattle.ss_routines.specs.Combined.{either_of, made_of}
 
--- what is made of what was read, if it was
+-- the value made of the part that was read, if it was read
 abbrev made_then : {A C : Type 0} → (A → C) → Option A → Reading (Option C)
 made_then f o = elim o [ Some a ↦ pure (Some (f a)) | None ↦ pure None ]
 

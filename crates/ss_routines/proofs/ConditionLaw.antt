@@ -1,4 +1,4 @@
--- What holds of the reading of conditions.
+-- The laws of the reading of conditions.
 use Rattle.std.proofs.Common.{◌≡◌, ◌⊎◌, ℕ, zero, suc, ◌≤◌, true, false, List, [], ◌∷◌, ◌++◌}
 use Rattle.std.proofs.Common.{Option, Some, None, Ok, refl, sym, ap, subst, ◌∙◌, append_assoc, arith}
 use Rattle.std.specs.List.{flat_map}
@@ -176,7 +176,7 @@ reference_is (expr None (term (applied i e no_exprs) no_products) no_sums) v h =
     (sym (applied_words i e), omega arith)
 reference_is _ v h = absurd cc
 
--- ---- what stands behind a value
+-- ---- the part after a value
 
 spell_not : Copula → List Plain
 spell_not Is = []
@@ -384,7 +384,7 @@ module _ (rooms : Rooms) (n k : ℕ) (w : Wider rooms n k) where
       (eat_read_back (m.Reserved r.In) _)
       ∙ then (reference_at n) _ v (spell_reference v ++ y) y (v_law.again v y h ends.no_open)
 
-  -- behind IS
+  -- after IS
   is_read_back : (e : Expr) (c : Copula) (q : Relation) (u y : List Plain) → is (m.Reserved r.Not) (first u) ≡ false
       → set_with n e c u ≡ (Ok q, y) → behind_value n e (spell_copula c ++ u) ≡ (Ok (inr q), y)
   unfolding behind_value pure
@@ -437,7 +437,7 @@ module _ (rooms : Rooms) (n k : ℕ) (w : Wider rooms n k) where
   abbrev z_law : Law rooms n (RestFits n) RestSpelled Ends (rest_with n) (rest_with k)
   z_law = rest_law rooms n k w
 
-  -- q reads in one more parenthesis, q' where the rooms are those of p'
+  -- q reads in one more parenthesis; q' reads there with the rooms of p'
   module _ (q q' : Reading (Expr ⊎ Condition)) (lo : OpenLaw rooms n depth_either SpellEither (if_open n q)
       (if_open k q')) where
     abbrev FitsInner : Expr ⊎ Condition → Type 0
@@ -622,7 +622,7 @@ module _ (rooms : Rooms) (n k : ℕ) (w : Wider rooms n k) where
     FitsConjoined (inl e) = depth_expr e ≤ n
     FitsConjoined (inr c) = depth_conjunction c ≤ n
 
-    -- what stands behind a first value
+    -- the part after a first value
     abbrev conjoin : Expr ⊎ Relation → Reading (Expr ⊎ Conjunction)
     conjoin a =
         elim a [
@@ -661,7 +661,7 @@ module _ (rooms : Rooms) (n k : ℕ) (w : Wider rooms n k) where
         ]) (value_with n q)
         value_counted
 
-    -- no further relation stands there
+    -- no further relation is there
     abbrev EndsConjunction : List Plain → Type 0
     EndsConjunction y = Ends y × (is (m.Reserved r.And) (first y) ≡ false)
 

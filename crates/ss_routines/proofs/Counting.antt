@@ -1,5 +1,6 @@
--- What a reading has counted where it stops: what is read closes each parenthesis and rejoins each IF, and a word that
--- is refused by a limit stands where all that may be open are open.
+-- The counts of a reading at the word at which it stops. The part that is read closes each
+-- parenthesis and rejoins each IF. A word that is refused by a limit is at a place at which all are
+-- open that may be open.
 use Rattle.std.proofs.Common.{◌≡◌, ℕ, zero, suc, ◌+◌, ◌-◌, ◌≤◌, ◌<◌, Bool, true, false, List, [], ◌∷◌, ◌++◌}
 use Rattle.std.proofs.Common.{length}
 use Rattle.std.proofs.Common.{length-append, take, drop, Option, Some, None, Result, Ok, Err, refl, sym, ap, subst, ◌∙◌}
@@ -26,18 +27,19 @@ use Rattle.ss_routines.proofs.Inner.{builds, Inner, front}
 use Rattle.ss_routines.proofs.OpenWords.{ended_by, behind_both, settled_less, changes, stays, same_behind}
 use Rattle.ss_routines.proofs.OpenWords.{inner_stays, inner_opens_none}
 
--- where words begin: anywhere; where no phrase stands innermost; directly behind a phrase
+-- the place at which words begin: anywhere; a place with no phrase innermost; directly after a
+-- phrase
 pub data Place : Type 0 where
   Anywhere Settled Behind : Place
 
--- a word that may end a phrase stands before them or does not, as b says, and os is open there
+-- a word that may end a phrase is before them or is not, as b says, and os is open there
 abbrev pub At : Place → Bool → List Open → Type 0
 At Anywhere b os = Unit {0}
 At Settled b os = without_inner_phrases os ≡ os
 At Behind b os = b ≡ true
 
--- as many parentheses are closed as opened and as many IFs rejoined as begun, what is opened is closed, and no section
--- ends in these words
+-- as many parentheses are closed as opened and as many IFs rejoined as begun; every part that is
+-- opened is closed; no section ends in these words
 pub record EvenAt (from : Place) (q : List Plain) : Type 0 where
   pub parentheses : count opens q ≡ count closes q
   pub ifs : count branches q ≡ count rejoins q
@@ -47,7 +49,7 @@ pub record EvenAt (from : Place) (q : List Plain) : Type 0 where
 abbrev pub Even : List Plain → Type 0
 Even q = EvenAt Settled q
 
--- no more than n parentheses, i IFs and fs phrases are open behind these words
+-- no more than n parentheses, i IFs and fs phrases are open after these words
 pub record RoomAt (from : Place) (n i fs : ℕ) (q : List Plain) : Type 0 where
   pub parentheses : count opens q ≤ count closes q + n
   pub ifs : count branches q ≤ count rejoins q + i
@@ -57,11 +59,11 @@ pub record RoomAt (from : Place) (n i fs : ℕ) (q : List Plain) : Type 0 where
 abbrev pub Room : ℕ → ℕ → ℕ → List Plain → Type 0
 Room n i fs q = RoomAt Settled n i fs q
 
--- as many phrases are open behind these words as may be
+-- as many phrases are open after these words as may be
 abbrev pub Filled : Place → ℕ → List Plain → Type 0
 Filled from fs q = (b : Bool) (os : List Open) → At from b os → phrases_of (open_behind b os q) ≡ phrases_of os + fs
 
--- the word behind q is refused by a limit: as many are open as may be; names are looked at elsewhere
+-- the word after q is refused by a limit: as many are open as may be; names are looked at elsewhere
 abbrev pub FullAt : Place → Bool → ℕ → ℕ → ℕ → List Plain → Option Plain → Type 0
 FullAt from h n i fs q (Some (mark (m.Sign sign.Open))) = count opens q ≡ count closes q + n
 FullAt from h n i fs q (Some (mark (m.Reserved r.If))) = count branches q ≡ count rejoins q + i
@@ -80,7 +82,7 @@ pub record PastAt (from : Place) (h : Bool) (n i fs : ℕ) (q : List Plain) (w :
 abbrev pub Past : Bool → ℕ → ℕ → ℕ → List Plain → Option Plain → Type 0
 Past h n i fs q w = PastAt Settled h n i fs q w
 
--- where n parentheses, i IFs and fs phrases may be open; h says that names may be refused by a limit
+-- n parentheses, i IFs and fs phrases may be open; h says that names may be refused by a limit
 abbrev pub OutAt : {A : Type 0} → Place → Bool → ℕ → ℕ → ℕ → Result A Refusal → List Plain → List Plain → Type 0
 OutAt from h n i fs (Ok a) ws r = (q : List Plain) × (ws ≡ q ++ r) × EvenAt from q
 OutAt from h n i fs (Err Unexpected) ws r = (q : List Plain) × (ws ≡ q ++ r) × RoomAt from n i fs q
@@ -110,7 +112,7 @@ room_of n i fs q e = let a = e.parentheses in let b = e.ifs in record {
   no_end = e.no_end;
 }
 
--- behind words that close what they open
+-- after words that close the parts that they open
 both : (b : Bool) (os : List Open) (x y : List Plain) → Even x → without_inner_phrases os ≡ os
     → open_behind b os (x ++ y) ≡ open_behind (ended_by b x) os y
 both b os x y h e =
@@ -259,7 +261,8 @@ module _ (h : Bool) (n i fs : ℕ) where
 
 -- ---- a part between two words that are counted
 
--- how many may be open behind word w, where n and i may be before it; no phrase stands innermost behind w
+-- how many may be open after word w, if n and i may be open before it; no phrase is innermost after
+-- w
 pub record Encloses (from : Place) (w c : Plain) (n i fs n' i' : ℕ) : Type 0 where
   pub even : EvenAt from (w ∷ c ∷ [])
   pub inner : (b : Bool) (os : List Open) → At from b os → without_inner_phrases (step b os w) ≡ step b os w
@@ -276,7 +279,7 @@ pub record Encloses (from : Place) (w c : Plain) (n i fs n' i' : ℕ) : Type 0 w
 
 module _ {from : Place} (h : Bool) (w : Plain) (k : Mark) (n i fs n' i' : ℕ)
     (z : Encloses from w (mark k) n i fs n' i') where
-  -- behind w, up to and with the closing word
+  -- after w, up to and with the closing word
   abbrev pub Shut : {A : Type 0} → Result A Refusal → List Plain → List Plain → Type 0
   Shut (Ok a) ws r = (q : List Plain) × (ws ≡ q ++ r) × EvenAt from (w ∷ q)
   Shut (Err Unexpected) ws r = (q : List Plain) × (ws ≡ q ++ r) × RoomAt from n' i' fs (w ∷ q)
@@ -286,7 +289,7 @@ module _ {from : Place} (h : Bool) (w : Plain) (k : Mark) (n i fs n' i' : ℕ)
   pub record Shuts {A : Type 0} (p : Reading A) : Type 0 where
     pub at : (ws : List Plain) → Shut (p ws).0 ws (p ws).1
 
-  -- what is open behind words behind w
+  -- the open parts after words after w
   open_within : (a b : List Plain) → Even a → (c : Bool) (os : List Open) → At from c os
       → open_behind c os (w ∷ (a ++ b)) ≡ open_behind c os (w ∷ b)
   open_within a b x c os e =
@@ -334,7 +337,7 @@ module _ {from : Place} (h : Bool) (w : Plain) (k : Mark) (n i fs n' i' : ℕ)
         no_end = omega (arith, e, e', count-append ends a b);
       }
 
-  -- what holds of words holds with w before them
+  -- a law of words holds with w before them
   room_with : (q : List Plain) → Room n i fs q → RoomAt from n' i' fs (w ∷ q)
   room_with q x = record {
     parentheses = z.parentheses q x.parentheses;
@@ -379,7 +382,7 @@ module _ {from : Place} (h : Bool) (w : Plain) (k : Mark) (n i fs n' i' : ℕ)
     unfolding bind
     bind_shuts p g = record { at = λ ws. shut_bound (p ws).0 ws (p ws).1 (g.at ws) }
 
-  -- what is made of what stands before it
+  -- the value that is made of the part before it
   module _ {A B : Type 0} (f : A → B) where
     shut_made : (o : Result A Refusal) (ws r : List Plain) → Shut o ws r
         → (let x : Read B = goes_on (λ a. pure (f a)) o r in Shut x.0 ws x.1)
@@ -429,7 +432,7 @@ module _ (h : Bool) (j k : Mark) (n i fs n' i' : ℕ) (z : Encloses Settled (mar
     eaten (v ∷ ws) true e = rw (is_mark j v e) (enclosed_at h (mark j) k n i fs n' i' z (f true) g ws)
     eaten ws false e = none.at ws
 
-    -- the opening word, if it stands here, and what stands behind it
+    -- the opening word, if it is here, and the part after it
     pub enclosed_tally : Tally h n' i' fs (bind (eat j) f)
     unfolding bind eat look
     enclosed_tally = record { at = λ ws. eaten ws (is j (first ws)) refl }
@@ -463,12 +466,12 @@ pub ends_build : (w : Plain) → builds w ≡ false → ends w ≡ false
 ends_build (mark (m.Reserved r.End)) e = absurd cc
 ends_build _ e = refl
 
--- the parenthesis behind q is one too many
+-- the parenthesis after q is one too many
 abbrev pub Refused : ℕ → List Plain → Option Plain → Type 0
 Refused n q (Some (mark (m.Sign sign.Open))) = count opens q ≡ count closes q + n
 Refused n q _ = ⊥
 
--- where a part of a statement stops, of which Says tells more where it is read
+-- the word at which a part of a statement stops; Says gives more about the part if it is read
 abbrev pub PartOut : {A : Type 0} → ℕ → (A → List Plain → Type 0) → Result A Refusal → List Plain → List Plain → Type 0
 PartOut n Says (Ok a) ws r = (q : List Plain) × (ws ≡ q ++ r) × Inner q × Leaves 0 q × Says a q
 PartOut n Says (Err Unexpected) ws r = (q : List Plain) × (ws ≡ q ++ r) × Inner q × tally.Under n q
@@ -552,7 +555,7 @@ module _ {A : Type 0} (n : ℕ) (fits fits' : A → Type 0) (sp sp' : A → List
         (read_by fits' sp' inner' (p' ws).0 ws (p' ws).1 (good'.read ws));
   }
 
--- ---- what is counted in a part
+-- ---- the counts in a part
 
 pub part_even : (from : Place) (q : List Plain) → Inner q → Leaves 0 q
     → ((b : Bool) (os : List Open) → At from b os → open_behind b os q ≡ without_inner_phrases os) → EvenAt from q
@@ -579,7 +582,7 @@ part_past from h n i fs q w x f = record { full = full_by w f; no_end = none_of 
     full_by (Some (mark (m.Sign sign.Open))) f = f
     full_by _ f = absurd f
 
--- where no phrase stands innermost
+-- if no phrase is innermost
 module _ {A : Type 0} (h : Bool) (n i fs : ℕ) (Says : A → List Plain → Type 0) where
   settled_part : (o : Result A Refusal) (ws r : List Plain) → PartOut n Says o ws r → Out h n i fs o ws r
   settled_part (Ok a) ws r (q, e, x, l, s) =

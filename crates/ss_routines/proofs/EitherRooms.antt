@@ -1,4 +1,4 @@
--- What a condition's reading reads in one more parenthesis, by how many more may be open.
+-- The part that a condition's reading reads in one more parenthesis, by how many more may be open.
 use Rattle.std.proofs.Common.{◌≡◌, ◌≢◌, ℕ, zero, suc, ◌-◌, refl, arith}
 use Rattle.ss_words.specs.declared.refusal.Refusal.TheVariants.{PastLimit}
 use Rattle.ss_words.specs.Reading.{refuse}

@@ -1,4 +1,4 @@
--- What holds of the reading of expressions.
+-- The laws of the reading of expressions.
 use Rattle.std.proofs.Common.{◌≡◌, ◌⊎◌, ℕ, zero, suc, max, ◌≤◌, ◌<◌, false, List, [], ◌∷◌, ◌++◌}
 use Rattle.std.proofs.Common.{Option, Some, None, refl, ap, ◌∙◌, append_assoc, arith}
 use Rattle.std.specs.List.{flat_map}
@@ -43,7 +43,7 @@ abbrev pub Wider : Rooms → ℕ → ℕ → Type 0
 Wider same n k = n ≡ k
 Wider more n k = n < k
 
--- the greatest depth in a list is within n where each is
+-- the greatest depth in a list is within n if each depth is
 pub each_greatest : {A : Type 0} (d : A → ℕ) (n : ℕ) (xs : List A) → Each (λ x. d x ≤ n) xs → greatest d xs ≤ n
 each_greatest d n [] h = omega arith
 each_greatest d n (x ∷ xs) h = let i = each_greatest d n xs h.1 in let j = h.0 in omega (arith, i, j)
@@ -52,7 +52,7 @@ pub greatest_each : {A : Type 0} (d : A → ℕ) (n : ℕ) (xs : List A) → gre
 greatest_each d n [] h = tt
 greatest_each d n (x ∷ xs) h = (omega (arith, h), greatest_each d n xs (omega (arith, h)))
 
--- no comma stands there either
+-- no comma is there either
 abbrev pub EndsList : (List Plain → Type 0) → List Plain → Type 0
 EndsList ends y = ends y × (is (m.Sign s.Comma) (first y) ≡ false)
 
@@ -208,7 +208,7 @@ term_first (term f ps) y =
     ap (λ (u : List Plain). sign_of (first u)) (append_assoc (spell_factor f) (spell_products ps) y)
     ∙ factor_first f (spell_products ps ++ y)
 
--- q reads in one more parenthesis, q' where the rooms are those of p'
+-- q reads in one more parenthesis; q' reads there with the rooms of p'
 module _ (rooms : Rooms) (n k : ℕ) (q q' : Reading Expr)
     (lw : OpenLaw rooms n depth_expr spell_expr (if_open n q) (if_open k q'))
     (la : OpenLaw rooms n (greatest_of depth_expr) (spell_several spell_expr) (if_open n (several q))
@@ -353,7 +353,7 @@ module _ (rooms : Rooms) (n k : ℕ) (q q' : Reading Expr)
             ((e.no_open, e.no_star), e.no_sign);
       }
 
-  -- what stands behind a first factor
+  -- the part after a first factor
   abbrev EndsRest : List Plain → Type 0
   EndsRest y = Ends y
 
@@ -465,7 +465,7 @@ open_exprs more (suc n) (suc k) w =
     open_law more n k (greatest_of depth_expr) (spell_several spell_expr) (EndsList Ends) (several (expr_at n))
     (several (expr_at k)) (exprs_law more n k (omega arith)) (λ y. (close_ends y, refl))
 
--- the words behind a first factor
+-- the words after a first factor
 abbrev pub RestSpelled : List Factor × List (TermSign × Term) → List Plain
 RestSpelled x =
     flat_map (λ f. mark (m.Sign s.Star) ∷ spell_factor f) x.0 ++ flat_map (λ x. sign x.0 ∷ spell_term x.1) x.1
@@ -474,7 +474,7 @@ RestSpelled x =
 abbrev pub RestFits : ℕ → List Factor × List (TermSign × Term) → Type 0
 RestFits n x = Each (λ f. depth_factor f ≤ n) x.0 × Each (λ y. depth_term y.1 ≤ n) x.1
 
--- behind a first factor, at each level
+-- after a first factor, at each level
 pub rest_law : (rooms : Rooms) (n k : ℕ) → Wider rooms n k
     → Law rooms n (RestFits n) RestSpelled Ends (rest_with n) (rest_with k)
 unfolding rest_with

@@ -23,8 +23,8 @@ use Rattle.ss_routines.proofs.Tally as tally
 use Rattle.ss_routines.proofs.Tally.{Leaves, Tally, TallyAt, pure_tally, bind_tally, look_tally, skip_tally}
 use Rattle.ss_routines.proofs.Tally.{expect_tally, eat_tally, name_tally, number_tally, picture_tally, many_tally}
 
--- p reads such parts where n parentheses may be open, p' where xs many or more may be; ends is what may stand behind
--- one
+-- p reads such parts if n parentheses may be open, p' if xs many or more may be; ends says which
+-- words may be after a part
 pub record Form (rooms : Rooms) (n : ℕ) (A : Type 0) : Type 1 where
   pub sp : A → List Plain
   pub fits : A → Type 0
@@ -36,7 +36,7 @@ pub record Form (rooms : Rooms) (n : ℕ) (A : Type 0) : Type 1 where
   pub counted : Tally n p
   pub again : (a : A) (y : List Plain) → fits a → ends y → p (sp a ++ y) ≡ (Ok a, y)
 
--- a part that may stand there or not; none is what stands there where it doesn't
+-- a part that may be there or not; none says which words are there if the part is not
 pub record Item (rooms : Rooms) (n : ℕ) (A : Type 0) : Type 1 where
   pub sp : A → List Plain
   pub fits : A → Type 0
@@ -182,7 +182,7 @@ module _ {rooms : Rooms} {n : ℕ} {A B : Type 0} (F : Form rooms n A) (G : Form
           again = pair_read_back;
         }
 
--- ---- a mark before a part or behind it
+-- ---- a mark before a part or after it
 
 module _ {rooms : Rooms} {n : ℕ} {A : Type 0} (k : Mark) (l : Leaves 0 (mark k ∷ [])) (F : Form rooms n A) where
   abbrev pub behind_sp : A → List Plain
@@ -316,7 +316,7 @@ module _ {rooms : Rooms} {n : ℕ} {A B : Type 0} (F : Form rooms n A) (sp : B �
         again = made_read_back;
       }
 
--- ---- a mark and a part, if the mark stands there
+-- ---- a mark and a part, if the mark is there
 
 module _ {rooms : Rooms} {n : ℕ} {A : Type 0} (k : Mark) (l : Leaves 0 (mark k ∷ [])) (F : Form rooms n A) where
   abbrev pub mark_sp : A → List Plain
@@ -524,7 +524,7 @@ module _ {rooms : Rooms} {n : ℕ} {A : Type 0} (I : Item rooms n A) where
               star_read_back;
         }
 
--- ---- a word of a table and a part, if such a word stands there
+-- ---- a word of a table and a part, if such a word is there
 
 -- a table of words
 pub record Table (W : Type 0) : Type 0 where

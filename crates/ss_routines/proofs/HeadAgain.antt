@@ -22,7 +22,7 @@ use Rattle.ss_routines.specs.SectionReading.{routine_at, event_at, head_by, head
 use Rattle.ss_routines.proofs.Tally.{Refused, Out, Tally}
 use Rattle.ss_routines.proofs.HeadLaw.{spell_more, spell_list, spell_given, spell_yielded}
 
--- ---- what is spelled is read again
+-- ---- a spelled part is read again
 
 -- no part of a head goes on there
 pub record EndsHead (y : List Plain) : Type 0 where
@@ -101,7 +101,7 @@ saving_again true y e =
     ∙ then (expect (m.Reserved r.Event)) _ tt v n (expect_read_back (m.Reserved r.Event) n)
     ∙ then (expect (m.Reserved r.Notices)) _ tt n y (expect_read_back (m.Reserved r.Notices) y)
 
--- what stands behind the given parameters
+-- the part after the given parameters
 yielded_ends : (ys : List Name) (y : List Plain) → EndsHead y
     → (is (m.Sign s.Comma) (first (spell_yielded ys ++ y)) ≡ false)
     × ((is (m.Reserved r.Given) (first (spell_yielded ys ++ y)) ≡ false)
@@ -226,7 +226,7 @@ name_spares : Spares a_name
 unfolding a_name
 name_spares = look_spares name_by (λ w ws e. let h = name_at_spares w in h.at ws)
 
--- what parentheses, IFs and phrases refuse
+-- the words that parentheses, IFs and phrases refuse
 refused_counts : (n : ℕ) (q : List Plain) (w : Option Plain) → Refused n q w → Counts w
 refused_counts n q (Some (mark (m.Sign s.Open))) h = refl
 refused_counts n q (Some (mark (m.Reserved r.If))) h = refl

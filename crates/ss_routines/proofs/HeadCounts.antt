@@ -1,4 +1,5 @@
--- What the reading of heads and of local DEFINEs has counted where it stops, and how many names a head has there.
+-- The counts of the reading of heads and of local DEFINEs at the word at which it stops, and how
+-- many names a head has there.
 use Rattle.std.proofs.Common.{◌≡◌, ℕ, zero, suc, ◌+◌, ◌-◌, ◌≤◌, Bool, true, false, List, [], ◌∷◌, ◌++◌, length, Option}
 use Rattle.std.proofs.Common.{Some, None, Result, Ok, Err, refl, sym, ap, subst, ◌∙◌, append_assoc, arith}
 use Rattle.ss_words.specs.declared.refusal.Refusal.{Refusal}
@@ -101,7 +102,7 @@ module _ (n i fs : ℕ) where
       ]) (eat (m.Reserved r.Saving)) (eat_tally true n i fs (m.Reserved r.Saving)
       (plain _ refl refl refl refl refl refl))
 
--- where one parenthesis at least may be open
+-- if at least one parenthesis may be open
 module _ (n i fs : ℕ) where
   abbrev in_parentheses : ℕ → Bool → Reading (Listing Name)
   in_parentheses k b = elim b [
@@ -189,12 +190,12 @@ module _ (n i fs : ℕ) where
 abbrev Has : Bool → ℕ → List Plain → Type 0
 Has due k pre = (z : List Plain) → names_in_head false (pre ++ z) ≡ k + names_in_head due z
 
--- the word behind a head with these words is a name past the limit of so many
+-- the word after a head with these words is a name past the limit on names
 abbrev pub Last : ℕ → List Plain → Option Plain → Type 0
 Last l pre (Some (name v)) = names_in_head false (pre ++ name v ∷ []) ≡ suc l
 Last l pre _ = ⊥
 
--- behind the words pre of a head, which may have so many names
+-- after the words pre of a head that may have l names
 abbrev pub Told : {A : Type 0} → ℕ → (A → List Plain → Type 0) → List Plain → Result A Refusal → List Plain
     → List Plain → Type 0
 Told l has pre (Ok a) ws r = (q : List Plain) × (ws ≡ q ++ r) × has a (pre ++ q)
@@ -289,7 +290,7 @@ module _ (l : ℕ) where
       look_tells Anyhow pre _ (λ w. test_tells Anyhow pre k (pure tt) (refuse Unexpected)
       (pure_tells Anyhow (pre ++ mark k ∷ []) tt tt) (refuse_tells Anyhow pre) w (is k w) refl)
 
-  -- a word behind which a name is due
+  -- a word after which a name is due
   asked : (k : Mark) (j : ℕ) (pre : List Plain) → asks (mark k) ≡ true → Has false j pre
       → Has true j (pre ++ mark k ∷ [])
   asked k j pre e h z =
@@ -321,7 +322,7 @@ module _ (l : ℕ) where
   unfolding a_name
   name_tells j pre h = look_tells (λ v x. Has false (suc j) x) pre name_by (name_at j pre h)
 
-  -- a name where there may be no more
+  -- a name, if there may be no more
   module _ (A : Type 0) (has : A → List Plain → Type 0) (pre : List Plain) (h : Has true l pre) where
     last_at : (w : Option Plain) → TellsAt has pre w (refuse (refusal_of w))
     unfolding refuse

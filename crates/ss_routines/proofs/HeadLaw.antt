@@ -1,4 +1,4 @@
--- What holds of the reading of heads.
+-- The laws of the reading of heads.
 use Rattle.std.proofs.Common.{◌≡◌, ℕ, zero, suc, ◌-◌, ◌≤◌, Bool, true, false, List, [], ◌∷◌}
 use Rattle.std.proofs.Common.{length, Option, Some, Err, refl, sym, ap, subst}
 use Rattle.std.proofs.Common.{arith}
@@ -27,9 +27,9 @@ use Rattle.ss_routines.specs.SectionReading.{event_at, head_by, head_at}
 use Rattle.ss_routines.proofs.AnnouncedParts.{IsKept, Keeps, KeepsAt, keeps_of, bind_keeps, keeps_at}
 use Rattle.ss_routines.proofs.AnnouncedParts.{look_keeps, skip_keeps}
 
--- ---- what is read keeps the limits
+-- ---- the part that is read keeps the limits
 
--- a name, where there may be no more
+-- a name, if there may be no more
 refused_name : {A : Type 0} (ws : List Plain) → (g : Refusal) × (no_name {A = A} ws ≡ (Err g, ws))
 unfolding no_name look refuse
 refused_name [] = (Unexpected, refl)
@@ -38,7 +38,7 @@ refused_name (number i ∷ ws) = (Unexpected, refl)
 refused_name (mark k ∷ ws) = (Unexpected, refl)
 refused_name (picture ls ∷ ws) = (Unexpected, refl)
 
--- behind a word that announces a name there is none; without that word, a is there
+-- after a word that announces a name there is none; without that word, a is there
 module _ {A : Type 0} (fits : A → Type 0) (sp : A → List Plain) (k : Mark) (tells : announces (mark k) ≡ true) (a b : A)
     (f : fits a) (e : sp a ≡ []) (y : List Plain) (h : sp b ≡ mark k ∷ y)
     (p : Reading A) (refuses : (ws : List Plain) → (g : Refusal) × (p ws ≡ (Err g, ws))) where
@@ -197,7 +197,7 @@ saving_good = bind_good Any Any (spell_eaten (m.Reserved r.Saving)) spell_saving
   | false ↦ (λ u. pure_good Any spell_saving _ false tt refl)
 ]) (eat (m.Reserved r.Saving)) (eat_good (m.Reserved r.Saving))
 
--- a head has so many parameters at most
+-- a head has at most n parameters
 abbrev pub AtMostHead : ℕ → Head → Type 0
 AtMostHead k h = parameters_head h ≤ k
 

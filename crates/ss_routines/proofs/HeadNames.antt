@@ -1,4 +1,4 @@
--- A program's head has at most one name more than it has parameters, also where its words are cut off.
+-- A program's head has at most one name more than it has parameters, even if its words are cut off.
 use Rattle.std.proofs.Common.{◌≡◌, ◌⊎◌, ℕ, suc, ◌+◌, ◌≤◌, Bool, true, false, List, [], ◌∷◌, ◌++◌, length}
 use Rattle.std.proofs.Common.{Some, refl, sym, ap, ◌∙◌, append_assoc, arith}
 use mathlib.Core.Logic.{inl, inr}
@@ -120,7 +120,7 @@ fewer true (mark n ∷ p) y = omega arith
 fewer true (picture n ∷ p) y = omega arith
 fewer false (w ∷ p) y = fewer_ask w p y (asks w) (closes w) refl refl (fewer true p y) (fewer false p y)
 
--- the words p begin a, or they go on behind it
+-- the words p begin a, or they go on after it
 split : (a b p x : List Plain) → a ++ b ≡ p ++ x
     → ((y : List Plain) × (a ≡ p ++ y)) ⊎ ((z : List Plain) × (p ≡ a ++ z) × (b ≡ z ++ x))
 split [] b p x e = inr (p, refl, e)

@@ -1,4 +1,5 @@
--- Reading heads looks no further than the word at which it stops, also where more parameters may stand.
+-- Reading heads looks no further than the word at which it stops, even if more parameters may
+-- follow.
 use Rattle.std.proofs.Common.{◌≡◌, ℕ, zero, suc, ◌-◌, ◌≤◌, ◌<◌, true, false, List, [], ◌∷◌, ◌++◌, length, Option}
 use Rattle.std.proofs.Common.{Some, None, Result, Ok, Err, refl, sym, ap, subst, ◌∙◌, append_assoc, arith}
 use Rattle.ss_words.specs.declared.mark.Mark.TheVariants as m
@@ -27,7 +28,7 @@ first_same : (q a b : List Plain) → first a ≡ first b → first (q ++ a) ≡
 first_same [] a b e = e
 first_same (w ∷ q) a b e = refl
 
--- one reading and then another, which is known of what the first may give
+-- one reading and then another; the results of the first are known
 module _ {A B : Type 0} (rooms : Rooms) (fits : A → Type 0) (sp : A → List Plain) (f f' : A → Reading B)
     (loc : (a : A) → fits a → Local rooms (f a) (f' a))
     (short : (a : A) (r : List Plain) → length (f' a r).1 ≤ length r) (p' : Reading A) where

@@ -1,4 +1,4 @@
--- The words that statements are built of stand in no part of a statement.
+-- The words that statements are built of are in no part of a statement.
 use Rattle.std.proofs.Common.{◌≡◌, Bool, true, false, List, [], ◌∷◌, ◌++◌, Option, Some, None, refl, arith}
 use Rattle.std.specs.List.{flat_map}
 use Rattle.ss_words.specs.declared.mark.Mark.{Mark}
@@ -83,7 +83,7 @@ front a b x = let h = x.none in record { none = omega (arith, h, count-append bu
 inside : {a : List Plain} → Inner a → Inner (spell_within a)
 inside {a} x = also (mark (m.Sign s.Open)) refl (joined x (alone (mark (m.Sign s.Close)) refl))
 
--- ---- lists and what may be left out
+-- ---- lists and optional parts
 
 module _ {A : Type 0} (sp : A → List Plain) (h : (a : A) → Inner (sp a)) where
   each : (xs : List A) → Inner (flat_map sp xs)
@@ -299,7 +299,7 @@ a_qualifier Until h = also _ refl h
 qualifier : (q : Qualifier) → Inner (spell_qualifier q)
 qualifier q = a_qualifier q.word (inner_condition q.condition)
 
--- what stands behind FOR
+-- the part after FOR
 pub inner_phrase : (f : Phrase) → Inner (spell_range f.range ++ flat_map spell_qualifier f.qualifiers)
 inner_phrase f = joined (range f.range) (each spell_qualifier qualifier f.qualifiers)
 
@@ -312,12 +312,12 @@ statistic Minimum = alone _ refl
 computed : (t : Computed) → Inner (spell_computed t)
 computed t = joined (reference t.target) (also _ refl (statistic t.statistic))
 
--- what stands behind COMPUTE
+-- the part after COMPUTE
 pub inner_compute : (x : Several Computed × Expr)
     → Inner ((spell_several spell_computed x.0 ++ mark (m.Reserved r.In) ∷ []) ++ spell_expr x.1)
 inner_compute x = joined (joined (several spell_computed computed x.0) (alone _ refl)) (inner_expr x.1)
 
--- what IF asks
+-- the question of an IF
 pub inner_question : (q : Question) → Inner (spell_question q)
 inner_question (Holds c) = inner_condition c
 inner_question Found = alone _ refl

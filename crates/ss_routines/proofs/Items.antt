@@ -1,4 +1,4 @@
--- Parts that may stand there or not, made of such parts.
+-- Parts that may be there or not, made of such parts.
 use Rattle.std.proofs.Common.{◌≡◌, ◌⊎◌, ℕ, ◌<◌, List, [], ◌++◌, length, length-append, Option, Some, None}
 use Rattle.std.proofs.Common.{Ok, refl, sym, ap, ◌∙◌, append_assoc, arith}
 use mathlib.Core.Logic.{inl, inr}
@@ -12,7 +12,7 @@ use Rattle.ss_routines.specs.Combined.{if_word, either_of, made_of, must}
 use Rattle.ss_routines.proofs.Tally.{Tally, pure_tally, refuse_tally, bind_tally}
 use Rattle.ss_routines.proofs.Form.{Form, Item}
 
--- ---- the same with another word for what may stand behind
+-- ---- the same part with another word for the words that may be after it
 
 abbrev pub ending : {A : Type 0} {rooms : Rooms} {n : ℕ} (F : Form rooms n A) (ends : List Plain → Type 0)
     → ((y : List Plain) → ends y → F.ends y) → Form rooms n A
@@ -47,7 +47,7 @@ ending_item I ends h =
       stops = I.stops;
     }
 
--- ---- a part and another behind it, if the first stands there
+-- ---- a part and another after it, if the first is there
 
 module _ {rooms : Rooms} {n : ℕ} {A B : Type 0} (I : Item rooms n A) (G : Form rooms n B) where
   abbrev pub and_sp : A × B → List Plain
@@ -118,7 +118,7 @@ module _ {rooms : Rooms} {n : ℕ} {A B : Type 0} (I : Item rooms n A) (G : Form
               and_stops;
         }
 
--- ---- a part, or else another, if one of them stands there
+-- ---- a part, or else another, if one of them is there
 
 module _ {rooms : Rooms} {n : ℕ} {A B : Type 0} (I : Item rooms n A) (J : Item rooms n B) where
   abbrev pub or_sp : A ⊎ B → List Plain
@@ -250,7 +250,7 @@ module _ {rooms : Rooms} {n : ℕ} {A B : Type 0} (I : Item rooms n A) (sp : B �
         stops = renamed_stops;
       }
 
--- ---- a part that must stand there
+-- ---- a part that must be there
 
 module _ {rooms : Rooms} {n : ℕ} {A : Type 0} (I : Item rooms n A) (a0 : A) (f0 : I.fits a0) where
   pub must_good : Good I.fits I.sp [] (must I.p)

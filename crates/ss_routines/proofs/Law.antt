@@ -1,4 +1,4 @@
--- What holds of a reading of parts, and parts in parentheses.
+-- The laws of a reading of parts, and parts in parentheses.
 use Rattle.std.proofs.Common.{◌≡◌, ℕ, zero, suc, ◌≤◌, Bool, true, false, List, [], ◌∷◌, ◌++◌, length, Option, Some}
 use Rattle.std.proofs.Common.{None, Result, Ok, Err, refl, sym, ap, subst, ◌∙◌, append_assoc, arith}
 use Rattle.ss_words.specs.declared.refusal.Refusal.{Refusal}
@@ -44,7 +44,7 @@ form_of rooms n fits sp ends p p' l =
       again = l.again;
     }
 
--- the laws of what may stand in parentheses, where n may be open and d counts those in a part
+-- the laws of parts that may be in parentheses, if n may be open and d counts those in a part
 pub record OpenLaw {A : Type 0} (rooms : Rooms) (n : ℕ) (d : A → ℕ) (sp : A → List Plain)
     (p p' : Reading (Option A)) : Type 0 where
   pub good : Good (fits_option (λ a. suc (d a) ≤ n)) (spell_option (λ a. spell_within (sp a))) [] p
@@ -70,7 +70,7 @@ open_item rooms n d sp p p' l = record {
   stops = l.stops;
 }
 
--- behind the opening parenthesis
+-- after the opening parenthesis
 abbrev pub close : {A : Type 0} → Reading A → Reading (Option A)
 close q = bind q (λ a. bind (expect (m.Sign s.Close)) (λ u. pure (Some a)))
 
@@ -84,7 +84,7 @@ open_stops (suc n) q y e =
     then (eat (m.Sign s.Open)) (λ c. elim c [ true ↦ close q | false ↦ pure None ]) false y y
     (not_eaten (m.Sign s.Open) y e)
 
--- ---- where one more may be open
+-- ---- if one more may be open
 
 module _ {A : Type 0} (rooms : Rooms) (n k : ℕ) (d : A → ℕ) (sp : A → List Plain) (ends : List Plain → Type 0)
     (q q' : Reading A) (l : Law rooms n (λ a. d a ≤ n) sp ends q q')
@@ -180,13 +180,13 @@ module _ {A : Type 0} (rooms : Rooms) (n k : ℕ) (d : A → ℕ) (sp : A → Li
             q;
       }
 
--- ---- where none may be open
+-- ---- if none may be open
 
 module _ {A : Type 0} (d : A → ℕ) (sp : A → List Plain) (q : Reading A) where
   abbrev no_fits : A → Type 0
   no_fits a = suc (d a) ≤ 0
 
-  -- what stands where a parenthesis may not open
+  -- the answer at a place at which a parenthesis may not open
   abbrev shut_answer : Bool → List Plain → Read (Option A)
   shut_answer true ws = (Err PastLimit, ws)
   shut_answer false ws = (Ok None, ws)
@@ -237,7 +237,7 @@ module _ {A : Type 0} (d : A → ℕ) (sp : A → List Plain) (q : Reading A) wh
             (shut_left ws (is (m.Sign s.Open) (first ws))),
       )
 
-  -- where none may be open either
+  -- if no more may be open either
   shut_same_at : (ws : List Plain) (b : Bool) → is (m.Sign s.Open) (first ws) ≡ b
       → Stops same (if_open 0 q) (shut_answer b ws).0 ws (shut_answer b ws).1
   shut_same_at ws true e =
@@ -252,7 +252,7 @@ module _ {A : Type 0} (d : A → ℕ) (sp : A → List Plain) (q : Reading A) wh
             (shut_same_at ws (is (m.Sign s.Open) (first ws)) refl);
       }
 
-  -- where one more may be open
+  -- if one more may be open
   module _ (k : ℕ) (q' : Reading A) (l : Local same q' q') where
     close_local : Local same (close q') (close q')
     close_local =

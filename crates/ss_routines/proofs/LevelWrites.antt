@@ -32,7 +32,7 @@ use Rattle.ss_routines.proofs.BlockLevels.{loop_same, branch_same, inside_same}
 use Rattle.ss_routines.proofs.BlockWrites.{assoc_writes, none_writes, BlockWrites, BranchWrites, LoopWrites}
 use Rattle.ss_routines.proofs.BlockWrites.{branch_writes, block_writes, controlled_writes}
 
--- ---- what is read is spelled so, at each room
+-- ---- the part that is read is spelled so, at each room
 
 module _ (n : ℕ) where
   simple_good : Good (fits_option (λ a. depth_simple a ≤ n)) (spell_option spell_simple) [] (simple_at n)
@@ -89,7 +89,7 @@ module _ (lines : List ℕ) (n : ℕ) where
         (noting_loop lines n (noting_if lines n i) f) lb ll (λ a. depth_simple a ≤ n) (simple_good n) (FitsOne n i f)
         (one_good n i f) (FitsStatement n i f) (statement_good n i f) k acc
 
-    -- what stands behind a phrase
+    -- the part after a phrase
     behind_writes : (k : ℕ) (g : Phrase) (j : ℕ) (acc : List Spot)
         → Writes (length lines) (λ c. acc ++ flat_loop lines k g j c) j
         (controlled_with n (branch_at n i f) (loop_in n (branch_at n i) f))
@@ -136,7 +136,7 @@ module _ (lines : List ℕ) (n : ℕ) where
         (controlled_with n (branch_at n i f) (loop_in n (branch_at n i) f)) _ (controlled_good n i f)
         (behind_writes k g j acc))
 
-    -- FOR, where one more phrase may be open
+    -- FOR, if one more phrase may be open
     for_writes : LoopWrites lines n (loop_in n (branch_at n i) (suc f))
         (noting_loop lines n (noting_if lines n i) (suc f))
     unfolding loop_in noting_loop if_allowed eat_allowed pair
@@ -153,7 +153,7 @@ module _ (lines : List ℕ) (n : ℕ) where
     abbrev if_out : ℕ → List Spot → Option Branching → Bool × List Spot
     if_out k acc = noted (λ x. flat_one lines k (branch x.0 x.1.0 x.1.1)) acc
 
-    -- IF, where one more may be open
+    -- IF, if one more may be open
     if_writes : BranchWrites lines n (branch_at n (suc i) f) (noting_if lines n (suc i) f)
     unfolding branch_at noting_if if_allowed eat_allowed
     if_writes k acc =

@@ -94,7 +94,7 @@ forward ws k past (Err PastLimit) (w ∷ tail) e =
 pub limit_is_counted : LimitIsCounted
 limit_is_counted ws k past = forward ws k past (whole reading ws).0 (whole reading ws).1 refl
 
--- ---- what begins a program within the limits is counted within them
+-- ---- the words that begin a program within the limits are counted within them
 
 all_taken : (ws : List Plain) → take (length ws) ws ≡ ws
 all_taken ws = ap (take (length ws)) (sym (append-nil ws)) ∙ take_at ws [] (length ws) refl
@@ -166,7 +166,7 @@ program_ends t (u ∷ ts) (x, h) =
           ∙ sym (append_assoc (spell_section t) y (mark (m.Reserved r.End) ∷ [])),
     )
 
--- an END stands behind each word of a program
+-- an END is after each word of a program
 some_end : (t : Tree) → Each Spelled t → (p x : List Plain) (w : Plain) → spell t ≡ p ++ w ∷ x
     → 0 < count ends (w ∷ x)
 some_end [] h p x w e = absurd (omega (arith, ap length e, length-append p (w ∷ x)))

@@ -14,7 +14,7 @@ use Rattle.ss_routines.specs.Combined.{if_mark, eat_allowed, if_allowed}
 use Rattle.ss_routines.proofs.Tally.{Leaves, Refused, Out, Tally, nothing}
 use Rattle.ss_routines.proofs.Form.{Form, Item, mark_sp, mark_item}
 
--- the laws of a part that may stand there or not
+-- the laws of a part that may be there or not
 pub record PartLaw {A : Type 0} (rooms : Rooms) (n : ℕ) (fits : A → Type 0) (sp : A → List Plain)
     (ends none : List Plain → Type 0) (p p' : Reading (Option A)) : Type 0 where
   pub good : Good (fits_option fits) (spell_option sp) [] p
@@ -49,12 +49,12 @@ abbrev pub laws_of : {A : Type 0} {rooms : Rooms} {n : ℕ} (I : Item rooms n A)
     → PartLaw rooms n I.fits I.sp I.ends I.none I.p I.p'
 laws_of I = record { good = I.good; near = I.near; counted = I.counted; some = I.some; goes = I.goes; stops = I.stops }
 
--- another mark stands there
+-- another mark is there
 abbrev pub Not : Mark → List Plain → Type 0
 Not k y = is k (first y) ≡ false
 
 module _ {A : Type 0} (k : Mark) (sp : A → List Plain) where
-  -- ---- where one more may be open
+  -- ---- if one more may be open
 
   pub allowed_law : {rooms : Rooms} {n : ℕ} (l : Leaves 0 (mark k ∷ [])) (i j : ℕ) (F : Form rooms n A)
       → PartLaw rooms n F.fits (mark_sp k l F) F.ends (Not k) (if_allowed (suc i) k F.p) (if_allowed (suc j) k F.p')
@@ -69,12 +69,12 @@ module _ {A : Type 0} (k : Mark) (sp : A → List Plain) where
         stops = m.stops;
       }
 
-  -- ---- where none may be open
+  -- ---- if none may be open
 
   abbrev behind_mark : A → List Plain
   behind_mark a = mark k ∷ sp a
 
-  -- what stands there
+  -- the answer if no more may be open
   abbrev shut_answer : Bool → List Plain → Read (Option A)
   shut_answer true ws = (Err PastLimit, ws)
   shut_answer false ws = (Ok None, ws)

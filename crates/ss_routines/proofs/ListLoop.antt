@@ -1,4 +1,4 @@
--- A list that a loop reads, where an item is refused.
+-- A list that a loop reads, if an item is refused.
 use Rattle.std.proofs.Common.{List, [], ◌∷◌, map, Option}
 use Rattle.ss_words.specs.declared.refusal.Refusal.{Refusal}
 use Rattle.ss_words.specs.Plain.{Plain}

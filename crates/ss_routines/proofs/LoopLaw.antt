@@ -1,4 +1,4 @@
--- What holds of the reading of FOR phrases, of what IF asks and of COMPUTE.
+-- The laws of the reading of FOR phrases, of the question of an IF and of COMPUTE.
 use Rattle.std.proofs.Common.{◌≡◌, ◌⊎◌, ℕ, ◌≤◌, Bool, false, List, [], ◌∷◌, ◌++◌, Option}
 use Rattle.std.proofs.Common.{Some, None, refl, sym, ap, ◌∙◌, append_assoc, arith}
 use Rattle.std.specs.List.{flat_map}
@@ -187,7 +187,7 @@ module _ (rooms : Rooms) (n k : ℕ) (w : Wider rooms n k) where
   abbrev OfForm : {A : Type 0} (F : Form rooms n A) → Law rooms n F.fits F.sp F.ends F.p F.p'
   OfForm F = record { good = F.good; near = F.near; counted = F.counted; again = F.again }
 
-  -- ---- what IF asks
+  -- ---- the question of an IF
 
   found_leaves : Leaves 0 (mark (m.Reserved r.Found) ∷ [])
   found_leaves = plain_word _ refl refl refl
@@ -307,7 +307,7 @@ module _ (rooms : Rooms) (n k : ℕ) (w : Wider rooms n k) where
   compute_part =
       pair_form (before_form several_computed (m.Reserved r.In) in_leaves (λ y. (tt, refl))) value (λ b y f e. tt)
 
-  -- the words behind COMPUTE
+  -- the words after COMPUTE
   abbrev pub ComputeWords : Several Computed × Expr → List Plain
   ComputeWords x = (spell_several spell_computed x.0 ++ mark (m.Reserved r.In) ∷ []) ++ spell_expr x.1
 
@@ -318,7 +318,7 @@ module _ (rooms : Rooms) (n k : ℕ) (w : Wider rooms n k) where
   unfolding compute_at
   compute_law = OfForm compute_part
 
-  -- ---- where a walk begins, and its order
+  -- ---- the start of a walk, and its order
 
   abbrev EndsStart : List Plain → Type 0
   EndsStart y = Ends y × (is (m.Reserved r.From) (first y) ≡ false) × (is (m.Reserved r.After) (first y) ≡ false)
@@ -407,7 +407,7 @@ module _ (rooms : Rooms) (n k : ℕ) (w : Wider rooms n k) where
   abbrev the_order : Form rooms n Direction
   the_order = form_of rooms n Any spell_order (λ y. is (m.Reserved r.In) (first y) ≡ false) an_order an_order order_law
 
-  -- ---- what a FOR phrase goes through
+  -- ---- the range of a FOR phrase
 
   abbrev EndsWalk : List Plain → Type 0
   EndsWalk y = EndsStart y × (is (m.Reserved r.In) (first y) ≡ false)
@@ -669,7 +669,7 @@ module _ (rooms : Rooms) (n k : ℕ) (w : Wider rooms n k) where
   each_qualifier : (qs : List Qualifier) → EachOf (λ q. depth_qualifier q ≤ n) qs → greatest depth_qualifier qs ≤ n
   each_qualifier qs h = each_greatest depth_qualifier n qs h
 
-  -- the words of a phrase behind FOR
+  -- the words of a phrase after FOR
   abbrev pub PhraseWords : Phrase → List Plain
   PhraseWords f = spell_range f.range ++ flat_map spell_qualifier f.qualifiers
 

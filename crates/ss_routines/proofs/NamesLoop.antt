@@ -1,4 +1,4 @@
--- Reading one name after the other, of which so many may stand, as a loop does.
+-- Reading one name after the other as a loop does, if n names may be there.
 use Rattle.std.proofs.Common.{◌≡◌, ◌≢◌, ℕ, zero, suc, ◌-◌, List, [], ◌∷◌, ◌++◌, Bool, true, false, Result, Ok, Err}
 use Rattle.std.proofs.Common.{refl, sym, ap, ◌∙◌, append_assoc, arith}
 use Rattle.std.proofs.lemmas.List.{append-nil}
@@ -25,13 +25,13 @@ fails_so Unexpected ws total e = e
 fails_so PastLimit ws total e = e
 fails_so Memory ws total e = tt
 
--- ---- names behind commas
+-- ---- names after commas
 
--- what was read before, and what is still read where k more may follow
+-- the part that was read before, and the part that is still read if k more may follow
 abbrev pub Gathered : Read (List Name) → List Name → ℕ → List Plain → Type 0
 Gathered total front k ws = total ≡ (on_ok (λ b. front ++ b) (others_at k ws).0, (others_at k ws).1)
 
--- what stands in front, before what is read
+-- the names in front, before the part that is read
 abbrev with_front : List Name → Read (List Name) → Read (List Name)
 with_front front r = (on_ok (λ b. front ++ b) r.0, r.1)
 
@@ -42,7 +42,7 @@ same (Err e) = refl
 pub starts : (k : ℕ) (ws : List Plain) (front : List Name) → front ≡ [] → Gathered (others_at k ws) front k ws
 starts k ws front e = rw e (λ i. (same (others_at k ws).0 i, (others_at k ws).1))
 
--- behind a comma, or where none stands
+-- after a comma, or if there is no comma
 abbrev behind_comma : ℕ → Bool → Reading (List Name)
 behind_comma zero b = elim b [ true ↦ no_name | false ↦ pure [] ]
 behind_comma (suc k) b = elim b [ true ↦ bind a_name (λ n. bind (others_at k) (λ ns. pure (n ∷ ns))) | false ↦ pure [] ]
@@ -70,7 +70,7 @@ full total front zero g ws z none e is so_far =
     so_far ∙ ap (with_front front) (by_comma zero true ws z e ∙ refused z g is)
 full total front (suc k) g ws z none e is so_far = absurd (omega (arith, none))
 
--- behind a name that is read
+-- after a name that is read
 abbrev behind_name : ℕ → Read Name → Read (List Name)
 behind_name k x = goes_on (λ n. bind (others_at k) (λ ns. pure (n ∷ ns))) x.0 x.1
 
@@ -105,7 +105,7 @@ failed total front zero g ws z r some e read so_far = absurd (some refl)
 failed total front (suc k) g ws z r some e read so_far =
     so_far ∙ ap (with_front front) (by_name k ws z e ∙ ap (behind_name k) read)
 
--- ---- a first name and those behind it
+-- ---- a first name and those after it
 
 pub names_none : (k : ℕ) (ws : List Plain) (g : Refusal) → k ≡ 0 → g ≡ refusal_of (first ws)
     → names_at k ws ≡ (Err g, ws)
@@ -113,7 +113,7 @@ unfolding names_at
 names_none zero ws g none e = refused ws g e
 names_none (suc k) ws g none e = absurd (omega (arith, none))
 
--- behind the first name
+-- after the first name
 abbrev behind_first : ℕ → Read Name → Read (Several Name)
 behind_first j x = goes_on (λ n. bind (others_at j) (λ ns. pure (record { first = n; others = ns }))) x.0 x.1
 

@@ -1,4 +1,4 @@
--- What the code tells of a text, by what it noted.
+-- The answer of the code to a text, by the places that it noted.
 use Rattle.std.proofs.Common.{◌≡◌, ℕ, ◌-◌, ◌≤◌, ◌<◌, List, [], ◌∷◌, length, Result, Ok, Err, refl, sym, ap, subst, ◌∙◌}
 use Rattle.std.proofs.Common.{arith}
 use Rattle.std.specs.Prelude.{map}
@@ -87,7 +87,7 @@ module _ (text : List PlainWord) where
       (sym e ∙ as_tree) in
       (t, w, words_are text ∙ is, out ∙ ap (λ (ls : List ℕ). written ls t) (sym (lines_are text)))
 
--- ---- what the code tells
+-- ---- the answer of the code
 
 module _ (text : List PlainWord) (rest : List Plain) where
   place : length (plains_of text) - length rest ≡ length text - length rest

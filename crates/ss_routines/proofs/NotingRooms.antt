@@ -1,4 +1,4 @@
--- IF and FOR by how many more may be open, where it is known whether the word stands there.
+-- IF and FOR by how many more may be open, if it is known whether the word is there.
 use Rattle.std.proofs.Common.{◌≡◌, ℕ, zero, suc, ◌-◌, ◌<◌, Bool, true, false, List, length}
 use Rattle.std.proofs.Common.{Ok, Err, refl, sym, ap, ◌∙◌, arith}
 use Rattle.ss_words.specs.declared.mark.Mark.{Mark}
@@ -19,7 +19,7 @@ use Rattle.ss_routines.specs.Places.{Spot}
 use Rattle.ss_routines.specs.PlacesAtLines.{NotingItem, noting_branch, noting_controlled, noting_loop, noting_if}
 use Rattle.ss_routines.specs.PlacesAtLines.{noting_statements}
 
--- ---- a mark of which so many may be open
+-- ---- a mark of which n may be open
 
 pub allowed_more : (n : ℕ) (k : Mark) → 0 < n → eat_allowed n k ≡ eat k
 unfolding eat_allowed

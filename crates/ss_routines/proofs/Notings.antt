@@ -4,12 +4,12 @@ use Rattle.ss_words.specs.Noting.{here}
 use Rattle.ss_routines.specs.PlacesAtLines.{noting_last, noting_must}
 use Rattle.ss_routines.proofs.Unfoldings.{steps}
 
--- one reading behind another, by the next word's line
+-- one reading after another, by the next word's line
 unfoldable pub at_lines : ⊤
 unfolding steps here
 at_lines = tt
 
--- what stands behind the last phrase of a chain
+-- the part after the last phrase of a chain
 unfoldable pub last : ⊤
 unfolding at_lines noting_last noting_must
 last = tt

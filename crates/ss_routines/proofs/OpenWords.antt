@@ -1,4 +1,4 @@
--- What the scan of open phrases does over words.
+-- The effect of the scan of open phrases over words.
 use Rattle.std.proofs.Common.{◌≡◌, suc, ◌≤◌, Bool, true, false, if◌then◌else◌, List, [], ◌∷◌, ◌++◌}
 use Rattle.std.proofs.Common.{refl, sym, ap, ◌∙◌, arith}
 use Rattle.ss_words.specs.declared.mark.Mark.TheVariants as m
@@ -9,7 +9,8 @@ use Rattle.ss_routines.specs.OpenPhrases.{Open, For, Do, If, without_inner_phras
 use Rattle.ss_routines.specs.OpenPhrases.{phrases_of}
 use Rattle.ss_routines.proofs.Inner.{builds, Inner}
 
--- whether the last of these words may end a phrase, or the word before them where there is none
+-- whether the last of these words may end a phrase; if there are none, whether the word before them
+-- may
 abbrev pub ended_by : Bool → List Plain → Bool
 ended_by b [] = b
 ended_by b (w ∷ ws) = ended_by (may_end w) ws
@@ -63,7 +64,7 @@ either_less : (t : Bool) (os : List Open) → phrases_of (if t then without_inne
 either_less true os = settled_less os
 either_less false os = omega arith
 
--- leaves what is open as it is where no phrase stands innermost
+-- leaves the open parts as they are if no phrase is innermost
 pub stays : (b : Bool) (os : List Open) (w : Plain) → changes w ≡ false → without_inner_phrases os ≡ os → step b os w
     ≡ os
 stays b os (mark (m.Reserved r.For)) h e = absurd cc
@@ -85,7 +86,7 @@ opens_none b os (mark (m.Reserved r.Always)) h = absurd cc
 opens_none b os (name n) h = either_less b os
 opens_none b os w h = either_less (begins w) os
 
--- ---- the word before words, where no phrase stands innermost
+-- ---- the word before words, if no phrase is innermost
 
 same_step : (b c : Bool) (os : List Open) (w : Plain) → without_inner_phrases os ≡ os → step b os w ≡ step c os w
 same_step b c os (mark (m.Reserved r.For)) e = refl
@@ -129,7 +130,7 @@ inner_opens_none b os (w ∷ q) x =
     (λ none y. let h = inner_opens_none (may_end w) (step b os w) q y in
     let k = opens_none b os w (changes_build w none) in omega (arith, h, k)) (builds w) refl x
 
--- a first word that closes the phrases that stand innermost
+-- a first word that closes the innermost phrases
 pub begun : (w : Plain) (q : List Plain) → ((os : List Open) → step true os w ≡ without_inner_phrases os)
     → Inner (w ∷ q)
     → (os : List Open) → open_behind true os (w ∷ q) ≡ without_inner_phrases os

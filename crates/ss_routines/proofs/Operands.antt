@@ -1,5 +1,5 @@
--- The words of a phrase leave what is open as it is, and the last of them may end it; those of a statement that holds
--- no other close the phrases before it.
+-- The words of a phrase leave the open parts as they are, and the last of them may end it; those of
+-- a statement that holds no other close the phrases before it.
 use Rattle.std.proofs.Common.{◌≡◌, Bool, true, false, List, [], ◌∷◌, ◌++◌, Option, Some, None, refl, ap, ◌∙◌}
 use Rattle.std.specs.List.{flat_map}
 use Rattle.ss_words.specs.declared.mark.Mark.{Mark}
@@ -40,8 +40,8 @@ use Rattle.ss_routines.specs.OpenPhrases.{Open, without_inner_phrases, may_end, 
 use Rattle.ss_routines.proofs.Inner.{Inner, inner_simple}
 use Rattle.ss_routines.proofs.OpenWords.{ended_by, behind_both, ended_both, begun}
 
--- behind a word that may end a phrase or may not, as b says, these words leave what is open as it is, and end in one as
--- c says
+-- after a word that may end a phrase or may not, as b says, these words leave the open parts as
+-- they are, and end in one as c says
 pub record Walks (b : Bool) (q : List Plain) (c : Bool) : Type 0 where
   pub stays : (os : List Open) → open_behind b os q ≡ os
   pub ends : ended_by b q ≡ c
@@ -50,7 +50,7 @@ pub record Walks (b : Bool) (q : List Plain) (c : Bool) : Type 0 where
 abbrev Operand : List Plain → Type 0
 Operand q = Walks false q true
 
--- they stand behind an operand
+-- they are after an operand
 abbrev Tail : List Plain → Type 0
 Tail q = Walks true q true
 
@@ -199,13 +199,13 @@ qualifiers : (qs : List Qualifier) → Tail (flat_map spell_qualifier qs)
 qualifiers [] = nothing
 qualifiers (q ∷ qs) = joined (a_qualifier q.word (a_condition q.condition)) (qualifiers qs)
 
--- what stands behind FOR
+-- the part after FOR
 pub a_phrase : (f : Phrase) → Operand (spell_range f.range ++ flat_map spell_qualifier f.qualifiers)
 a_phrase f = joined (range f.range) (qualifiers f.qualifiers)
 
 -- ---- statements that hold no other
 
--- behind a phrase
+-- after a phrase
 abbrev Closes : List Plain → Type 0
 Closes q = Inner q → (os : List Open) → open_behind true os q ≡ without_inner_phrases os
 

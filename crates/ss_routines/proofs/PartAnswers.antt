@@ -1,4 +1,4 @@
--- What readings of several parts give or refuse, by what their parts do.
+-- The results and refusals of readings of several parts, by those of their parts.
 use Rattle.std.proofs.Common.{◌≡◌, Bool, true, List, Some, Result, Ok, ap, ◌∙◌}
 use Rattle.ss_words.specs.declared.mark.Mark.{Mark}
 use Rattle.ss_words.specs.declared.refusal.Refusal.{Refusal}
@@ -9,7 +9,7 @@ use Rattle.ss_words.proofs.Loop.{passes_on}
 use Rattle.ss_words.proofs.ReadBack.{then}
 use Rattle.ss_routines.specs.Combined.{if_mark}
 
--- ---- one part behind another
+-- ---- one part after another
 
 pub stops : {A B : Type 0} (p : Reading A) (f : A → Reading B) (e : Refusal) (ws r : List Plain) → Fails e r (p ws)
     → Fails e r (bind p f ws)
@@ -24,7 +24,7 @@ pub gives_behind : {A B X : Type 0} (p : Reading A) (f : A → Reading B) (view 
     (ws r z : List Plain) → p ws ≡ (Ok a, r) → Gives view x z (f a r) → Gives view x z (bind p f ws)
 gives_behind p f view x a ws r z h g = rw (then p f a ws r h) g
 
--- ---- a part behind a mark
+-- ---- a part after a mark
 
 pub mark_reads : {A : Type 0} (k : Mark) (p : Reading A) (b : Bool) (ws r : List Plain) (a : A) (z : List Plain)
     → eat k ws ≡ (Ok b, r) → b ≡ true → p r ≡ (Ok a, z) → if_mark k p ws ≡ (Ok (Some a), z)

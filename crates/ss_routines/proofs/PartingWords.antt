@@ -48,7 +48,7 @@ parts (Some (mark (m.Reserved r.Loop))) = true
 parts (Some (mark (m.Reserved r.End))) = true
 parts _ = false
 
--- nothing that stands before it goes on there
+-- no part before it goes on there
 pub record Settled (y : List Plain) : Type 0 where
   pub calm : Calm y
   pub quiet : Quiet y

@@ -1,4 +1,5 @@
--- What is read in one more parenthesis, by how many more may be open; and lists that a loop reads.
+-- The part that is read in one more parenthesis, by how many more may be open; and lists that a
+-- loop reads.
 use Rattle.std.proofs.Common.{◌≡◌, ◌≢◌, ℕ, zero, suc, ◌-◌, ◌<◌, Bool, true, false, List, [], ◌∷◌, ◌++◌, length, map}
 use Rattle.std.proofs.Common.{Option, Some, None, Ok, Err, refl, ap, ◌∙◌, arith}
 use Rattle.ss_words.specs.declared.refusal.Refusal.TheVariants.{PastLimit}

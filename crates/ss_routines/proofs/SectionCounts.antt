@@ -1,4 +1,4 @@
--- What the reading of sections has counted where it stops.
+-- The counts of the reading of sections at the word at which it stops.
 use Rattle.std.proofs.Common.{◌≡◌, ℕ, zero, suc, ◌+◌, ◌≤◌, Bool, true, false, List, [], ◌∷◌, ◌++◌, length, Option}
 use Rattle.std.proofs.Common.{Some, Result, Ok, Err, refl, sym, ap, subst, ◌∙◌, append_assoc, arith}
 use Rattle.ss_words.specs.declared.refusal.Refusal.{Refusal}
@@ -62,13 +62,13 @@ all_open (w ∷ q) k = rw (not_ended (w ∷ q) k) refl
 
 -- ---- a section
 
--- the name behind q in a head is past the limit
+-- the name after q in a head is past the limit
 abbrev Named : ℕ → List Plain → Option Plain → Type 0
 Named l q (Some (name v)) = names_in_head false (q ++ name v ∷ []) ≡ suc l
 Named l q _ = Unit {0}
 
 module _ (n i fs : ℕ) where
-  -- behind a head
+  -- after a head
   abbrev Body : {A : Type 0} → Result A Refusal → List Plain → List Plain → Type 0
   Body (Ok t) ws r = (q : List Plain) × (ws ≡ q ++ end ∷ r) × Even q
   Body (Err Unexpected) ws r = (q : List Plain) × (ws ≡ q ++ r) × Room n i fs q
@@ -126,7 +126,7 @@ module _ (n i fs : ℕ) where
       bind_bodies _ (λ ls. bind_bodies _ (λ b. end_bodies (of_parts h ls b)) (block_at n i fs) (block_tally n i fs))
       locals (locals_tally n i fs)
 
-  -- from its head on, where l names may stand in it
+  -- from its head on, if l names may be in it
   abbrev Section : ℕ → Result SectionTree Refusal → List Plain → List Plain → Type 0
   Section l (Ok t) ws r = (q : List Plain) × (ws ≡ q ++ end ∷ r) × Even q
   Section l (Err Unexpected) ws r = (q : List Plain) × (ws ≡ q ++ r) × Room n i fs q
@@ -178,7 +178,7 @@ section_out n i f k ws =
 abbrev pub Spelled : SectionTree → Type 0
 Spelled t = (q : List Plain) × (spell_section t ≡ q ++ end ∷ []) × Even q
 
--- behind so many whole sections
+-- after j whole sections
 pub record Balanced (j : ℕ) (q : List Plain) : Type 0 where
   pub parentheses : count opens q ≡ count closes q
   pub ifs : count branches q ≡ count rejoins q
@@ -191,7 +191,7 @@ pub record Kept (n i fs : ℕ) (q : List Plain) : Type 0 where
   pub ifs : count branches q ≤ count rejoins q + i
   pub phrases : (b : Bool) → phrases_of (open_behind b [] q) ≤ fs
 
--- the word behind q passes a limit
+-- the word after q passes a limit
 abbrev pub Passed : ℕ → ℕ → ℕ → ℕ → ℕ → List Plain → Option Plain → Type 0
 Passed n i fs l j q (Some (mark (m.Sign s.Open))) = count opens q ≡ count closes q + n
 Passed n i fs l j q (Some (mark (m.Reserved r.If))) = count branches q ≡ count rejoins q + i
@@ -229,7 +229,7 @@ module _ (n i fs l : ℕ) where
       ap (names_in_head false) (all_open (q ++ name v ∷ []) going) ∙ y
   passed_first j q _ x y = absurd (x.full)
 
-  -- behind a first section
+  -- after a first section
   passed_next : (j : ℕ) (a q : List Plain) (w : Option Plain) → Even a → Passed n i fs l j q w
       → Passed n i fs l (suc j) (a ++ end ∷ q) w
   passed_next j a q (Some (mark (m.Sign s.Open))) x y =
@@ -319,7 +319,7 @@ module _ (n i fs l : ℕ) where
   first_one k j fits rest h (Err Memory) ws r out kept = out
   first_one k j fits rest h (Err PastLimit) ws r (q, e, x, y) kept = (q, e, passed_first (suc j) q (first r) x y)
 
-  -- where no more may stand
+  -- if no more may be there
   head_passed : (w : Plain) → is_head (Some w) ≡ true → Passed n i fs l 0 [] (Some w)
   head_passed (mark (m.Reserved r.Main)) e = refl
   head_passed (mark (m.Reserved r.Routine)) e = refl

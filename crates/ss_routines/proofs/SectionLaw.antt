@@ -1,4 +1,4 @@
--- What holds of the reading of sections.
+-- The laws of the reading of sections.
 use Rattle.std.proofs.Common.{◌≡◌, ℕ, zero, suc, ◌≤◌, ◌<◌, Bool, true, false, List, [], ◌∷◌, ◌++◌, length, Option}
 use Rattle.std.proofs.Common.{Some, None, Ok, refl, sym, ap, ◌∙◌, append_assoc, arith}
 use Rattle.std.specs.List.{flat_map}
@@ -116,7 +116,7 @@ module _ (rooms : Rooms) (n : ℕ) where
   abbrev pub FitsLocals : List (Several Name) → Type 0
   FitsLocals ls = Each Any ls
 
-  -- no further DEFINE stands there
+  -- no further DEFINE is there
   abbrev pub NoDefine : List Plain → Type 0
   NoDefine y = is (m.Reserved r.Define) (first y) ≡ false
 
@@ -190,7 +190,7 @@ head_depth MainHead = omega arith
 head_depth (RoutineHead n ps ys) = given_depth ps
 head_depth (EventHead n ps b) = given_depth ps
 
--- another section, if b says that one stands there
+-- another section, if b says that one is there
 abbrev pub read_on : ℕ → ℕ → ℕ → ℕ → ℕ → Bool → Reading Tree
 read_on n i f k j b =
     elim b [
@@ -271,7 +271,7 @@ module _ (n i f k : ℕ) (some_open : 0 < n) where
             (pure_good (FitsAll (suc j)) spell [] [] (tt, omega arith) refl)
       ]))
 
-  -- ---- what is spelled is read again
+  -- ---- a spelled part is read again
 
   head_ends : (y : List Plain) → parts (first y) ≡ true → EndsHead y
   head_ends y e =
@@ -390,7 +390,7 @@ module _ (rooms : Rooms) (n i f k n' i' f' k' : ℕ) (wn : Wider rooms n n') (wi
       (block_at n' i' f') (block_at n i f) lb.near) locals locals ll.near) (head_at (suc k')) (head_at (suc k))
       (head_near rooms k k' wk)
 
--- what stands behind a head
+-- the part after a head
 abbrev body_at : ℕ → ℕ → ℕ → Head → Reading SectionTree
 body_at n i f h =
     bind locals (λ ls. bind (block_at n i f) (λ b. bind (expect (m.Reserved r.End)) (λ u. pure (of_parts h ls b))))
@@ -428,7 +428,7 @@ module _ (n i f k : ℕ) where
         | false ↦ pure_local same []
       ]))
 
-  -- where one more section may stand, its head is passed
+  -- if one more section may be there, its head is passed
   passes_head : (j : ℕ) (w : Plain) (ws : List Plain) → is_head (Some w) ≡ true
       → length (read_on n i f k j true (w ∷ ws)).1 ≤ length ws
   passes_head j w ws e =

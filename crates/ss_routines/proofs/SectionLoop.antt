@@ -11,11 +11,11 @@ use Rattle.ss_routines.specs.Places.{Section}
 use Rattle.ss_routines.specs.Tree.{is_head}
 use Rattle.ss_routines.specs.PlacesAtLines.{noting_section, noting_sections}
 
--- what stands in front, before what is read
+-- the sections in front, before the part that is read
 abbrev with_front : List Section → Read (List Section) → Read (List Section)
 with_front front r = (on_ok (λ b. front ++ b) r.0, r.1)
 
--- where so many parentheses, IFs, phrases and parameters may be
+-- the rooms for parentheses, IFs, phrases and parameters
 module _ (lines : List ℕ) (p i f q : ℕ) where
   abbrev one : Reading Section
   one = noting_section lines p i f q
@@ -23,7 +23,7 @@ module _ (lines : List ℕ) (p i f q : ℕ) where
   abbrev upto : ℕ → Reading (List Section)
   upto n = noting_sections lines p i f q n
 
-  -- what was read before, and what is still read where n more may follow
+  -- the part that was read before, and the part that is still read if n more may follow
   abbrev pub Gathered : Read (List Section) → List Section → ℕ → List Plain → Type 0
   Gathered total front n ws = total ≡ with_front front (upto n ws)
 
@@ -34,7 +34,7 @@ module _ (lines : List ℕ) (p i f q : ℕ) where
   pub starts : (n : ℕ) (ws : List Plain) (front : List Section) → front ≡ [] → Gathered (upto n ws) front n ws
   starts n ws front e = rw e (λ j. (same (upto n ws).0 j, (upto n ws).1))
 
-  -- behind a first section
+  -- after a first section
   abbrev onward : ℕ → Section → Reading (List Section)
   onward n t = bind (upto n) (λ ts. pure (t ∷ ts))
 

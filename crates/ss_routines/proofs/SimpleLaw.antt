@@ -1,4 +1,4 @@
--- What holds of the reading of statements that hold no other.
+-- The laws of the reading of statements that hold no other.
 use Rattle.std.proofs.Common.{◌≡◌, ◌⊎◌, ℕ, suc, ◌≤◌, ◌<◌, true, false, List, [], ◌∷◌, ◌++◌, length}
 use Rattle.std.proofs.Common.{Option, Some, None, Ok, refl, sym, ap, ◌∙◌, append_assoc, arith}
 use mathlib.Core.Logic.{inl, inr}
@@ -59,7 +59,7 @@ pub record Calm (y : List Plain) : Type 0 where
   pub no_given : is (m.Reserved r.Given) (first y) ≡ false
   pub no_yielding : is (m.Reserved r.Yielding) (first y) ≡ false
 
--- a word that ends what stands before it
+-- a word that ends the part before it
 pub ends_at : (w : Plain) (y : List Plain) → is (m.Sign s.Open) (Some w) ≡ false → is (m.Sign s.Star) (Some w) ≡ false
     → sign_of (Some w) ≡ None → Ends (w ∷ y)
 ends_at w y a b c = record { no_open = a; no_star = b; no_sign = c }
@@ -69,7 +69,7 @@ pub calm_at : (w : Plain) (y : List Plain) → Ends (w ∷ y) → is (m.Sign s.C
     → is (m.Reserved r.Yielding) (Some w) ≡ false → Calm (w ∷ y)
 calm_at w y e a b c d = record { ends = e; no_comma = a; no_called = b; no_given = c; no_yielding = d }
 
--- the laws of a part behind which nothing of a statement follows
+-- the laws of a part after which nothing of a statement follows
 pub record ItemLawOf {A : Type 0} (rooms : Rooms) (n : ℕ) (none : List Plain → Type 0) (fits : A → Type 0)
     (sp : A → List Plain) (p p' : Reading (Option A)) : Type 0 where
   pub good : Good (fits_option fits) (word.spell_option sp) [] p
@@ -171,7 +171,7 @@ module _ {A : Type 0} {rooms : Rooms} {n : ℕ} (d : A → ℕ) (sp : A → List
         list_of split_list whole_list list_spelled list_there list_back in
         record { good = f.good; near = f.near; counted = f.counted; again = f.again }
 
-  -- in parentheses or behind GIVEN
+  -- in parentheses or after GIVEN
   module _ (j : ℕ) (q q' : Reading A) (lo : OpenLaw rooms n (greatest_of d) (spell_several sp) (if_open n (several q))
       (if_open j (several q'))) where
     abbrev in_parentheses : Form rooms n (Option (Several A))
@@ -402,7 +402,7 @@ module _ (rooms : Rooms) (n k : ℕ) (w : Wider rooms n k) where
     abbrev the_moved : Form rooms n (Expr × Reference)
     the_moved = form_of rooms n moved.fits moved.sp EndsName (moved_at n j) (moved_at k j) moved_law
 
-  -- behind the name of a bare assignment
+  -- after the name of a bare assignment
   abbrev bare : Form rooms n (Option Expr × Expr)
   bare = pair_form (before_form the_subscript (m.Sign s.Equal) equal_leaves (λ y. refl)) an_expr (λ b y f e. tt)
 

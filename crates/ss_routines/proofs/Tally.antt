@@ -1,6 +1,6 @@
--- What a reading has counted where it stops: what is read closes each parenthesis that it opens, and a parenthesis that
--- is refused
--- stands where all that may be open are open.
+-- The counts of a reading at the word at which it stops. The part that is read closes each
+-- parenthesis that it opens. A parenthesis that is refused is at a place at which all are open that
+-- may be open.
 use Rattle.std.proofs.Common.{◌≡◌, ℕ, zero, suc, ◌+◌, ◌≤◌, Bool, true, false, List, [], ◌∷◌, ◌++◌, length, Option, Some}
 use Rattle.std.proofs.Common.{None, Result, Ok, Err, refl, sym, ap, subst, ◌∙◌, append_assoc, arith}
 use Rattle.ss_words.specs.declared.refusal.Refusal.{Refusal}
@@ -19,12 +19,12 @@ pub count-append : (test : Plain → Bool) (xs ys : List Plain) → count test (
 count-append test [] ys = omega arith
 count-append test (x ∷ xs) ys = let h = count-append test xs ys in omega (arith, h)
 
--- so many parentheses are open behind these words, and no word of a head is among them
+-- d parentheses are open after these words, and no word of a head is among them
 pub record Leaves (d : ℕ) (q : List Plain) : Type 0 where
   pub open_ones : count opens q ≡ count closes q + d
   pub no_heads : count heads q ≡ 0
 
--- no more than n are open behind these words, and no word of a head is among them
+-- no more than n are open after these words, and no word of a head is among them
 pub record Under (n : ℕ) (q : List Plain) : Type 0 where
   pub open_ones : count opens q ≤ count closes q + n
   pub no_heads : count heads q ≡ 0
@@ -48,7 +48,8 @@ joined d a b x y = record {
   no_heads = (let h = x.no_heads in let k = y.no_heads in omega (arith, h, k, count-append heads a b));
 }
 
--- the word behind q is refused by a limit: a parenthesis that is one too many, or a word that counts to another limit
+-- the word after q is refused by a limit: a parenthesis that is one too many, or a word that counts
+-- to another limit
 abbrev pub Refused : ℕ → List Plain → Option Plain → Type 0
 Refused n q (Some (mark (m.Sign sign.Open))) = Leaves n q
 Refused n q (Some (mark (m.Reserved r.If))) = Unit {0}
@@ -61,7 +62,7 @@ refused_behind n a b (Some (mark (m.Reserved r.If))) l h = tt
 refused_behind n a b (Some (mark (m.Reserved r.For))) l h = tt
 refused_behind n a b _ l h = absurd h
 
--- where n parentheses may be open
+-- if n parentheses may be open
 abbrev pub Out : {A : Type 0} → ℕ → Result A Refusal → List Plain → List Plain → Type 0
 Out n (Ok a) ws r = (q : List Plain) × (ws ≡ q ++ r) × Leaves 0 q
 Out n (Err Unexpected) ws r = (q : List Plain) × (ws ≡ q ++ r) × Under n q
@@ -181,14 +182,14 @@ module _ {A B : Type 0} (n : ℕ) (item : Reading (Option A)) (none : B) (one : 
   unfolding many
   many_tally = record { at = λ ws. (from_tally (suc (length ws))).at ws }
 
--- one more parenthesis is open behind the first word
+-- one more parenthesis is open after the first word
 pub opened_one : (d : ℕ) (q : List Plain) → Leaves d q → Leaves (suc d) (mark (m.Sign sign.Open) ∷ q)
 opened_one d q l = record {
   open_ones = (let h = l.open_ones in omega (arith, h));
   no_heads = (let h = l.no_heads in omega (arith, h));
 }
 
--- where one more is open than before
+-- if one more is open than before
 pub opened_refused : (n : ℕ) (q : List Plain) (w : Option Plain) → Refused n q w
     → Refused (suc n) (mark (m.Sign sign.Open) ∷ q) w
 opened_refused n q (Some (mark (m.Sign sign.Open))) h = opened_one n q h
@@ -208,7 +209,7 @@ opened_some n q l = record {
   no_heads = (let h = l.no_heads in omega (arith, h));
 }
 
--- and none behind its closing one
+-- and none is open after its closing one
 pub enclosed : (q : List Plain) → Leaves 0 q → Leaves 0 (mark (m.Sign sign.Open) ∷ (q ++ mark (m.Sign sign.Close) ∷ []))
 enclosed q l = record {
   open_ones =

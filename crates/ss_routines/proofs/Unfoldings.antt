@@ -13,7 +13,7 @@ use Rattle.ss_routines.specs.PlacesAtLines.{noting_repeated, noting_last, noting
 
 -- ---- steps
 
--- one reading behind another
+-- one reading after another
 unfoldable pub steps : ⊤
 unfolding bind pure refuse
 steps = tt
@@ -28,14 +28,14 @@ unfoldable pub steps_by_table : ⊤
 unfolding steps_by_word by_table
 steps_by_table = tt
 
--- a reading and nothing behind it
+-- a reading and nothing after it
 unfoldable pub whole_text : ⊤
 unfolding steps_by_word whole end_of_words
 whole_text = tt
 
 -- ---- readings made of readings
 
--- readings in turn, and what is made of what they read
+-- readings in turn, and the value that is made of the parts that they read
 unfoldable pub in_turn : ⊤
 unfolding steps pair behind before made
 in_turn = tt

@@ -135,7 +135,7 @@ word_and_limit ws k j a b = elim (order k (j + 1)) [
   | greater h ↦ b.no_room (room_less ws (j + 1) k (omega (arith, h)) a.in_room)
 ]
 
--- a limit that the last word passes is told by the text's end
+-- a limit that the last word passes is reported at the text's end
 end_and_limit : (ws : List Plain) (j : ℕ) → IsUnexpectedEnd ws → PassesLimit ws j → j + 1 ≡ length ws
 end_and_limit ws j a b = elim (order (j + 1) (length ws)) [
   | less h ↦ absurd (b.no_room (room_less ws (j + 1) (length ws - 1) (omega (arith, h)) a.in_room))
@@ -217,7 +217,7 @@ one_answer ws (Err (Refused a l)) (Err Memory) da db h g = absurd db
 pub let_pass : LimitsLetPass
 let_pass ws t a w e definite h = one_answer ws a (Ok (written (lines ws) t)) definite tt h (t, w, e, refl)
 
--- what the words with a word that passes a limit are answered with
+-- the answer to words with a word that passes a limit
 limit_told : (ws : List PlainAt) (k : ℕ) (r : TextRule) (l : ℕ) → PassesLimit (plains ws) k → IsRefused r l ws
     → (told r l ≡ Err (Refused rule.PastLimit (line (lines ws) k)))
     ⊎ ((k + 1 ≡ length ws) × (told r l ≡ Err (Refused rule.UnexpectedEnd (line (lines ws) k))))

@@ -1,4 +1,4 @@
--- What the words of a text are answered with, by the laws of the reading.
+-- The answers to the words of a text, by the laws of the reading.
 use Rattle.std.proofs.Common.{◌≡◌, ℕ, suc, ◌+◌, ◌-◌, ◌≤◌, ◌<◌, true, false, List, [], ◌∷◌, ◌++◌, length}
 use Rattle.std.proofs.Common.{length-append, take, drop, Option, Some, None, Ok, Err, refl, sym, ap, subst, ◌∙◌}
 use Rattle.std.proofs.Common.{append_assoc, arith}
@@ -110,7 +110,7 @@ whole_spared =
 again : (t : Tree) → IsWithin t → reading (spell t) ≡ (Ok t, [])
 again t w = sections_again 50 64 16 31 (omega arith) 256 t (fits_within t w)
 
--- what is read is a program within the limits
+-- the part that is read is a program within the limits
 pub read_sections : (ws r : List Plain) (t : Tree) → whole reading ws ≡ (Ok t, r) → IsWithin t × (ws ≡ spell t)
 read_sections ws r t e =
     let (f, is) = goal.found Any spell reading good ws r t e in
@@ -158,7 +158,7 @@ shorter ws j k le = let e : j + (k - j) ≡ k = omega arith in sym (take-add j (
 begun_less : (v w x : List Plain) → BeginsWithin (v ++ w) → BeginsWithin v
 begun_less v w x (t, within, y, e) = (t, within, w ++ y, e ∙ append_assoc v w y)
 
--- all but the last word of words that go on behind v go on there as well
+-- if words go on after v, all of them but the last go on there as well
 front_of : (v w front : List Plain) (l : Plain) → v ++ w ≡ front ++ l ∷ [] → 0 < length w → (z : List Plain)
     × (front ≡ v ++ z)
 front_of v w front l e lt =

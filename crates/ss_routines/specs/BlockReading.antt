@@ -17,11 +17,11 @@ use Rattle.ss_routines.specs.LoopReading.{phrase_at, compute_at, question_at}
 use Rattle.ss_routines.specs.Tree.{Block, no_statements, statement, Statement, alone, loop, One, simple, branch}
 use Rattle.ss_routines.specs.Tree.{Otherwise, no_else, else_with, Controlled, further, repeated, single, find, compute}
 
--- what stands behind IF, up to ALWAYS
+-- the part after IF, up to ALWAYS
 abbrev pub Branching : Type 0
 Branching = Question × (Block × Otherwise)
 
--- a phrase, and what stands behind it
+-- a phrase, and the part after it
 abbrev pub Looping : Type 0
 Looping = Phrase × Controlled
 
@@ -45,7 +45,7 @@ abbrev pub block_of : List Statement → Block
 block_of [] = no_statements
 block_of (t ∷ ts) = statement t (block_of ts)
 
--- what stands behind a phrase
+-- the part after a phrase
 abbrev pub controlled_of : Block ⊎ (Looping ⊎ (Unit {0} ⊎ ((Several Computed × Expr) ⊎ One))) → Controlled
 controlled_of (inl b) = repeated b
 controlled_of (inr (inl (f, c))) = further f c
@@ -55,19 +55,19 @@ controlled_of (inr (inr (inr (inr o)))) = single o
 
 -- with at most n parentheses open at once
 module _ (n : ℕ) where
-  -- behind IF: (FOUND | NONE | cond) {stmt} [ELSE {stmt}] ALWAYS, where inside reads the statements
+  -- after IF: (FOUND | NONE | cond) {stmt} [ELSE {stmt}] ALWAYS; inside reads the statements
   unfoldable pub branch_with : Reading Block → Reading Branching
   branch_with inside =
       pair (question_at n) (pair inside (before (made otherwise_of (if_mark (m.Reserved r.Else) inside))
       (m.Reserved r.Always)))
 
-  -- a_branch reads IF and what stands behind it, if it stands here; a_loop reads FOR likewise
+  -- a_branch reads IF and the part after it, if it is here; a_loop reads FOR likewise
   module _ (a_branch : Reading (Option Branching)) (a_loop : Reading (Option Looping)) where
-    -- a statement that is no loop, if one stands here
+    -- a statement that is no loop, if one is here
     unfoldable pub one_with : Reading (Option One)
     one_with = made_of one_of (either_of (simple_at n) a_branch)
 
-    -- a statement, if one stands here
+    -- a statement, if one is here
     unfoldable pub statement_with : Reading (Option Statement)
     statement_with = made_of statement_of (either_of one_with a_loop)
 
@@ -75,25 +75,25 @@ module _ (n : ℕ) where
     unfoldable pub block_with : Reading Block
     block_with = made block_of (star statement_with)
 
-    -- behind a phrase: DO {stmt} LOOP, a further phrase and what stands behind it, FIND FIRST CASE, COMPUTE, or one
+    -- after a phrase: DO {stmt} LOOP, another phrase and its part, FIND FIRST CASE, COMPUTE, or one
     unfoldable pub controlled_with : Reading Controlled
     controlled_with =
         made controlled_of (either (if_mark (m.Reserved r.Do) (before block_with (m.Reserved r.Loop))) (either a_loop
         (either (if_mark (m.Reserved r.Find) (behind (m.Reserved r.First) (behind (m.Reserved r.Case) (pure tt))))
         (either (if_mark (m.Reserved r.Compute) (compute_at n)) (must one_with)))))
 
-  -- FOR and what stands behind it, where so many more phrases may be open; a_branch reads IF where so many may be
+  -- FOR and the part after it, if f more phrases may be open; a_branch k reads IF if k may be
   unfoldable pub loop_in : (ℕ → Reading (Option Branching)) → ℕ → Reading (Option Looping)
   loop_in a_branch zero = if_allowed 0 (m.Reserved r.For) (pair (phrase_at n) (refuse PastLimit))
   loop_in a_branch (suc f) =
       if_allowed (suc f) (m.Reserved r.For) (pair (phrase_at n) (controlled_with (a_branch f) (loop_in a_branch f)))
 
-  -- IF and what stands behind it, where so many more IFs and so many more phrases may be open
+  -- IF and the part after it, if i more IFs and f more phrases may be open
   unfoldable pub branch_at : ℕ → ℕ → Reading (Option Branching)
   branch_at zero f = if_allowed 0 (m.Reserved r.If) (branch_with (refuse PastLimit))
   branch_at (suc i) f =
       if_allowed (suc i) (m.Reserved r.If) (branch_with (block_with (branch_at i f) (loop_in (branch_at i) f)))
 
-  -- statements, where so many IFs and so many phrases may be open at once
+  -- statements, if i IFs and f phrases may be open at once
   unfoldable pub block_at : ℕ → ℕ → Reading Block
   block_at i f = block_with (branch_at i f) (loop_in (branch_at i) f)

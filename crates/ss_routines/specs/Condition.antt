@@ -15,7 +15,7 @@ use Rattle.ss_routines.specs.Expr.{Expr, spell_within, spell_expr, depth_expr}
 pub record Reference : Type 0 where
   -- the name
   pub name : Name
-  -- what stands in the parentheses, if they do
+  -- the expression in the parentheses, if they are there
   pub subscript : Option Expr
 
 -- disjunctions of conjunctions of relations
@@ -24,7 +24,7 @@ mutual
   pub data Condition : Type 0 where
     condition : Conjunction → Alternatives → Condition
 
-  -- the conjunctions behind the first
+  -- the conjunctions after the first
   pub data Alternatives : Type 0 where
     no_alternatives : Alternatives
     alternative : Conjunction → Alternatives → Alternatives
@@ -33,7 +33,7 @@ mutual
   pub data Conjunction : Type 0 where
     conjunction : Relation → Additions → Conjunction
 
-  -- the relations behind the first
+  -- the relations after the first
   pub data Additions : Type 0 where
     no_additions : Additions
     addition : Relation → Additions → Additions
@@ -74,7 +74,7 @@ abbrev mutual
   pub spell_condition : Condition → List Plain
   spell_condition (condition c cs) = spell_conjunction c ++ spell_alternatives cs
 
-  -- each behind an OR
+  -- each after an OR
   pub spell_alternatives : Alternatives → List Plain
   spell_alternatives no_alternatives = []
   spell_alternatives (alternative c cs) = mark (m.Reserved r.Or) ∷ (spell_conjunction c ++ spell_alternatives cs)
@@ -83,7 +83,7 @@ abbrev mutual
   pub spell_conjunction : Conjunction → List Plain
   spell_conjunction (conjunction q qs) = spell_relation q ++ spell_additions qs
 
-  -- each behind an AND
+  -- each after an AND
   pub spell_additions : Additions → List Plain
   spell_additions no_additions = []
   spell_additions (addition q qs) = mark (m.Reserved r.And) ∷ (spell_relation q ++ spell_additions qs)
@@ -95,7 +95,7 @@ abbrev mutual
   spell_relation (is_in e c v) = spell_expr e ++ spell_copula c ++ mark (m.Reserved r.In) ∷ spell_reference v
   spell_relation (nested c) = spell_within (spell_condition c)
 
--- the greatest number of parentheses open at once, in an expression that stands in parentheses or is left out
+-- the greatest number of parentheses open at once, in an expression in parentheses or left out
 abbrev pub depth_subscript : Option Expr → ℕ
 depth_subscript None = 0
 depth_subscript (Some e) = suc (depth_expr e)
@@ -110,7 +110,7 @@ abbrev mutual
   pub depth_condition : Condition → ℕ
   depth_condition (condition c cs) = max (depth_conjunction c) (depth_alternatives cs)
 
-  -- in the alternatives behind the first
+  -- in the alternatives after the first
   pub depth_alternatives : Alternatives → ℕ
   depth_alternatives no_alternatives = 0
   depth_alternatives (alternative c cs) = max (depth_conjunction c) (depth_alternatives cs)
@@ -119,7 +119,7 @@ abbrev mutual
   pub depth_conjunction : Conjunction → ℕ
   depth_conjunction (conjunction q qs) = max (depth_relation q) (depth_additions qs)
 
-  -- in the relations behind the first
+  -- in the relations after the first
   pub depth_additions : Additions → ℕ
   depth_additions no_additions = 0
   depth_additions (addition q qs) = max (depth_relation q) (depth_additions qs)
@@ -131,12 +131,12 @@ abbrev mutual
   depth_relation (is_in e c v) = max (depth_expr e) (depth_reference v)
   depth_relation (nested c) = suc (depth_condition c)
 
--- the conjunctions behind a first one
+-- the conjunctions after a first one
 abbrev pub alternatives_of : List Conjunction → Alternatives
 alternatives_of [] = no_alternatives
 alternatives_of (c ∷ cs) = alternative c (alternatives_of cs)
 
--- the relations behind a first one
+-- the relations after a first one
 abbrev pub additions_of : List Relation → Additions
 additions_of [] = no_additions
 additions_of (q ∷ qs) = addition q (additions_of qs)

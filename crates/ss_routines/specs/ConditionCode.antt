@@ -14,11 +14,11 @@ use Rattle.ss_routines.specs.Condition.{Reference, Condition, condition, Alterna
 use Rattle.ss_routines.specs.Condition.{Conjunction, conjunction, Additions, no_additions, addition}
 use Rattle.ss_routines.specs.Condition.{Relation, compared, is_empty, is_in, nested}
 
--- what a relation holds: two values, a name and a subscript
+-- the contents of a relation: two values, a name and a subscript
 abbrev pub Held : Type 0
 Held = (Expr × Expr) × (Name × Option Expr)
 
--- a number that says what it is, and what it holds
+-- a number that says which part it is, and its contents
 abbrev pub Token : Type 0
 Token = ℕ × Held
 
@@ -57,13 +57,13 @@ abbrev pub in_number : Copula → ℕ
 in_number Is = 13
 in_number IsNot = 14
 
--- the tokens of a part, before what follows
+-- the tokens of a part, before those of the parts that follow
 abbrev mutual
   -- a condition: its alternatives
   pub condition_tokens : Condition → List Token → List Token
   condition_tokens (condition c cs) k = (0, no_parts) ∷ conjunction_tokens c (alternatives_tokens cs k)
 
-  -- the alternatives behind the first
+  -- the alternatives after the first
   pub alternatives_tokens : Alternatives → List Token → List Token
   alternatives_tokens no_alternatives k = (1, no_parts) ∷ k
   alternatives_tokens (alternative c cs) k = (2, no_parts) ∷ conjunction_tokens c (alternatives_tokens cs k)
@@ -72,7 +72,7 @@ abbrev mutual
   pub conjunction_tokens : Conjunction → List Token → List Token
   conjunction_tokens (conjunction r rs) k = (3, no_parts) ∷ relation_tokens r (additions_tokens rs k)
 
-  -- the relations behind the first
+  -- the relations after the first
   pub additions_tokens : Additions → List Token → List Token
   additions_tokens no_additions k = (15, no_parts) ∷ k
   additions_tokens (addition r rs) k = (16, no_parts) ∷ relation_tokens r (additions_tokens rs k)
@@ -88,7 +88,7 @@ abbrev mutual
 abbrev pub held_reference : Held → Reference
 held_reference held = record { name = held.1.0; subscript = held.1.1 }
 
--- a token put before the parts that were read behind it
+-- a token put before the parts that were read after it
 abbrev pub condition_read : List Part → List Part
 condition_read (a_conjunction c ∷ some_alternatives cs ∷ st) = a_condition (condition c cs) ∷ st
 condition_read st = st
@@ -126,7 +126,7 @@ relation_of (suc (suc (suc (suc (suc (suc (suc zero))))))) h = is_empty (held_re
 relation_of (suc (suc (suc (suc (suc (suc (suc (suc zero)))))))) h = is_in h.0.0 Is (held_reference h)
 relation_of (suc (suc (suc (suc (suc (suc (suc (suc (suc n))))))))) h = is_in h.0.0 IsNot (held_reference h)
 
--- of a token that stands behind the relations by its number, less 15
+-- a token that is after the relations by its number, less 15
 abbrev pub addition_read : ℕ → List Part → List Part
 addition_read zero st = some_additions no_additions ∷ st
 addition_read (suc n) st = and_read st
@@ -147,7 +147,7 @@ abbrev pub parts : List Token → List Part
 parts [] = []
 parts (w ∷ ws) = token_read w.0 w.1 (parts ws)
 
--- the condition that stands first
+-- the condition that is first
 abbrev pub first_condition : List Part → Condition
 first_condition (a_condition c ∷ st) = c
 first_condition st = condition (conjunction (compared no_value Equal no_value) no_additions) no_alternatives
@@ -174,7 +174,7 @@ pub in_again : (e : Expr) (v : Reference) (c : Copula) (st : List Part) →
 in_again e v Is st = refl
 in_again e v IsNot st = refl
 
--- what was written is read back
+-- the part that was written is read back
 mutual
   condition_again : (c : Condition) (k : List Token) → parts (condition_tokens c k) ≡ a_condition c ∷ parts k
   condition_again (condition c cs) k =
@@ -216,7 +216,7 @@ condition_of_tokens ws = first_condition (parts ws)
 pub condition_of_tokens-tokens_of_condition : (c : Condition) → condition_of_tokens (tokens_of_condition c) ≡ c
 condition_of_tokens-tokens_of_condition c = ap first_condition (condition_again c [])
 
--- how what a relation holds is stored
+-- how the contents of a relation are stored
 abbrev pub held_code : Coded Held
 held_code = coded× (coded× expr_code expr_code) (coded× name_code (coded_option expr_code))
 

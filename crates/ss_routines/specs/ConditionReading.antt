@@ -1,5 +1,5 @@
 -- Reading a condition from left to right.
--- A parenthesis may open a condition or an expression: which of them is told where it closes.
+-- A parenthesis may open a condition or an expression: its closing one shows which.
 use Rattle.std.specs.Prelude.{◌⊎◌, ℕ, zero, suc, true, false, List, [], ◌∷◌, Option, Some, None}
 use mathlib.Core.Logic.{inl, inr}
 use Rattle.ss_words.specs.declared.mark.Mark.TheVariants as m
@@ -40,13 +40,13 @@ reference_of (expr None (term (applied n e no_exprs) no_products) no_sums) =
     Some (record { name = n; subscript = Some e })
 reference_of _ = None
 
--- NOT, or nothing, behind IS
+-- NOT, or nothing, after IS
 unfoldable pub copula : Reading Copula
 copula = eat (m.Reserved r.Not) >>= λ b. elim b [ true ↦ pure IsNot | false ↦ pure Is ]
 
 -- with at most n parentheses open at once
 module _ (n : ℕ) where
-  -- behind IS [NOT]: IN ref, or EMPTY where the value is a reference
+  -- after IS [NOT]: IN ref, or EMPTY if the value is a reference
   unfoldable pub set_with : Expr → Copula → Reading Relation
   set_with e c = eat (m.Reserved r.In) >>= λ b. elim b [
     | true ↦ (reference_at n >>= λ v. pure (is_in e c v))
@@ -56,7 +56,7 @@ module _ (n : ℕ) where
     ]
   ]
 
-  -- behind a value: a comparison and a value, IS, or nothing of a relation
+  -- after a value: a comparison and a value, IS, or nothing of a relation
   unfoldable pub behind_value : Expr → Reading (Expr ⊎ Relation)
   behind_value e = by_table comparison_of >>= λ o. elim o [
     | Some c ↦ (expr_at n >>= λ f. pure (inr (compared e c f)))
@@ -102,12 +102,12 @@ module _ (n : ℕ) (inner : Reading (Expr ⊎ Condition)) where
         >>= λ cs. pure (inr (condition c (alternatives_of cs))))
   ]
 
--- with at most so many parentheses open at once
+-- with at most n parentheses open at once
 unfoldable pub either_at : ℕ → Reading (Expr ⊎ Condition)
 either_at zero = either_with 0 (refuse PastLimit)
 either_at (suc n) = either_with (suc n) (either_at n)
 
--- what is read in one more parenthesis
+-- the part that is read in one more parenthesis
 abbrev pub inner_either : ℕ → Reading (Expr ⊎ Condition)
 inner_either zero = refuse PastLimit
 inner_either (suc n) = either_at n

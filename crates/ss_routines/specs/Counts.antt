@@ -20,7 +20,7 @@ abbrev pub closes : Plain → Bool
 closes (mark (m.Sign s.Close)) = true
 closes _ = false
 
--- a reserved word that stands in heads alone
+-- a reserved word that is in heads only
 abbrev pub heads : Plain → Bool
 heads (mark (m.Reserved r.Main)) = true
 heads (mark (m.Reserved r.Routine)) = true

@@ -1,4 +1,4 @@
--- Where the END of a section stands.
+-- The place of the END of a section.
 use Rattle.std.specs.Prelude.{◌≡◌, Bool, true, false, List, [], ◌∷◌}
 use Rattle.ss_routines.specs.Places.{Place, EndOfSection, Spot, Section}
 

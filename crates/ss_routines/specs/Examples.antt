@@ -97,21 +97,21 @@ ElseIsOfTheInnerIf =
     ∷ word r.Always ∷ word r.Always ∷ []))
     (main_tree (one_statement (branch Found (one_statement inner) no_else)))
 
--- FOR EVERY T FOR EVERY S DO LOOP STOP: one LOOP ends the chain, and STOP stands behind it
+-- FOR EVERY T FOR EVERY S DO LOOP STOP: one LOOP ends the chain, and STOP is after it
 abbrev pub LoopEndsTheChain : Type 0
 LoopEndsTheChain =
     SpellOnly (main_words (for_every t_name ++ for_every s_name ++ word r.Do ∷ word r.Loop ∷ word r.Stop ∷ []))
     (main_tree (statement (loop (every t_name) (further (every s_name) (repeated no_statements)))
     (one_statement (simple (Transfers Stop)))))
 
--- FOR EVERY T IF FOUND ALWAYS STOP: the phrase controls the IF alone
+-- FOR EVERY T IF FOUND ALWAYS STOP: the phrase controls only the IF
 abbrev pub ForControlsOneStatement : Type 0
 ForControlsOneStatement =
     SpellOnly (main_words (for_every t_name ++ word r.If ∷ word r.Found ∷ word r.Always ∷ word r.Stop ∷ []))
     (main_tree (statement (loop (every t_name) (single (branch Found no_statements no_else)))
     (one_statement (simple (Transfers Stop)))))
 
--- the words of a condition behind IF, and the tree of that IF
+-- the words of a condition after IF, and the tree of that IF
 abbrev pub AsksOnly : List Plain → Condition → Type 0
 AsksOnly ws asked =
     SpellOnly (main_words (word r.If ∷ (ws ++ word r.Always ∷ [])))
@@ -174,12 +174,12 @@ ComputeIsTwoPlaces =
 abbrev pub x_is_one : List Plain
 x_is_one = name x_name ∷ equals ∷ number 1 ∷ []
 
--- so many FOR EVERY T
+-- FOR EVERY T, n times
 abbrev pub every_t : ℕ → List Plain
 every_t zero = []
 every_t (suc n) = for_every t_name ++ every_t n
 
--- FOR EVERY T FOR EVERY S: two are open; behind X = 1, STOP, FIND FIRST CASE or DO LOOP none is
+-- FOR EVERY T FOR EVERY S: two are open; after X = 1, STOP, FIND FIRST CASE or DO LOOP none is
 abbrev pub ChainIsOpen : Type 0
 ChainIsOpen =
     let chain : List Plain = for_every t_name ++ for_every s_name in
@@ -189,13 +189,13 @@ ChainIsOpen =
     × (open_phrases (chain ++ word r.Find ∷ word r.First ∷ word r.Case ∷ []) ≡ 0)
     × (open_phrases (chain ++ word r.Do ∷ word r.Loop ∷ []) ≡ 0)
 
--- FOR S = 1 TO 3 X = 1 FOR EVERY T: the first phrase controls X = 1 alone, and the second is open
+-- FOR S = 1 TO 3 X = 1 FOR EVERY T: the first phrase controls only X = 1, and the second is open
 abbrev pub AssignmentClosesItsPhrase : Type 0
 AssignmentClosesItsPhrase =
     open_phrases (word r.For ∷ name s_name ∷ equals ∷ number 1 ∷ word r.To ∷ number 3 ∷ (x_is_one ++ for_every t_name))
     ≡ 1
 
--- FOR EVERY T IF FOUND FOR EVERY S: two are open; behind STOP the first is, and behind ALWAYS none is
+-- FOR EVERY T IF FOUND FOR EVERY S: two are open; after STOP the first is, and after ALWAYS none is
 abbrev pub IfIsControlled : Type 0
 IfIsControlled =
     let within : List Plain = for_every t_name ++ word r.If ∷ word r.Found ∷ for_every s_name in
@@ -203,7 +203,7 @@ IfIsControlled =
     × (open_phrases (within ++ word r.Stop ∷ []) ≡ 1)
     × (open_phrases (within ++ word r.Stop ∷ word r.Always ∷ []) ≡ 0)
 
--- FOR EVERY T DO FOR EVERY S COMPUTE X AS SUM IN Y: the first is open, and behind LOOP none is
+-- FOR EVERY T DO FOR EVERY S COMPUTE X AS SUM IN Y: the first is open, and after LOOP none is
 abbrev pub LoopsAreNested : Type 0
 LoopsAreNested =
     let within : List Plain =
@@ -211,7 +211,7 @@ LoopsAreNested =
     ++ word r.Compute ∷ name x_name ∷ word r.As ∷ word r.Sum ∷ word r.In ∷ name y_name ∷ []) in
     (open_phrases within ≡ 1) × (open_phrases (within ++ word r.Loop ∷ []) ≡ 0)
 
--- 16 phrases are open behind 16, and 17 behind one more
+-- 16 phrases are open after 16, and 17 after one more
 abbrev pub SixteenAreOpen : Type 0
 SixteenAreOpen = (open_phrases (every_t 16) ≡ 16) × (open_phrases (every_t 17) ≡ 17)
 

@@ -9,20 +9,20 @@ use Rattle.ss_words.specs.declared.terms.TermSign.TheVariants.{Plus, Minus}
 
 -- sums of products of factors
 mutual
-  -- a sign at the head or none, a first term, and the terms behind it
+  -- a sign at the head or none, a first term, and the terms after it
   pub data Expr : Type 0 where
     expr : Option TermSign → Term → Sums → Expr
 
-  -- the terms behind the first, each with its sign
+  -- the terms after the first, each with its sign
   pub data Sums : Type 0 where
     no_sums : Sums
     sum : TermSign → Term → Sums → Sums
 
-  -- a first factor, and the factors behind it
+  -- a first factor, and the factors after it
   pub data Term : Type 0 where
     term : Factor → Products → Term
 
-  -- the factors behind the first
+  -- the factors after the first
   pub data Products : Type 0 where
     no_products : Products
     product : Factor → Products → Products
@@ -34,7 +34,7 @@ mutual
     applied : Name → Expr → Exprs → Factor
     within : Expr → Factor
 
-  -- the arguments behind the first
+  -- the arguments after the first
   pub data Exprs : Type 0 where
     no_exprs : Exprs
     exprs : Expr → Exprs → Exprs
@@ -59,7 +59,7 @@ abbrev mutual
   pub spell_expr : Expr → List Plain
   spell_expr (expr l t ss) = spell_lead l ++ spell_term t ++ spell_sums ss
 
-  -- each term behind its sign
+  -- each term after its sign
   pub spell_sums : Sums → List Plain
   spell_sums no_sums = []
   spell_sums (sum b t ss) = sign b ∷ (spell_term t ++ spell_sums ss)
@@ -68,7 +68,7 @@ abbrev mutual
   pub spell_term : Term → List Plain
   spell_term (term f ps) = spell_factor f ++ spell_products ps
 
-  -- each factor behind a star
+  -- each factor after a star
   pub spell_products : Products → List Plain
   spell_products no_products = []
   spell_products (product f ps) = mark (m.Sign s.Star) ∷ (spell_factor f ++ spell_products ps)
@@ -80,7 +80,7 @@ abbrev mutual
   spell_factor (applied n e es) = name n ∷ spell_within (spell_expr e ++ spell_exprs es)
   spell_factor (within e) = spell_within (spell_expr e)
 
-  -- each argument behind a comma
+  -- each argument after a comma
   pub spell_exprs : Exprs → List Plain
   spell_exprs no_exprs = []
   spell_exprs (exprs e es) = mark (m.Sign s.Comma) ∷ (spell_expr e ++ spell_exprs es)
@@ -91,7 +91,7 @@ abbrev mutual
   pub depth_expr : Expr → ℕ
   depth_expr (expr l t ss) = max (depth_term t) (depth_sums ss)
 
-  -- in the terms behind the first
+  -- in the terms after the first
   pub depth_sums : Sums → ℕ
   depth_sums no_sums = 0
   depth_sums (sum b t ss) = max (depth_term t) (depth_sums ss)
@@ -100,7 +100,7 @@ abbrev mutual
   pub depth_term : Term → ℕ
   depth_term (term f ps) = max (depth_factor f) (depth_products ps)
 
-  -- in the factors behind the first
+  -- in the factors after the first
   pub depth_products : Products → ℕ
   depth_products no_products = 0
   depth_products (product f ps) = max (depth_factor f) (depth_products ps)
@@ -112,22 +112,22 @@ abbrev mutual
   depth_factor (applied n e es) = suc (max (depth_expr e) (depth_exprs es))
   depth_factor (within e) = suc (depth_expr e)
 
-  -- in the arguments behind the first
+  -- in the arguments after the first
   pub depth_exprs : Exprs → ℕ
   depth_exprs no_exprs = 0
   depth_exprs (exprs e es) = max (depth_expr e) (depth_exprs es)
 
--- the terms behind a first one
+-- the terms after a first one
 abbrev pub sums_of : List (TermSign × Term) → Sums
 sums_of [] = no_sums
 sums_of (x ∷ xs) = sum x.0 x.1 (sums_of xs)
 
--- the factors behind a first one
+-- the factors after a first one
 abbrev pub products_of : List Factor → Products
 products_of [] = no_products
 products_of (f ∷ fs) = product f (products_of fs)
 
--- the arguments behind a first one
+-- the arguments after a first one
 abbrev pub exprs_of : List Expr → Exprs
 exprs_of [] = no_exprs
 exprs_of (e ∷ es) = exprs e (exprs_of es)

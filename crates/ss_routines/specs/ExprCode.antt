@@ -10,7 +10,7 @@ use Rattle.ss_words.specs.declared.terms.TermSign.TheVariants.{Plus, Minus}
 use Rattle.ss_routines.specs.Expr.{Expr, expr, Sums, no_sums, sum, Term, term, Products, no_products, product}
 use Rattle.ss_routines.specs.Expr.{Factor, digits, named, applied, within, Exprs, no_exprs, exprs}
 
--- a number that says what it is, a number that it holds, and a name that it holds
+-- a number that says which part it is, a number that it holds, and a name that it holds
 abbrev pub Token : Type 0
 Token = ℕ × (ℕ × Name)
 
@@ -38,13 +38,13 @@ abbrev pub sign_token : TermSign → Token
 sign_token Plus = (2, (0, []))
 sign_token Minus = (2, (1, []))
 
--- the tokens of a part, before what follows
+-- the tokens of a part, before those of the parts that follow
 abbrev mutual
   -- an expression: the sign at its head, and its terms
   pub expr_tokens : Expr → List Token → List Token
   expr_tokens (expr l t ss) k = lead_token l ∷ term_tokens t (sums_tokens ss k)
 
-  -- the terms behind the first, each behind its sign
+  -- the terms after the first, each after its sign
   pub sums_tokens : Sums → List Token → List Token
   sums_tokens no_sums k = plain 1 ∷ k
   sums_tokens (sum s t ss) k = sign_token s ∷ term_tokens t (sums_tokens ss k)
@@ -53,19 +53,19 @@ abbrev mutual
   pub term_tokens : Term → List Token → List Token
   term_tokens (term f ps) k = plain 3 ∷ factor_tokens f (products_tokens ps k)
 
-  -- the factors behind the first
+  -- the factors after the first
   pub products_tokens : Products → List Token → List Token
   products_tokens no_products k = plain 4 ∷ k
   products_tokens (product f ps) k = plain 5 ∷ factor_tokens f (products_tokens ps k)
 
-  -- a factor: its kind, and what belongs to it
+  -- a factor: its kind, and the parts that belong to it
   pub factor_tokens : Factor → List Token → List Token
   factor_tokens (digits n) k = (6, (n, [])) ∷ k
   factor_tokens (named v) k = (7, (0, v)) ∷ k
   factor_tokens (applied v e es) k = (8, (0, v)) ∷ expr_tokens e (exprs_tokens es k)
   factor_tokens (within e) k = plain 9 ∷ expr_tokens e k
 
-  -- the arguments behind the first
+  -- the arguments after the first
   pub exprs_tokens : Exprs → List Token → List Token
   exprs_tokens no_exprs k = plain 10 ∷ k
   exprs_tokens (exprs e es) k = plain 11 ∷ expr_tokens e (exprs_tokens es k)
@@ -81,7 +81,7 @@ abbrev pub sign_of : ℕ → TermSign
 sign_of zero = Plus
 sign_of (suc n) = Minus
 
--- a token put before the parts that were read behind it
+-- a token put before the parts that were read after it
 abbrev pub expr_read : ℕ → List Part → List Part
 expr_read n (a_term t ∷ some_sums ss ∷ st) = an_expr (expr (lead_of n) t ss) ∷ st
 expr_read n st = st
@@ -136,12 +136,12 @@ abbrev pub parts : List Token → List Part
 parts [] = []
 parts (w ∷ ws) = token_read w.0 w.1.0 w.1.1 (parts ws)
 
--- the expression that stands first
+-- the expression that is first
 abbrev pub first_expr : List Part → Expr
 first_expr (an_expr e ∷ st) = e
 first_expr st = expr None (term (digits 0) no_products) no_sums
 
--- the parts behind a token
+-- the parts after a token
 abbrev pub behind : Token → List Part → List Part
 behind w st = token_read w.0 w.1.0 w.1.1 st
 
@@ -158,7 +158,7 @@ pub sign_again : (s : TermSign) (t : Term) (ss : Sums) (st : List Part) →
 sign_again Plus t ss st = refl
 sign_again Minus t ss st = refl
 
--- what was written is read back
+-- the part that was written is read back
 mutual
   expr_again : (e : Expr) (k : List Token) → parts (expr_tokens e k) ≡ an_expr e ∷ parts k
   expr_again (expr l t ss) k =

@@ -25,7 +25,7 @@ abbrev pub number_of : Option Plain → Option ℕ
 number_of (Some (number k)) = Some k
 number_of _ = None
 
--- a sign, if one stands here
+-- a sign, if one is here
 abbrev pub lead : Reading (Option TermSign)
 lead = by_table sign_of
 
@@ -47,20 +47,20 @@ module _ (n : ℕ) (inner : Reading Expr) where
   factor_with = made factor_of
       (either (if_open n inner) (either (by_table number_of) (pair a_name (if_open n (several inner)))))
 
-  -- a first factor and those behind it
+  -- a first factor and those after it
   unfoldable pub term_with : Reading Term
   term_with = made (λ x. term x.0 (products_of x.1)) (pair factor_with (star (if_mark (m.Sign s.Star) factor_with)))
 
-  -- a first term and those behind it
+  -- a first term and those after it
   unfoldable pub expr_with : Reading Expr
   expr_with = made (λ x. expr x.0 x.1.0 (sums_of x.1.1)) (pair lead (pair term_with (star (if_word lead term_with))))
 
--- with at most so many parentheses open at once
+-- with at most n parentheses open at once
 unfoldable pub expr_at : ℕ → Reading Expr
 expr_at zero = expr_with 0 (refuse PastLimit)
 expr_at (suc n) = expr_with (suc n) (expr_at n)
 
--- what is read in one more parenthesis
+-- the part that is read in one more parenthesis
 abbrev pub inner_at : ℕ → Reading Expr
 inner_at zero = refuse PastLimit
 inner_at (suc n) = expr_at n
@@ -81,6 +81,6 @@ next_inner_at n = if_mark (m.Sign s.Comma) (inner_at n)
 abbrev pub arguments_at : ℕ → Reading (Option (Several Expr))
 arguments_at n = if_open n (several (inner_at n))
 
--- what stands behind a first factor: {"*" factor} {("+" | "-") term}
+-- the part after a first factor: {"*" factor} {("+" | "-") term}
 unfoldable pub rest_with : ℕ → Reading (List Factor × List (TermSign × Term))
 rest_with n = pair (star (next_factor_at n)) (star (next_term_at n))

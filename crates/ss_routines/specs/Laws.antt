@@ -1,4 +1,4 @@
--- Laws on the spelling of programs and on what is refused.
+-- Laws on the spelling of programs and on the refused words.
 use Rattle.std.specs.Prelude.{◌≡◌, ◌⊎◌, ℕ, ◌+◌, List, length, Result, Ok, Err}
 use Rattle.ss_words.specs.declared.fault.TextRule.TheVariants.{UnexpectedEnd, PastLimit}
 use Rattle.ss_words.specs.declared.fault.TextFault.{TextFault}
@@ -43,7 +43,7 @@ LimitsHold =
     → IsDefinite a → Answers a ws
     → (k : ℕ) × PassesLimit (plains ws) k × (a ≡ Err (Refused PastLimit (line (lines ws) k)))
 
--- a word that passes a limit is refused, by P3 or, where the text ends at it and cannot end there, by P2
+-- a word past a limit is refused: by P3, or by P2 if the text ends at it and cannot end there
 abbrev pub LimitsRefuse : Type 0
 LimitsRefuse =
     (ws : List PlainAt) (k : ℕ) (a : Result (List Section) TextFault) → PassesLimit (plains ws) k → IsDefinite a

@@ -1,3 +1,4 @@
+-- The modules that specify sections: trees, spelling, reading, laws and the views of the code.
 pub mod Expr
 pub mod Condition
 pub mod Simple

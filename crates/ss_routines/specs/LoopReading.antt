@@ -1,4 +1,4 @@
--- Reading FOR phrases, what IF asks and COMPUTE from left to right.
+-- Reading FOR phrases, the question of an IF and COMPUTE from left to right.
 use Rattle.std.specs.Prelude.{◌⊎◌, ℕ, List, Option, Some, None}
 use mathlib.Core.Logic.{inl, inr}
 use Rattle.ss_words.specs.declared.mark.Mark.TheVariants as m
@@ -40,7 +40,7 @@ statistic_of (Some (mark (m.Reserved r.Maximum))) = Some statistic.Maximum
 statistic_of (Some (mark (m.Reserved r.Minimum))) = Some statistic.Minimum
 statistic_of _ = None
 
--- where a walk begins
+-- the start of a walk
 abbrev pub start_of : Expr ⊎ Option Expr → WalkStart
 start_of (inl e) = From e
 start_of (inr (Some e)) = After e
@@ -56,7 +56,7 @@ abbrev pub direction_of : Unit {0} ⊎ Unit {0} → Direction
 direction_of (inl u) = Backward
 direction_of (inr u) = Onward
 
--- behind EVERY name: a set, where its walk begins and the way in which it goes; or a variable or none
+-- after EVERY name: a set, the start of its walk and its direction; or a variable or none
 abbrev pub Walk : Type 0
 Walk = (Reference × (WalkStart × Direction)) ⊎ Option Name
 
@@ -70,7 +70,7 @@ range_of (inl (c, inl (v, (b, d)))) = Walking d c v b
 range_of (inl (c, inr v)) = Each c v
 range_of (inr (v, (d, (a, (b, c))))) = Counting d v a b c
 
--- what is asked
+-- the question of an IF
 abbrev pub question_of : Unit {0} ⊎ (Unit {0} ⊎ Condition) → Question
 question_of (inl u) = Found
 question_of (inr (inl u)) = NoneFound
@@ -92,7 +92,7 @@ module _ (n : ℕ) where
   unfoldable pub start_at : Reading WalkStart
   start_at = made start_of (either (if_mark (m.Reserved r.From) (expr_at n)) (if_mark (m.Reserved r.After) (expr_at n)))
 
-  -- behind EVERY name: IN ref [(FROM | AFTER) expr] [IN REVERSE ORDER], or [CALLED name]
+  -- after EVERY name: IN ref [(FROM | AFTER) expr] [IN REVERSE ORDER], or [CALLED name]
   unfoldable pub walk_at : Reading Walk
   walk_at = either (if_mark (m.Reserved r.In) (pair (reference_at n) (pair start_at an_order)))
       (if_mark (m.Reserved r.Called) a_name)
@@ -102,11 +102,11 @@ module _ (n : ℕ) where
   counting_at = pair a_name (pair a_direction
       (pair (before (expr_at n) (m.Reserved r.To)) (pair (expr_at n) (if_mark (m.Reserved r.By) (expr_at n)))))
 
-  -- what a FOR phrase goes through
+  -- the range of a FOR phrase
   unfoldable pub range_at : Reading Range
   range_at = made range_of (either (if_mark (m.Reserved r.Every) (pair a_name walk_at)) counting_at)
 
-  -- (WITH | UNLESS | WHILE | UNTIL) cond, if one stands here
+  -- (WITH | UNLESS | WHILE | UNTIL) cond, if one is here
   abbrev pub next_qualifier : Reading (Option Qualifier)
   next_qualifier =
       made_of (λ x. record { word = x.0; condition = x.1 }) (if_word (by_table qualifier_of) (condition_at n))
@@ -115,7 +115,7 @@ module _ (n : ℕ) where
   unfoldable pub qualifiers_at : Reading (List Qualifier)
   qualifiers_at = star next_qualifier
 
-  -- a FOR phrase, behind FOR
+  -- a FOR phrase, after FOR
   unfoldable pub phrase_at : Reading Phrase
   phrase_at = made (λ x. record { range = x.0; qualifiers = x.1 }) (pair range_at qualifiers_at)
 
@@ -124,7 +124,7 @@ module _ (n : ℕ) where
   computed_at = made (λ x. record { target = x.0; statistic = x.1 })
       (pair (before (reference_at n) (m.Reserved r.As)) (must (by_table statistic_of)))
 
-  -- behind COMPUTE: ref AS stat {"," ref AS stat} IN expr
+  -- after COMPUTE: ref AS stat {"," ref AS stat} IN expr
   unfoldable pub compute_at : Reading (Several Computed × Expr)
   compute_at = pair (before (several computed_at) (m.Reserved r.In)) (expr_at n)
 

@@ -1,4 +1,5 @@
--- FOR phrases, what an IF asks and what a COMPUTE tells, with their plain words and how deep their parentheses nest.
+-- FOR phrases, the question of an IF and the contents of a COMPUTE, with their plain words and how
+-- deep their parentheses nest.
 use Rattle.std.specs.Prelude.{ℕ, max, List, [], ◌∷◌, ◌++◌, Option}
 use Rattle.std.specs.List.{flat_map}
 use Rattle.ss_words.specs.declared.mark.Mark.TheVariants as m
@@ -32,24 +33,24 @@ pub data Range : Type 0 where
 pub record Qualifier : Type 0 where
   -- which of the four words
   pub word : QualifierWord
-  -- what it asks of each turn
+  -- the condition that it asks of each turn
   pub condition : Condition
 
--- FOR, what it goes through, and its qualifiers
+-- FOR, its range, and its qualifiers
 pub record Phrase : Type 0 where
-  -- what it goes through
+  -- the range that it goes through
   pub range : Range
   -- its qualifiers, in order
   pub qualifiers : List Qualifier
 
 -- a target of COMPUTE and the statistic that it is given
 pub record Computed : Type 0 where
-  -- what is set
+  -- the reference that is set
   pub target : Reference
-  -- to what
+  -- the statistic to which it is set
   pub statistic : Statistic
 
--- what IF asks: a condition, FOUND or NONE
+-- the question of an IF: a condition, FOUND or NONE
 pub data Question : Type 0 where
   Holds : Condition → Question
   Found NoneFound : Question
@@ -76,7 +77,7 @@ spell_order Backward = mark (m.Reserved r.In) ∷ mark (m.Reserved r.Reverse) �
 abbrev pub spell_name : Name → List Plain
 spell_name n = name n ∷ []
 
--- what a FOR phrase goes through
+-- the range of a FOR phrase
 abbrev pub spell_range : Range → List Plain
 spell_range (Counting d n a b c) =
     name n ∷ (spell_direction d ++ spell_expr a ++ mark
@@ -117,7 +118,7 @@ abbrev pub spell_compute : Several Computed → Expr → List Plain
 spell_compute ts expression =
     mark (m.Reserved r.Compute) ∷ (spell_several spell_computed ts ++ mark (m.Reserved r.In) ∷ spell_expr expression)
 
--- what stands behind IF
+-- the part after IF
 abbrev pub spell_question : Question → List Plain
 spell_question (Holds c) = spell_condition c
 spell_question Found = mark (m.Reserved r.Found) ∷ []
@@ -131,7 +132,7 @@ depth_walk_start AtEnd = 0
 depth_walk_start (From e) = depth_expr e
 depth_walk_start (After e) = depth_expr e
 
--- in what a FOR phrase goes through
+-- in the range of a FOR phrase
 abbrev pub depth_range : Range → ℕ
 depth_range (Counting d n a b c) = max (depth_expr a) (max (depth_expr b) (if_there depth_expr c))
 depth_range (Each c v) = 0
@@ -153,7 +154,7 @@ depth_computed t = depth_reference t.target
 abbrev pub depth_compute : Several Computed → Expr → ℕ
 depth_compute ts expression = max (greatest_of depth_computed ts) (depth_expr expression)
 
--- in what IF asks
+-- in the question of an IF
 abbrev pub depth_question : Question → ℕ
 depth_question (Holds c) = depth_condition c
 depth_question Found = 0

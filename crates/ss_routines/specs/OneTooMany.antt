@@ -33,12 +33,12 @@ abbrev pub has_end : List Plain → Bool
 has_end [] = false
 has_end (w ∷ ws) = if ends w then true else has_end ws
 
--- the words of the section that has not ended: those behind the last END
+-- the words of the section that has not ended: those after the last END
 abbrev pub behind_end : List Plain → List Plain
 behind_end [] = []
 behind_end (w ∷ ws) = if has_end (w ∷ ws) then behind_end ws else w ∷ ws
 
--- a word of a head behind which a name stands: ROUTINE, EVENT, GIVEN, YIELDING, a comma, an opening parenthesis
+-- a head's word after which a name is: ROUTINE, EVENT, GIVEN, YIELDING, comma, opening parenthesis
 abbrev pub asks : Plain → Bool
 asks (mark (m.Reserved r.Routine)) = true
 asks (mark (m.Reserved r.Event)) = true
@@ -48,7 +48,7 @@ asks (mark (m.Sign s.Comma)) = true
 asks (mark (m.Sign s.Open)) = true
 asks _ = false
 
--- how many names stand in the head that these words go on with, where a name is due or is not
+-- how many names are in the head that these words go on with, if a name is due or is not
 abbrev pub names_in_head : Bool → List Plain → ℕ
 names_in_head due [] = 0
 names_in_head true (name n ∷ ws) = suc (names_in_head false ws)
@@ -56,13 +56,13 @@ names_in_head true (_ ∷ ws) = 0
 names_in_head false (w ∷ ws) =
     if asks w then names_in_head true ws else (if closes w then names_in_head false ws else 0)
 
--- what is limited and counted here
+-- the parts that are limited and counted here
 pub data Counted : Type 0 where
   Parentheses Ifs Phrases Parameters Sections : Counted
 
--- word k is one too many, where before it as many are open or ended as there may be: an opening parenthesis, an IF or a
--- FOR; the first word of a head, where sections have ended; or a name with which its head has its own and one parameter
--- more than there may be
+-- word k is one too many, if before it as many are open or ended as there may be: an opening
+-- parenthesis, an IF or a FOR; the first word of a head, if sections have ended; or a name with
+-- which its head has its own and one parameter more than there may be
 abbrev pub IsOneTooMany : Counted → List Plain → ℕ → Type 0
 IsOneTooMany Parentheses ws k =
     (first (drop k ws) ≡ Some (mark (m.Sign s.Open)))
@@ -81,7 +81,7 @@ IsOneTooMany Sections ws k = (is_head (first (drop k ws)) ≡ true) × (count en
 abbrev pub LimitIsCounted : Type 0
 LimitIsCounted = (ws : List Plain) (k : ℕ) → PassesLimit ws k → (c : Counted) × IsOneTooMany c ws k
 
--- a word that is one too many by counting passes a limit, where no word before it does and programs go on with it
+-- a word one too many by counting passes a limit, if no word before does and programs go on with it
 abbrev pub CountPassesLimit : Type 0
 CountPassesLimit =
     (ws : List Plain) (k : ℕ) (c : Counted) → k < length ws → InRoom (take k ws) → Begins (take (k + 1) ws)

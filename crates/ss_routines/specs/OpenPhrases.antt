@@ -5,21 +5,21 @@ use Rattle.ss_words.specs.declared.word.Sign.TheVariants as s
 use Rattle.ss_words.specs.declared.reserved.Reserved.TheVariants as r
 use Rattle.ss_words.specs.Plain.{Plain, name, number, mark}
 
--- what may be open: FOR, up to the end of what its phrase controls; DO, up to its LOOP; IF, up to its ALWAYS
+-- may be open: FOR, to the end of the part it controls; DO, to its LOOP; IF, to its ALWAYS
 pub data Open : Type 0 where
   For Do If : Open
 
--- what stays open where the innermost phrases close: all of them that stand before any DO or IF
+-- the open parts after the innermost phrases close: all phrases close that are before any DO or IF
 abbrev pub without_inner_phrases : List Open → List Open
 without_inner_phrases (For ∷ os) = without_inner_phrases os
 without_inner_phrases os = os
 
--- what stays open behind LOOP or ALWAYS: it closes the innermost DO or IF, and the phrases directly before that
+-- open parts after LOOP or ALWAYS: they close the innermost DO or IF and phrases directly before it
 abbrev pub without_inner_block : List Open → List Open
 without_inner_block [] = []
 without_inner_block (o ∷ os) = without_inner_phrases os
 
--- a word with which a statement begins that holds no other: the phrases before it close here, since no FOR stands in it
+-- begins a statement that holds no other, and so no FOR: the phrases before it close here
 abbrev pub begins : Plain → Bool
 begins (mark (m.Reserved r.Let)) = true
 begins (mark (m.Reserved r.Add)) = true
@@ -41,7 +41,7 @@ begins (mark (m.Reserved r.Find)) = true
 begins (mark (m.Reserved r.Compute)) = true
 begins _ = false
 
--- a word with which a phrase may end; a name directly behind it begins an assignment without LET
+-- a word with which a phrase may end; a name directly after it begins an assignment without LET
 abbrev pub may_end : Plain → Bool
 may_end (name n) = true
 may_end (number n) = true
@@ -50,7 +50,7 @@ may_end (mark (m.Reserved r.Empty)) = true
 may_end (mark (m.Reserved r.Order)) = true
 may_end _ = false
 
--- what is open behind a word where os is open before it, and b says whether the word before it may end a phrase
+-- the open parts after a word, if os is open before it; b: the word before it may end a phrase
 abbrev pub step : Bool → List Open → Plain → List Open
 step b os (mark (m.Reserved r.For)) = For ∷ os
 step b os (mark (m.Reserved r.Do)) = Do ∷ os
@@ -60,7 +60,7 @@ step b os (mark (m.Reserved r.Always)) = without_inner_block os
 step b os (name n) = if b then without_inner_phrases os else os
 step b os w = if begins w then without_inner_phrases os else os
 
--- what is open behind words, the innermost first
+-- the open parts after words, the innermost first
 abbrev pub open_behind : Bool → List Open → List Plain → List Open
 open_behind b os [] = os
 open_behind b os (w ∷ ws) = open_behind (may_end w) (step b os w) ws
@@ -71,6 +71,6 @@ phrases_of [] = 0
 phrases_of (For ∷ os) = suc (phrases_of os)
 phrases_of (o ∷ os) = phrases_of os
 
--- how many phrases are open behind the words of a text
+-- how many phrases are open after the words of a text
 abbrev pub open_phrases : List Plain → ℕ
 open_phrases ws = phrases_of (open_behind false [] ws)

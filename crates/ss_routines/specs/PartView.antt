@@ -1,4 +1,4 @@
--- The pure data that parts of statements and conditions of the code stand for.
+-- The pure data for the parts of statements and conditions of the code.
 use Rattle.std.specs.Prelude.{List, map, Option}
 use Rattle.std.specs.Global.{Vec}
 use Rattle.ss_words.specs.declared.several.Several.{Several as CodeSeveral}
@@ -31,23 +31,23 @@ several_values_view = several_view expr_view
 abbrev pub references_view : Vec CodeReference → List Reference
 references_view v = map reference_view v.items
 
--- relations behind a first one
+-- relations after a first one
 abbrev pub relations_view : Vec CodeRelation → List Relation
 relations_view v = map relation_view v.items
 
--- conjunctions behind a first one
+-- conjunctions after a first one
 abbrev pub conjunctions_view : Vec CodeConjunction → List Conjunction
 conjunctions_view v = map conjunction_view v.items
 
--- factors behind a first one
+-- factors after a first one
 abbrev pub factors_view : Vec CodeFactor → List Factor
 factors_view v = map factor_view v.items
 
--- terms behind a first one
+-- terms after a first one
 abbrev pub terms_view : Vec CodeAdded → List (TermSign × Term)
 terms_view v = map added_view v.items
 
--- factors and terms behind a first factor
+-- factors and terms after a first factor
 abbrev pub rest_view : Vec CodeFactor × Vec CodeAdded → List Factor × List (TermSign × Term)
 rest_view x = (factors_view x.0, terms_view x.1)
 
@@ -67,7 +67,7 @@ moved_view x = (expr_view x.0, reference_view x.1)
 abbrev pub qualifiers_view : Vec CodeQualifier → List Qualifier
 qualifiers_view v = map qualifier_view v.items
 
--- targets of COMPUTE behind a first one
+-- targets of COMPUTE after a first one
 abbrev pub computed_list_view : Vec CodeComputed → List Computed
 computed_list_view v = map computed_view v.items
 

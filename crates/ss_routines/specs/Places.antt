@@ -11,8 +11,8 @@ pub data Branch : Type 0 where
   If : Question → Branch
   Else Always : Branch
 
--- a place of a FOR statement: a phrase, with whether DO stands behind it; LOOP; FIND FIRST CASE; the two places of
--- COMPUTE
+-- a place of a FOR statement: a phrase, and whether DO is after it; LOOP; FIND FIRST CASE; the two
+-- places of COMPUTE
 pub data Loop : Type 0 where
   For : Phrase → Bool → Loop
   Next Find : Loop
@@ -26,7 +26,7 @@ pub data Place : Type 0 where
   Loops : Loop → Place
   EndOfSection : Place
 
--- a place, and where it stands
+-- a place, and its line
 pub record Spot : Type 0 where
   -- the line of its first plain word
   pub line : ℕ

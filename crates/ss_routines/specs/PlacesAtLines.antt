@@ -1,4 +1,4 @@
--- Reading statements and sections and noting their places behind those that were noted before.
+-- Reading statements and sections and noting their places after those that were noted before.
 use Rattle.std.specs.Prelude.{ℕ, zero, suc, Bool, true, false, List, [], ◌∷◌, ◌++◌, Some, None}
 use Rattle.ss_words.specs.declared.limits.TheConstants.{MOST_PARENTHESES, MOST_IFS, MOST_PHRASES}
 use Rattle.ss_words.specs.declared.limits.TheConstants.{MOST_PARAMETERS, MOST_SECTIONS}
@@ -21,7 +21,7 @@ use Rattle.ss_routines.specs.Tree.{is_head}
 abbrev pub noted_at : ℕ → Place → Spot
 noted_at l place = record { line = l; place = place }
 
--- reads an item, if one stands here, notes its places, and tells whether it did
+-- reads an item, if one is here, notes its places, and says whether it did
 abbrev pub NotingItem : Type 0
 NotingItem = List Spot → Reading (Bool × List Spot)
 
@@ -33,15 +33,15 @@ module _ (lines : List ℕ) (n : ℕ) where
       here lines (λ l. eat (m.Reserved r.Else) >>= λ b. elim b
       [ true ↦ inside (acc ++ noted_at l (Branches Else) ∷ []) | false ↦ pure acc ])
 
-  -- behind IF, which stands in line l
+  -- after IF, which is in line l
   unfoldable pub noting_branch : Noting Spot → ℕ → Noting Spot
   noting_branch inside l acc =
       question_at n >>= λ q. inside (acc ++ noted_at l (Branches (If q)) ∷ []) >>= λ b. noting_else inside b >>= λ e.
       here lines (λ j. expect (m.Reserved r.Always) >>= λ u. pure (e ++ noted_at j (Branches Always) ∷ []))
 
-  -- a_branch notes IF and what stands behind it, if it stands here; a_loop notes FOR likewise
+  -- a_branch notes IF and the part after it, if it is here; a_loop notes FOR likewise
   module _ (a_branch a_loop : NotingItem) where
-    -- a statement that is no loop, if one stands here
+    -- a statement that is no loop, if one is here
     unfoldable pub noting_one : NotingItem
     noting_one acc =
         here lines (λ l. simple_at n >>= λ o. elim o [
@@ -50,7 +50,7 @@ module _ (lines : List ℕ) (n : ℕ) where
           | None ↦ a_branch acc
         ])
 
-    -- a statement, if one stands here
+    -- a statement, if one is here
     unfoldable pub noting_statement : NotingItem
     noting_statement acc = noting_one acc >>= λ x. elim x.0 [ true ↦ pure x | false ↦ a_loop x.1 ]
 
@@ -58,7 +58,7 @@ module _ (lines : List ℕ) (n : ℕ) where
     unfoldable pub noting_block : Noting Spot
     noting_block acc = repeat noting_statement acc
 
-    -- a statement that is no loop, which must stand here
+    -- a statement that is no loop, which must be here
     unfoldable pub noting_must : Noting Spot
     noting_must acc = noting_one acc >>= λ x. elim x.0 [ true ↦ pure x.1 | false ↦ refuse Unexpected ]
 
@@ -80,7 +80,7 @@ module _ (lines : List ℕ) (n : ℕ) where
         noting_block acc >>= λ s. here lines (λ j. expect (m.Reserved r.Loop) >>= λ u. pure
         (s ++ noted_at j (Loops Next) ∷ []))
 
-    -- behind a phrase f, whose FOR stands in line l
+    -- after a phrase f, whose FOR is in line l
     unfoldable pub noting_controlled : ℕ → Phrase → Noting Spot
     noting_controlled l f acc = eat (m.Reserved r.Do) >>= λ b. elim b [
       | true ↦ noting_repeated (acc ++ noted_at l (Loops (For f true)) ∷ [])
@@ -88,7 +88,7 @@ module _ (lines : List ℕ) (n : ℕ) where
           [ true ↦ pure x.1 | false ↦ noting_last x.1 ])
     ]
 
-  -- FOR and what stands behind it, where so many more phrases may be open
+  -- FOR and the part after it, if n more phrases may be open
   unfoldable pub noting_loop : (ℕ → NotingItem) → ℕ → NotingItem
   noting_loop a_branch zero acc =
       eat_allowed 0 (m.Reserved r.For) >>= λ b. elim b [ true ↦ refuse PastLimit | false ↦ pure (false, acc) ]
@@ -98,7 +98,7 @@ module _ (lines : List ℕ) (n : ℕ) where
     | false ↦ pure (false, acc)
   ])
 
-  -- IF and what stands behind it, where so many more IFs and phrases may be open
+  -- IF and the part after it, if i more IFs and f more phrases may be open
   unfoldable pub noting_if : ℕ → ℕ → NotingItem
   noting_if zero f acc =
       eat_allowed 0 (m.Reserved r.If) >>= λ b. elim b [ true ↦ refuse PastLimit | false ↦ pure (false, acc) ]
@@ -107,7 +107,7 @@ module _ (lines : List ℕ) (n : ℕ) where
     | false ↦ pure (false, acc)
   ])
 
-  -- statements, where so many IFs and so many phrases may be open at once
+  -- statements, if i IFs and f phrases may be open at once
   abbrev pub noting_statements : ℕ → ℕ → Noting Spot
   noting_statements i f = noting_block (noting_if i f) (noting_loop (noting_if i) f)
 
@@ -115,7 +115,7 @@ module _ (lines : List ℕ) (n : ℕ) where
 
 -- lines: of each word of the text
 module _ (lines : List ℕ) where
-  -- DEFINE names AS INTEGER VARIABLES, if it stands here
+  -- DEFINE names AS INTEGER VARIABLES, if it is here
   unfoldable pub noting_local : List LocalNames → Reading (Bool × List LocalNames)
   noting_local acc =
       here lines (λ l. eat (m.Reserved r.Define) >>= λ b. elim b [
@@ -132,7 +132,7 @@ module _ (lines : List ℕ) where
         here lines (λ j. expect (m.Reserved r.End) >>= λ u.
         pure (record { line = l; head = h; locals = ls; places = ps ++ noted_at j EndOfSection ∷ [] })))
 
-    -- at most so many sections
+    -- at most n sections
     unfoldable pub noting_sections : ℕ → Reading (List Section)
     noting_sections zero = look (λ w. elim (is_head w) [ true ↦ refuse PastLimit | false ↦ pure [] ])
     noting_sections (suc j) =

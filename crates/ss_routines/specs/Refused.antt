@@ -1,4 +1,5 @@
--- What stands in a list of plain words: the sections of a program, or the word at which it is refused.
+-- The contents of a list of plain words: the sections of a program, or the word at which it is
+-- refused.
 use Rattle.std.specs.Prelude.{◌≡◌, ◌≤◌, ◌<◌, ◌⊎◌, ℕ, ◌+◌, ◌-◌, Bool, true, false, List, [], ◌∷◌, ◌++◌, length, take}
 use Rattle.std.specs.Prelude.{map, leb, Result, Ok, Err}
 use Rattle.std.specs.List.{filter}
@@ -47,7 +48,7 @@ Begins ws = (t : Tree) × (x : List Plain) × (spell t ≡ ws ++ x)
 abbrev pub BeginsWithin : List Plain → Type 0
 BeginsWithin ws = (t : Tree) × IsWithin t × (x : List Plain) × (spell t ≡ ws ++ x)
 
--- a word that counts to no limit itself, and behind which a parameter may have to stand: a comma or YIELDING
+-- a word that counts to no limit itself but may need a parameter after it: a comma or YIELDING
 abbrev pub announces : Plain → Bool
 announces (mark (m.Sign s.Comma)) = true
 announces (mark (m.Reserved r.Yielding)) = true
@@ -69,7 +70,7 @@ pub record IsAnnounced (ws : List Plain) : Type 0 where
   -- programs begin with all
   pub begins : Begins ws
 
--- what is counted in these words is within the limits
+-- the counted parts in these words are within the limits
 abbrev pub InRoom : List Plain → Type 0
 InRoom ws = BeginsWithin ws ⊎ IsAnnounced ws
 
@@ -95,7 +96,7 @@ pub record IsUnexpectedWord (ws : List Plain) (k : ℕ) : Type 0 where
 
 -- P2: the text's end is the farthest word, and no word before the last passes a limit.
 pub record IsUnexpectedEnd (ws : List Plain) : Type 0 where
-  -- programs go on behind the last word, and none ends there
+  -- programs go on after the last word, and none ends there
   pub farthest : IsFarthest spell ws (length ws)
   -- no word before the last passes a limit
   pub in_room : InRoom (take (length ws - 1) ws)
@@ -123,7 +124,7 @@ abbrev pub IsFault : TextFault → List PlainAt → Type 0
 IsFault (Refused rule l) ws = IsRefused rule l ws
 IsFault Memory ws = Unit {0}
 
--- what the words are answered with
+-- the answers to the words
 abbrev pub Answers : Result (List Section) TextFault → List PlainAt → Type 0
 Answers (Ok ss) ws = AreSections ss ws
 Answers (Err f) ws = IsFault f ws

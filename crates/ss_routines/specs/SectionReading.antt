@@ -32,15 +32,15 @@ pub record Room : Type 0 where
 
 -- ---- heads
 
--- how a name is refused, of which there may be no more, or what stands in its place
+-- how a name is refused if there may be no more, or how the word in its place is refused
 abbrev pub refusal_of : Option Plain → Refusal
 refusal_of w = elim (name_of w) [ Some n ↦ PastLimit | None ↦ Unexpected ]
 
--- refuses a name, of which there may be no more, or what stands in its place
+-- refuses a name, if there may be no more, or the word in its place
 unfoldable pub no_name : {A : Type 0} → Reading A
 no_name = look (λ w. refuse (refusal_of w))
 
--- {"," name}, at most so many
+-- {"," name}, at most n names
 unfoldable pub others_at : ℕ → Reading (List Name)
 others_at zero = eat (m.Sign s.Comma) >>= λ b. elim b [ true ↦ no_name | false ↦ pure [] ]
 others_at (suc k) =
@@ -50,12 +50,12 @@ others_at (suc k) =
           []
     ]
 
--- name {"," name}, at most so many
+-- name {"," name}, at most n names
 unfoldable pub names_at : ℕ → Reading (Several Name)
 names_at zero = no_name
 names_at (suc k) = a_name >>= λ n. others_at k >>= λ ns. pure (record { first = n; others = ns })
 
--- [GIVEN names | "(" names ")"], at most so many
+-- [GIVEN names | "(" names ")"], at most n names
 unfoldable pub given_at : ℕ → Reading (Listing Name)
 given_at k = eat (m.Reserved r.Given) >>= λ g. elim g [
   | true ↦ (names_at k >>= λ ns. pure (BehindGiven ns))
@@ -66,7 +66,7 @@ given_at k = eat (m.Reserved r.Given) >>= λ g. elim g [
   ])
 ]
 
--- [YIELDING names], at most so many
+-- [YIELDING names], at most n names
 unfoldable pub yielded_at : ℕ → Reading (List Name)
 yielded_at k =
     eat (m.Reserved r.Yielding) >>= λ b. elim b [ true ↦ (names_at k >>= λ ns. pure (all_of ns)) | false ↦ pure [] ]
@@ -80,19 +80,19 @@ saving =
       | false ↦ pure false
     ]
 
--- with at most so many parameters, given and yielded together
+-- with at most k parameters, given and yielded together
 module _ (k : ℕ) where
-  -- behind ROUTINE: name [GIVEN names | "(" names ")"] [YIELDING names]
+  -- after ROUTINE: name [GIVEN names | "(" names ")"] [YIELDING names]
   unfoldable pub routine_at : Reading Head
   routine_at =
       a_name >>= λ n. given_at k >>= λ ps. yielded_at (k - length (listing_names ps)) >>= λ ys.
       pure (RoutineHead n ps ys)
 
-  -- behind EVENT: name [GIVEN names | "(" names ")"] [SAVING EVENT NOTICES]
+  -- after EVENT: name [GIVEN names | "(" names ")"] [SAVING EVENT NOTICES]
   unfoldable pub event_at : Reading Head
   event_at = a_name >>= λ n. given_at k >>= λ ps. saving >>= λ b. pure (EventHead n ps b)
 
-  -- MAIN, ROUTINE or EVENT and what stands behind it
+  -- MAIN, ROUTINE or EVENT and the part after it
   abbrev pub head_by : Option Plain → Reading Head
   head_by (Some (mark (m.Reserved r.Main))) = skip (pure MainHead)
   head_by (Some (mark (m.Reserved r.Routine))) = skip routine_at
@@ -109,7 +109,7 @@ module _ (k : ℕ) where
 unfoldable pub as_variables : Reading (Unit {0})
 as_variables = behind (m.Reserved r.As) (behind (m.Reserved r.Integer) (behind (m.Reserved r.Variables) (pure tt)))
 
--- behind DEFINE: names AS INTEGER VARIABLES
+-- after DEFINE: names AS INTEGER VARIABLES
 unfoldable pub a_define : Reading (Several Name)
 a_define = made (λ x. x.0) (pair names as_variables)
 
@@ -125,7 +125,7 @@ module _ (n i f k : ℕ) where
       head_at k >>= λ h. locals >>= λ ls. block_at n i f >>= λ b. expect (m.Reserved r.End) >>= λ u. pure
       (record { head = h; locals = ls; block = b })
 
-  -- at most so many sections
+  -- at most n sections
   unfoldable pub sections_upto : ℕ → Reading Tree
   sections_upto zero = look (λ w. elim (is_head w) [ true ↦ refuse PastLimit | false ↦ pure [] ])
   sections_upto (suc j) =

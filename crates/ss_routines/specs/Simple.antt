@@ -17,7 +17,7 @@ pub data Making : Type 0 where
   CreateEvery : Name → Option Expr → Making
   Destroy : Name → Option Reference → Making
 
--- where a member is filed: nothing is written, FIRST or LAST, BEFORE or AFTER another
+-- the place at which a member is filed: nothing is written, FIRST or LAST, BEFORE or AFTER another
 pub data FilePlace : Type 0 where
   ByDiscipline : FilePlace
   AtEnd : SetEnd → FilePlace
@@ -30,12 +30,12 @@ pub data Filing : Type 0 where
   RemoveEnd : SetEnd → Reference → Reference → Filing
   Remove : Expr → Reference → Filing
 
--- how a list of names or values is written: not at all, behind GIVEN, or in parentheses
+-- how a list of names or values is written: not at all, after GIVEN, or in parentheses
 pub data Listing (A : Type 0) : Type 0 where
   Unwritten : Listing A
   BehindGiven InParentheses : Several A → Listing A
 
--- CALL r, its values, and what stands behind YIELDING or nothing; RETURN; STOP
+-- CALL r, its values, and the targets after YIELDING or nothing; RETURN; STOP
 pub data Transfer : Type 0 where
   Call : Name → Listing Expr → List Reference → Transfer
   Return Stop : Transfer
@@ -57,7 +57,7 @@ pub data Timing : Type 0 where
   Cancel : Name → Option Reference → Timing
   StartSimulation : Timing
 
--- READ and its targets; PRINT n LINES, the values behind WITH or none, and the picture; SKIP e LINES
+-- READ and its targets; PRINT n LINES, the values after WITH or none, and the picture; SKIP e LINES
 pub data Exchange : Type 0 where
   Read : Several Reference → Exchange
   Print : ℕ → List Expr → List (List ℕ) → Exchange

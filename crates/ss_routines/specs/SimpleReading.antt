@@ -37,13 +37,13 @@ abbrev pub name_of : Option Plain → Option Name
 name_of (Some (name n)) = Some n
 name_of _ = None
 
--- what a written list is
+-- the listing that is written
 abbrev pub listing_of : {A : Type 0} → Several A ⊎ Option (Several A) → Listing A
 listing_of (inl xs) = BehindGiven xs
 listing_of (inr (Some xs)) = InParentheses xs
 listing_of (inr None) = Unwritten
 
--- what may be left out, as a list
+-- an optional part, as a list
 abbrev pub list_of : {A : Type 0} → Option (Several A) → List A
 list_of None = []
 list_of (Some xs) = all_of xs
@@ -52,7 +52,7 @@ list_of (Some xs) = all_of xs
 unfoldable pub list_behind : {A : Type 0} → Mark → Reading A → Reading (List A)
 list_behind wanted p = made list_of (if_mark wanted (several p))
 
--- [GIVEN x {"," x} | "(" x {"," x} ")"], where inner reads in the parentheses
+-- [GIVEN x {"," x} | "(" x {"," x} ")"]; inner reads in the parentheses
 unfoldable pub listing_with : {A : Type 0} → ℕ → Reading A → Reading A → Reading (Listing A)
 listing_with n p inner = made listing_of (either (if_mark (m.Reserved r.Given) (several p)) (if_open n (several inner)))
 
@@ -77,11 +77,11 @@ file_place_of (inr (inl e)) = Before e
 file_place_of (inr (inr (Some e))) = After e
 file_place_of (inr (inr None)) = ByDiscipline
 
--- behind FILE: an end, a member and a set; or a member, its place and a set
+-- after FILE: an end, a member and a set; or a member, its place and a set
 abbrev pub Filed : Type 0
 Filed = (SetEnd × (Expr × Reference)) ⊎ (Expr × (FilePlace × Reference))
 
--- behind REMOVE: an end, a target and a set; or a member and a set
+-- after REMOVE: an end, a target and a set; or a member and a set
 abbrev pub Removed : Type 0
 Removed = (SetEnd × (Reference × Reference)) ⊎ (Expr × Reference)
 
@@ -186,12 +186,12 @@ module _ (n : ℕ) where
       (either (by_table end_of)
       (either (if_mark (m.Reserved r.Before) (expr_at n)) (if_mark (m.Reserved r.After) (expr_at n))))
 
-  -- behind FILE: (FIRST | LAST) expr IN ref, or expr [FIRST | LAST | (BEFORE | AFTER) expr] IN ref
+  -- after FILE: (FIRST | LAST) expr IN ref, or expr [FIRST | LAST | (BEFORE | AFTER) expr] IN ref
   unfoldable pub file_at : Reading Filed
   file_at = either (if_word (by_table end_of) (moved_at (m.Reserved r.In)))
       (pair (expr_at n) (pair (before file_place_at (m.Reserved r.In)) reference_at))
 
-  -- behind REMOVE: (FIRST | LAST) ref FROM ref, or expr FROM ref
+  -- after REMOVE: (FIRST | LAST) ref FROM ref, or expr FROM ref
   unfoldable pub remove_at : Reading Removed
   remove_at = either (if_word (by_table end_of) (pair (before reference_at (m.Reserved r.From)) reference_at))
       (moved_at (m.Reserved r.From))
@@ -201,7 +201,7 @@ module _ (n : ℕ) where
   filing_at =
       made_of filing_of (either_of (if_mark (m.Reserved r.File) file_at) (if_mark (m.Reserved r.Remove) remove_at))
 
-  -- behind CALL: name [GIVEN exprs | "(" exprs ")"] [YIELDING refs]
+  -- after CALL: name [GIVEN exprs | "(" exprs ")"] [YIELDING refs]
   unfoldable pub call_at : Reading (Name × (Listing Expr × List Reference))
   call_at =
       pair a_name (pair (listing_with n (expr_at n) (inner_at n)) (list_behind (m.Reserved r.Yielding) reference_at))
@@ -225,7 +225,7 @@ module _ (n : ℕ) where
       (either (if_mark (m.Reserved r.Now) (pure tt))
       (behind (m.Reserved r.In) (before (expr_at n) (m.Reserved r.Days)))))
 
-  -- behind SCHEDULE: (A | THE) name details time
+  -- after SCHEDULE: (A | THE) name details time
   unfoldable pub schedule_at : Reading (Article × (Name × (Details × When)))
   schedule_at = pair an_article (pair a_name (pair details_at when_at))
 
@@ -236,7 +236,7 @@ module _ (n : ℕ) where
       (either_of (if_mark (m.Reserved r.Cancel) named_at)
       (if_mark (m.Reserved r.Start) (behind (m.Reserved r.Simulation) (pure tt)))))
 
-  -- behind PRINT: number LINES [WITH exprs] THUS picture
+  -- after PRINT: number LINES [WITH exprs] THUS picture
   unfoldable pub print_at : Reading (ℕ × (List Expr × List (List ℕ)))
   print_at = pair (before a_number (m.Reserved r.Lines))
       (pair (before (list_behind (m.Reserved r.With) (expr_at n)) (m.Reserved r.Thus)) a_picture)
@@ -248,7 +248,7 @@ module _ (n : ℕ) where
       (either_of (if_mark (m.Reserved r.Print) print_at)
       (if_mark (m.Reserved r.Skip) (before (expr_at n) (m.Reserved r.Lines)))))
 
-  -- a statement that holds no other, if one stands here
+  -- a statement that holds no other, if one is here
   unfoldable pub simple_at : Reading (Option Simple)
   simple_at = made_of simple_of
       (either_of making_at

@@ -19,19 +19,19 @@ use Rattle.ss_routines.specs.Simple.{Details, ValuesFirst, CalledFirst, When, At
 use Rattle.ss_routines.specs.Simple.{StartSimulation, Exchange, Read, Print, Skip, Simple, Assigns, Makes, Files}
 use Rattle.ss_routines.specs.Simple.{Transfers, Times, Exchanges}
 
--- ---- lists and what may be left out
+-- ---- lists and optional parts
 
--- one or more behind a word, or nothing
+-- one or more after a word, or nothing
 abbrev pub spell_behind : {A : Type 0} → Mark → (A → List Plain) → List A → List Plain
 spell_behind before spell [] = []
 spell_behind before spell (x ∷ xs) = mark before ∷ (spell x ++ spell_others spell xs)
 
--- one behind a word, or nothing
+-- one after a word, or nothing
 abbrev pub spell_option : {A : Type 0} → Mark → (A → List Plain) → Option A → List Plain
 spell_option before spell None = []
 spell_option before spell (Some x) = mark before ∷ spell x
 
--- nothing, or behind GIVEN, or in parentheses
+-- nothing, or after GIVEN, or in parentheses
 abbrev pub spell_listing : {A : Type 0} → (A → List Plain) → Listing A → List Plain
 spell_listing spell Unwritten = []
 spell_listing spell (BehindGiven xs) = mark (m.Reserved r.Given) ∷ spell_several spell xs
@@ -43,7 +43,7 @@ spell_called v = spell_option (m.Reserved r.Called) spell_reference v
 
 -- ---- the statements
 
--- LET, where it is written
+-- LET, if it is written
 abbrev pub spell_let : Bool → List Plain
 spell_let true = mark (m.Reserved r.Let) ∷ []
 spell_let false = []
@@ -66,7 +66,7 @@ abbrev pub spell_end : SetEnd → Plain
 spell_end end.First = mark (m.Reserved r.First)
 spell_end end.Last = mark (m.Reserved r.Last)
 
--- where a member is filed
+-- the place at which a member is filed
 abbrev pub spell_file_place : FilePlace → List Plain
 spell_file_place ByDiscipline = []
 spell_file_place (AtEnd b) = spell_end b ∷ []
@@ -142,7 +142,7 @@ greatest f (x ∷ xs) = max (f x) (greatest f xs)
 abbrev pub greatest_of : {A : Type 0} → (A → ℕ) → Several A → ℕ
 greatest_of f xs = max (f xs.first) (greatest f xs.others)
 
--- in what may be left out
+-- in an optional part
 abbrev pub if_there : {A : Type 0} → (A → ℕ) → Option A → ℕ
 if_there f None = 0
 if_there f (Some x) = f x
@@ -169,7 +169,7 @@ depth_making (Create c v) = depth_called v
 depth_making (CreateEvery c e) = depth_subscript e
 depth_making (Destroy c v) = depth_called v
 
--- where a member is filed
+-- the place at which a member is filed
 abbrev pub depth_file_place : FilePlace → ℕ
 depth_file_place ByDiscipline = 0
 depth_file_place (AtEnd b) = 0

@@ -1,4 +1,5 @@
--- The tree of a program's sections, its spelling, and what of it is open at once.
+-- The tree of a program's sections, its spelling, and the number of its parts that are open at
+-- once.
 use Rattle.std.specs.Prelude.{ℕ, suc, max, ◌+◌, Bool, true, false, List, [], ◌∷◌, ◌++◌, length}
 use Rattle.std.specs.Prelude.{Option, Some}
 use Rattle.std.specs.List.{flat_map}
@@ -15,12 +16,12 @@ use Rattle.ss_routines.specs.Loops.{depth_phrase, depth_compute, depth_question}
 
 -- a list of statements, as a body has it
 mutual
-  -- statements, one behind the other
+  -- statements, one after the other
   pub data Block : Type 0 where
     no_statements : Block
     statement : Statement → Block → Block
 
-  -- one that is no loop, or a FOR phrase and what stands behind it
+  -- one that is no loop, or a FOR phrase and the part after it
   pub data Statement : Type 0 where
     alone : One → Statement
     loop : Phrase → Controlled → Statement
@@ -35,9 +36,8 @@ mutual
     no_else : Otherwise
     else_with : Block → Otherwise
 
-  -- what stands behind a FOR phrase: a further phrase and what stands behind that; DO, statements and LOOP; one
-  -- statement;
-  -- FIND FIRST CASE; COMPUTE with its targets and its expression
+  -- the part after a FOR phrase: a further phrase and the part after that; DO, statements and LOOP;
+  -- one statement; FIND FIRST CASE; COMPUTE with its targets and its expression
   pub data Controlled : Type 0 where
     further : Phrase → Controlled → Controlled
     repeated : Block → Controlled
@@ -45,8 +45,8 @@ mutual
     find : Controlled
     compute : Several Computed → Expr → Controlled
 
--- MAIN; ROUTINE, its name, its parameters, and the names behind YIELDING or none; EVENT, its name, its parameters, and
--- whether SAVING EVENT NOTICES is written
+-- MAIN; ROUTINE, its name, its parameters, and the names after YIELDING or none; EVENT, its name,
+-- its parameters, and whether SAVING EVENT NOTICES is written
 pub data Head : Type 0 where
   MainHead : Head
   RoutineHead : Name → Listing Name → List Name → Head
@@ -91,7 +91,7 @@ abbrev mutual
   spell_otherwise no_else = []
   spell_otherwise (else_with b) = mark (m.Reserved r.Else) ∷ spell_block b
 
-  -- what a FOR phrase controls
+  -- the part that a FOR phrase controls
   pub spell_controlled : Controlled → List Plain
   spell_controlled (further f c) = spell_phrase f ++ spell_controlled c
   spell_controlled (repeated b) = mark (m.Reserved r.Do) ∷ (spell_block b ++ mark (m.Reserved r.Loop) ∷ [])
@@ -147,12 +147,12 @@ abbrev mutual
   depth_one (simple a) = depth_simple a
   depth_one (branch q b e) = max (depth_question q) (max (depth_block b) (depth_otherwise e))
 
-  -- behind ELSE
+  -- after ELSE
   pub depth_otherwise : Otherwise → ℕ
   depth_otherwise no_else = 0
   depth_otherwise (else_with b) = depth_block b
 
-  -- in what a FOR phrase controls
+  -- in the part that a FOR phrase controls
   pub depth_controlled : Controlled → ℕ
   depth_controlled (further f c) = max (depth_phrase f) (depth_controlled c)
   depth_controlled (repeated b) = depth_block b
@@ -193,12 +193,12 @@ abbrev mutual
   ifs_one (simple a) = 0
   ifs_one (branch q b e) = suc (max (ifs_block b) (ifs_otherwise e))
 
-  -- behind ELSE
+  -- after ELSE
   pub ifs_otherwise : Otherwise → ℕ
   ifs_otherwise no_else = 0
   ifs_otherwise (else_with b) = ifs_block b
 
-  -- in what a FOR phrase controls
+  -- in the part that a FOR phrase controls
   pub ifs_controlled : Controlled → ℕ
   ifs_controlled (further f c) = ifs_controlled c
   ifs_controlled (repeated b) = ifs_block b
@@ -229,12 +229,12 @@ abbrev mutual
   phrases_one (simple a) = 0
   phrases_one (branch q b e) = max (phrases_block b) (phrases_otherwise e)
 
-  -- behind ELSE
+  -- after ELSE
   pub phrases_otherwise : Otherwise → ℕ
   phrases_otherwise no_else = 0
   phrases_otherwise (else_with b) = phrases_block b
 
-  -- in what a FOR phrase controls
+  -- in the part that a FOR phrase controls
   pub phrases_controlled : Controlled → ℕ
   phrases_controlled (further f c) = suc (phrases_controlled c)
   phrases_controlled (repeated b) = phrases_block b

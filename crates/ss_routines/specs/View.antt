@@ -1,4 +1,4 @@
--- The pure data that expressions, conditions, statements, places and sections of the code stand for.
+-- The pure data for expressions, conditions, statements, places and sections of the code.
 use Rattle.std.specs.Prelude.{List, map}
 use Rattle.ss_words.specs.Lists.{Name, several_view}
 use Rattle.ss_words.specs.Reading.{option_view}
@@ -172,7 +172,7 @@ making_view (making.Create c v) = s.Create c (option_view reference_view v)
 making_view (making.CreateEvery c e) = s.CreateEvery c (option_view expr_view e)
 making_view (making.Destroy c v) = s.Destroy c (option_view reference_view v)
 
--- where a member is filed, of the code
+-- the place at which a member is filed, of the code
 abbrev pub file_place_view : CodeFilePlace → s.FilePlace
 file_place_view place.ByDiscipline = s.ByDiscipline
 file_place_view (place.AtEnd b) = s.AtEnd b
@@ -226,13 +226,13 @@ simple_view (simple.Exchange a) = s.Exchanges (exchange_view a)
 
 -- ---- places
 
--- where a walk begins, of the code
+-- the start of a walk, of the code
 abbrev pub walk_start_view : CodeWalkStart → l.WalkStart
 walk_start_view start.AtEnd = l.AtEnd
 walk_start_view (start.From e) = l.From (expr_view e)
 walk_start_view (start.After e) = l.After (expr_view e)
 
--- what a FOR phrase of the code goes through
+-- the range of a FOR phrase of the code
 abbrev pub range_view : CodeRange → l.Range
 range_view (range.Counting d n a b c) = l.Counting d n (expr_view a) (expr_view b) (option_view expr_view c)
 range_view (range.Each c v) = l.Each c (option_view (λ n. n) v)
@@ -250,7 +250,7 @@ phrase_view f = record { range = range_view f.range; qualifiers = map qualifier_
 abbrev pub computed_view : CodeComputed → l.Computed
 computed_view t = record { target = reference_view t.target; statistic = t.statistic }
 
--- what an IF of the code asks
+-- the question of an IF of the code
 abbrev pub question_view : CodeQuestion → l.Question
 question_view (question.Holds c) = l.Holds (condition_view c.value)
 question_view question.Found = l.Found

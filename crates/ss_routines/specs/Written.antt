@@ -43,7 +43,7 @@ module _ (lines : List ℕ) where
     flat_otherwise k no_else = []
     flat_otherwise k (else_with b) = spot k (Branches Else) ∷ flat_block (k + 1) b
 
-    -- the phrase that begins with word k, and what stands behind it from word j on
+    -- the phrase that begins with word k, and the part after it from word j on
     pub flat_loop : ℕ → Phrase → ℕ → Controlled → List Spot
     flat_loop k f j (further g c) = spot k (Loops (For f false)) ∷ flat_loop j g (j + length (spell_phrase g)) c
     flat_loop k f j (repeated b) =
@@ -71,7 +71,7 @@ module _ (lines : List ℕ) where
         places = flat_block j t.block ++ spot (j + length (spell_block t.block)) EndOfSection ∷ [];
       }
 
-  -- sections, one behind the other
+  -- sections, one after the other
   abbrev pub written_from : ℕ → Tree → List Section
   written_from k [] = []
   written_from k (t ∷ ts) = written_section k t ∷ written_from (k + length (spell_section t)) ts

@@ -43,7 +43,7 @@ pub fn limit_is_counted()
     ensures { LimitIsCounted }
 {}
 
-/// A word that is one too many by counting passes a limit, where no word before it does and programs
+/// A word that is one too many by counting passes a limit, if no word before it does and programs
 /// go on with it.
 pub fn count_passes_limit()
     ensures { CountPassesLimit }
@@ -54,12 +54,12 @@ pub fn else_is_of_the_inner_if()
     ensures { ElseIsOfTheInnerIf }
 {}
 
-/// `FOR EVERY T FOR EVERY S DO LOOP STOP`: one LOOP ends the chain, and STOP stands behind it.
+/// `FOR EVERY T FOR EVERY S DO LOOP STOP`: one LOOP ends the chain, and STOP is after it.
 pub fn loop_ends_the_chain()
     ensures { LoopEndsTheChain }
 {}
 
-/// `FOR EVERY T IF FOUND ALWAYS STOP`: the phrase controls the IF alone.
+/// `FOR EVERY T IF FOUND ALWAYS STOP`: the phrase controls only the IF.
 pub fn for_controls_one_statement()
     ensures { ForControlsOneStatement }
 {}
@@ -79,8 +79,8 @@ pub fn compute_is_two_places()
     ensures { ComputeIsTwoPlaces }
 {}
 
-/// How many phrases are open behind small texts: behind a chain of them, behind what it controls, in
-/// an IF and a loop that it controls, and behind 16 and 17.
+/// How many phrases are open after small texts: after a chain of them, after the part that it
+/// controls, in an IF and a loop that it controls, and after 16 and 17.
 pub fn open_phrases_are_told()
     ensures { OpenPhrasesAreTold }
 {}

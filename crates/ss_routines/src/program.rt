@@ -22,11 +22,11 @@ use ss_words::limits::{MOST_IFS, MOST_PARENTHESES, MOST_PHRASES, MOST_SECTIONS};
 use ss_words::{Cursor, PlainWord, Refusal, TextFault, TextRule, Words, plain_words};
 use std::alloc::Global;
 
-/// For so many words that are left, a section's list has room for one place from its start: it is
-/// then not moved as it grows, which would take its size once more.
+/// A section's list has room for one place per this number of words that are left, from its start.
+/// It is then not moved as it grows, which would take its size once more.
 const WORDS_OF_A_PLACE: usize = 5;
 
-/// The local DEFINEs and the places of a section, up to its END, behind its head:
+/// The local DEFINEs and the places of a section, up to its END, after its head:
 /// `{DEFINE names AS INTEGER VARIABLES} {statement} END`
 #[tactic(auto, unfolding(crate::proofs::Notings::at_lines))]
 fn body(
@@ -105,9 +105,9 @@ fn whole_text(cursor: &mut Cursor<'_>, text: &[PlainWord<'_>]) -> Result<Vec<Sec
     Ok(list)
 }
 
-/// What a text is refused with, by what stopped its reading at the word that the cursor has
-/// reached. A refusal of the text's end is told at the last word, and so is a limit that the last
-/// word passes, since no program ends with that word.
+/// The fault of a text, by the refusal of its reading at the word that the cursor has reached. A
+/// refusal of the text's end is reported at the last word. A limit that the last word passes is
+/// reported there too, since no program ends with that word.
 fn fault(refusal: Refusal, cursor: &Cursor<'_>, text: &[PlainWord<'_>]) -> TextFault
     requires { Fails refusal cursor.now
         (whole (places.limited_sections (word_lines text.now)) (plains_of text.now)) }
@@ -123,7 +123,7 @@ fn fault(refusal: Refusal, cursor: &Cursor<'_>, text: &[PlainWord<'_>]) -> TextF
     TextFault::Refused { rule, line }
 }
 
-/// The line of the last word; 0 where there is none.
+/// The line of the last word; 0 if there is none.
 fn last_line(text: &[PlainWord<'_>]) -> usize
     ensures { result ≡ line (word_lines text.now) (length text.now - 1) }
 {
@@ -146,17 +146,17 @@ fn read(alloc: Global, text: &[PlainWord<'_>]) -> Result<Sections, TextFault>
 }
 
 /// The sections of a program (docs/LANGUAGE.md, "Sections"), from its plain words: those that come
-/// from the words with number `from` and above, counted from 0. The words are left as they are.
-/// Where no plain word comes from word `from` or a later one, the answer is `Ok` without sections.
+/// from the words with number `from` and above, counted from 0. The words are left as they are. If
+/// no plain word comes from word `from` or a later one, the answer is `Ok` without sections.
 ///
 /// # Errors
 ///
-/// - P1 at the word with which no program goes on, P2 at the last word where the text ends and no
+/// - P1 at the word with which no program goes on, P2 at the last word if the text ends and no
 ///   program ends there, P3 at the word that passes a limit of [`ss_words::limits`]: on the
-///   parentheses, IFs and FOR phrases open at once, a section's parameters or the sections; where
+///   parentheses, IFs and FOR phrases open at once, a section's parameters or the sections. If
 ///   several of them hold, the earliest word counts, then the lowest number (docs/LANGUAGE.md,
 ///   "Refusals of the grammar").
-/// - `Memory` where memory was refused.
+/// - `Memory` if memory was refused.
 pub fn sections(alloc: Global, words: &Words, from: usize) -> Result<Sections, TextFault>
     // The words spell one program within the limits, and these are its sections.
     ensures sections { IfOk result

@@ -1,6 +1,6 @@
 //! The reader of sections, a file for each part of the grammar (docs/LANGUAGE.md, "Grammar").
 //!
-//! Where a reading is refused behind a part that was read, that part is let go by a call of `drop`
+//! If a reading is refused after a part that was read, that part is let go by a call of `drop`
 //! before the function ends: at a `?` the proof would go through the end of its whole tree again.
 pub mod assignment;
 pub mod block;

@@ -1,4 +1,4 @@
-//! Sections as trees: what the text says, with the names as they are written.
+//! Sections as trees: the contents of the text, with the names as they are written.
 pub mod condition;
 pub mod expr;
 pub mod place;

@@ -18,7 +18,7 @@ use Rattle.ss_debug.specs.View.{DebuggerView, debugger_state_of}
 use Rattle.ss_run.specs.Report.{IsRunEnd}
 use Rattle.ss_run.specs.Advance.{EndsBy, HasAdvanced}
 
--- no step leads to where it begins
+-- no step leads back to the position at which it begins
 pub none_advanced : (a : Moment) → position a ≤ LAST_POSITION → HasAdvanced Moved 0 a a
 none_advanced a h = record {
   input = refl;
@@ -38,7 +38,7 @@ reason_on : (s : Stepped) (n k : ℕ) (a b c : Moment) → HasAdvanced Moved n a
 reason_on Moved n k a b c p q = omega (arith, p.reason, q.reason)
 reason_on AtEnd n k a b c p q = rw p.input at q.reason
 
--- some steps behind others
+-- some steps after others
 pub advanced_on : (s : Stepped) (n k : ℕ) (a b c : Moment) → HasAdvanced Moved n a b → HasAdvanced s k b c →
     HasAdvanced s (n + k) a c
 advanced_on s n k a b c p q = record {
@@ -63,7 +63,7 @@ reason_same : (s : Stepped) (n : ℕ) (a b c : Moment) → position c ≡ positi
 reason_same Moved n a b c e r = e ∙ r
 reason_same AtEnd n a b c e r = rw e r
 
--- what is kept does not count
+-- the number of kept steps does not count
 pub advanced_same : (s : Stepped) (n : ℕ) (a b c : Moment) → c.input ≡ b.input → position c ≡ position b →
     HasAdvanced s n a b → HasAdvanced s n a c
 advanced_same s n a b c i e p = record {
@@ -123,7 +123,7 @@ further k a b c e p q =
     let on = advanced_on Moved (position b) k a b c p q in
     record { input = on.input; on = on.on; within = on.within; ready = on.ready; reason = omega (arith, e) }
 
--- a change of what is kept leaves that as it is
+-- a change of the kept steps leaves that as it is
 pub advanced_here : (a b c : Moment) → HasAdvanced Moved (position b) a b → c.input ≡ b.input →
     position c ≡ position b → HasAdvanced Moved (position c) a c
 advanced_here a b c p i e =
@@ -137,7 +137,7 @@ at_the_end k a b c e p q =
     let on = advanced_on AtEnd (position b) k a b c p q in
     record { within = on.within; ready = λ j g. on.ready j (omega (arith, e)) g; ended = on.reason }
 
--- what SHOW WHERE appends to nothing
+-- the text that SHOW WHERE appends to an empty one
 pub where_said : (h : DebuggerView) (text : List ℕ) →
     text ≡ [] ++ answer h.machine.input (debugger_state_of h) (Show Where) →
     text ≡ state_line h.machine.input (position h.machine)

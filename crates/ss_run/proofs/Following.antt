@@ -62,7 +62,7 @@ same_is (Length n) (Members y m) h = absurd (cc)
 same_is (Members x n) Nothing h = absurd (cc)
 same_is (Members x n) (Length m) h = absurd (cc)
 
--- ---- what is seen, as the layer below sees it
+-- ---- glances, as the layer below sees them
 
 abbrev length_in : Glance → ℕ
 length_in (Length n) = n
@@ -111,7 +111,7 @@ quiet_notices : (t : Input) (p : ℕ) (spot : Spot) → IsPlace t p spot → lea
     touched_at t Notices p ≡ touches.Nothing
 quiet_notices t p spot e q = ap (λ o. touched_by Notices o) e ∙ touches_nothing (touched_notices spot.place) q
 
--- the answer behind a quiet step is the same, if the same is seen
+-- the answer after a quiet step is the same, if the glance is the same
 answer_left : (t : Input) (x : Question) (p : ℕ) (spot : Spot) → IsPlace t p spot → is_quiet x spot.place ≡ true →
     glance_at t x (p + 1) ≡ glance_at t x p → answer_at t x (p + 1) ≡ answer_at t x p
 answer_left t (Shown shown.Report) p spot e q g =
@@ -130,7 +130,7 @@ answer_left t (Shown shown.Entry) p spot e q g = absurd (cc)
 answer_left t (Attribute class k name) p spot e q g = absurd (cc)
 answer_left t (Count name owner) p spot e q g = absurd (cc)
 
--- a question that is left as it is: what is kept of it, and that it did not change
+-- a question that is left as it is: its kept answer is the same, and it did not change
 left_kept : (t : Input) (x : Question) (p : ℕ) (spot : Spot) → IsPlace t p spot → is_quiet x spot.place ≡ true →
     is_same (glance_at t x p) (glance_at t x (p + 1)) ≡ true → answer_kept t x (p + 1) ≡ answer_kept t x p
 left_kept t x p spot e q h =
@@ -142,7 +142,7 @@ left_unchanged t x p spot e q h =
     ap (λ answer. not (bytes_eq (answer_at t x p) answer)) (answer_left t x p spot e q (sym (same_is _ _ h)))
     ∙ ap not (same_as_itself (answer_at t x p))
 
--- ---- a step that is not quiet, or behind which another thing is seen
+-- ---- a step that is not quiet, or after which the glance is another one
 
 other_report : (t : Input) (p q : ℕ) → (length (run t p).report == length (run t q).report) ≡ false →
     bytes_eq (report_text t p) (report_text t q) ≡ false
@@ -160,7 +160,7 @@ left_false : (b : Bool) → (b && true) ≡ false → b ≡ false
 left_false true e = absurd (cc)
 left_false false e = refl
 
--- the report changes where its length does
+-- the report changes if its length does
 report_changed : (t : Input) (x : Question) (p : ℕ) (place : Place) → is_report x ≡ true →
     (is_same (glance_at t x p) (glance_at t x (p + 1)) && is_quiet x place) ≡ false → changes_at t x p ≡ true
 report_changed t (Shown shown.Report) p place r h = ap not (other_report t p (p + 1) (left_false _ h))
@@ -175,7 +175,7 @@ report_changed t (Shown shown.Entry) p place r h = absurd (cc)
 report_changed t (Attribute class k name) p place r h = absurd (cc)
 report_changed t (Count name owner) p place r h = absurd (cc)
 
--- another question changes where the answer that is kept does
+-- another question changes if the answer that is kept does
 other_changed : (t : Input) (x : Question) (p : ℕ) → is_report x ≡ false →
     changes_at t x p ≡ not (bytes_eq (answer_kept t x p) (answer_kept t x (p + 1)))
 other_changed t x p r = rw r refl
@@ -199,7 +199,7 @@ set_value : (q : ProgramTable) (s : State) (x : Question) (owner : Option ℤ) (
 set_value q s x owner None answer = refl
 set_value q s x owner (Some n) answer = owned_value q s x n (owner_asked q s owner (set_of q n).owner) answer
 
--- the value by what is kept
+-- the value by the kept glance and answer
 value_is : (t : Input) (x : Question) (p : ℕ) → value_kept x (glance_at t x p) (answer_kept t x p) ≡ value_at t x p
 value_is t (Shown shown.Report) p = report_value_is t p
 value_is t (Shown (shown.Set name owner)) p =
@@ -215,9 +215,9 @@ value_is t (Shown shown.Entry) p = refl
 value_is t (Attribute class k name) p = refl
 value_is t (Count name owner) p = refl
 
--- ---- what is kept of it
+-- ---- the kept glance and answer
 
--- what is kept behind a step that leaves it as it is
+-- the kept glance and answer after a step that leaves the answer as it is
 pub quiet_kept : (t : Input) (x : Question) (p : ℕ) (here : Here) (spot : Spot) (f : Followed) (seen : Glance) →
     IsHere t p here → spot_at t.program here.section here.place ≡ Some spot → kept_in f ≡ kept_at t x p →
     seen ≡ glance_at t x (p + 1) → (is_same f.glance seen && is_quiet x spot.place) ≡ true →

@@ -10,7 +10,7 @@ use Rattle.ss_run.specs.Rows.{csv_row}
 use Rattle.ss_run.specs.Trace.{step_fields, change_row, step_rows, rows_before}
 use Rattle.ss_run.specs.Laws.{RowsAreTheHistory, oldest_first, rows_at}
 
--- the row of a step in the history, if it is there, stands behind the others
+-- the row of a step in the history, if it is there, is after the others
 one_step : (input : Input) (question : Question) (q : ℕ) (qs : List ℕ) (x : Bool) → changes_at input question q ≡ x →
     rows_at input question (oldest_first qs) ++ step_rows input (question ∷ []) q
     ≡ rows_at input question (oldest_first (before_others x q qs))

@@ -15,7 +15,7 @@ part_none x a = record { count = 0; within = omega arith; said = appends_none a 
 pub part_whole : (x : List ℕ) (a b : Option (List ℕ)) → Appends a b x → WritesPart x a b
 part_whole x a b h = record { count = length x; within = omega arith; said = rw (take-length x) h }
 
--- a part of what stands behind another text
+-- a part of a text after another text
 pub part_behind : (x y : List ℕ) (a b c : Option (List ℕ)) → Appends a b x → WritesPart y b c → WritesPart (x ++ y) a c
 part_behind x y a b c h p = record {
   count = length x + p.count;

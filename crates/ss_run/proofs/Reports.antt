@@ -18,7 +18,7 @@ use Rattle.ss_run.specs.WholeRun.{TellsEnd, TellsBeside, RunSays}
 use Rattle.ss_session.specs.Texts.{OutletState}
 use Rattle.ss_session.proofs.Pieces.{appends_none}
 
--- what a run that is made says
+-- the definitions of a run that is made
 unfoldable pub runs_made : ⊤
 unfolding MakesRun RunEnds
 runs_made = tt
@@ -41,7 +41,7 @@ refused_end (Faulted line) whole (load.Text rule number) model data_text asked o
 refused_end (Faulted line) whole (load.Check rule number) model data_text asked old e r o = absurd (rw e at r)
 refused_end (Faulted line) whole load.Memory model data_text asked old e r o = absurd r
 
--- what is said of a model that was not loaded
+-- the results for a model that was not loaded
 pub refused_says : (result : Result WholeRun RunCut) (fault : LoadFault) (model data_text : List ℕ) (asked : Asked)
     (old : OutletState) → IsRefusal result model fault → IsLoadFault fault model →
     RunSays result model data_text asked old old
@@ -62,7 +62,7 @@ made_end (Faulted line) whole program model data_text asked old new p o e s b r 
     ((program, o, r), (program, o, p, e, b))
 made_end (Refused line) whole program model data_text asked old new p o e s b r = absurd s
 
--- what is said of a run that was made
+-- the results for a run that was made
 pub run_says : (result : Result WholeRun RunCut) (program : ProgramTable) (model data_text : List ℕ) (asked : Asked)
     (old new : OutletState) → IsOutcome model (accepted program) →
     MakesRun result (input_with program data_text) asked old new → RunSays result model data_text asked old new

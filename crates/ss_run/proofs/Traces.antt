@@ -1,4 +1,4 @@
--- The rows of a trace, and what is written of them.
+-- The rows of a trace, and how they are written.
 use Rattle.std.proofs.Common.{◌≡◌, ℕ, ◌+◌, ◌<◌, inl, inr, true, List, [], ◌++◌, refl, sym, ap, ◌∙◌}
 use Rattle.std.specs.Prelude.{OnOk, IfErr}
 use Rattle.std.proofs.Common.{Result, Ok, Err, Bool, false, cond, nat_lt, arith, append-nil}
@@ -40,7 +40,7 @@ use Rattle.ss_run.proofs.Advances.{further, advanced_here}
 use Rattle.ss_run.proofs.Parts.{part_none, part_whole, part_behind}
 use Rattle.ss_run.proofs.Reports.{run_says, refused_says}
 
--- the row by what is known of a place
+-- the row by the values that are known of a place
 pub row_is : (t : Input) (q : ℕ) (here : Here) (x : Question) (value : List ℕ) → IsHere t q here →
     value ≡ value_at t x (q + 1) → row_of t.program here x value ≡ csv_row (step_fields t x q)
 row_is t q here x value h e = cc (h.position, h.clock, h.section, h.line, e)
@@ -56,7 +56,7 @@ pub row_of_other : (t : Input) (q : ℕ) (x : Question) → changes_at t x q ≡
 unfolding change_row
 row_of_other t q x e = ap (λ (v : Bool). cond v (csv_row (step_fields t x q)) []) e
 
--- some steps behind others
+-- some steps after others
 pub traced_on : (t : Input) (xs : List Question) (p q r : ℕ) (a b c : OutletState) → HasTraced t xs p q a b →
     HasTraced t xs q r b c → HasTraced t xs p r a c
 traced_on t xs p q r a b c h k = record {
@@ -95,7 +95,7 @@ ready_to false t p k e r h l = let same : k ≡ p = omega (arith, ltb-false _ _ 
 pub further_reached : (t : Input) (p : ℕ) → Reaches t p → is_ready_at t p ≡ true → p < LAST_POSITION → Reaches t (p + 1)
 further_reached t p r h l = record { within = omega (arith, l); ready = λ k g. ready_to _ t p k refl r h g }
 
--- a cut behind some steps
+-- a cut after some steps
 pub cut_on : (cut : RunCut) (t : Input) (xs : List Question) (p : ℕ) (a b c : OutletState) → Reaches t p →
     HasTraced t xs 0 p a b → CutsStep cut t xs p b c → CutsRows cut t xs a c
 cut_on Memory t xs p a b c r h k = (
@@ -168,7 +168,7 @@ pub tracing_stopped : (a b : Moment) (xs : List Question) (fs : List Followed) (
 tracing_stopped a b xs fs o n e h =
     cut_on Memory a.input xs (position b) o n n (reaches_here a b e h.advanced) h.traced (appends_none n.taken, refl)
 
--- the names of the columns, and the rows behind them
+-- the names of the columns, and the rows after them
 pub traced_whole : (t : Input) (xs : List Question) (p : ℕ) (a b c : OutletState) → IsRunEnd t p →
     Appends a.taken b.taken (csv_row column_names) → b.failures ≡ a.failures → HasTraced t xs 0 p b c →
     IsTraced t xs a c
@@ -196,14 +196,14 @@ head_in_part Write t xs a b h =
     ap (λ rows. csv_row column_names ++ rows) (rows_none t xs) ∙ append-nil _ in
     (0, start_reached t, rw whole h.0, h.1)
 
--- where the rows were written to the end, the trace is whole
+-- if the rows were written to the end, the trace is whole
 pub traced_if_ok : {A : Type 0} → (r : Result A RunCut) (t : Input) (xs : List Question) (p : ℕ) (a b c : OutletState) →
     Appends a.taken b.taken (csv_row column_names) → b.failures ≡ a.failures → OnOk r (IsRunEnd t p) →
     OnOk r (HasTraced t xs 0 p b c) → OnOk r (IsTraced t xs a c)
 traced_if_ok (Ok u) t xs p a b c h f e k = traced_whole t xs p a b c e h f k
 traced_if_ok (Err cut) t xs p a b c h f e k = tt
 
--- where they were cut, so is the trace
+-- if they were cut, so is the trace
 pub cut_if_err : {A : Type 0} → (r : Result A RunCut) (t : Input) (xs : List Question) (a b c : OutletState) →
     Appends a.taken b.taken (csv_row column_names) → b.failures ≡ a.failures →
     IfErr r (λ cut. CutsRows cut t xs b c) → IfErr r (λ cut. IsTracedInPart cut t xs a c)
@@ -225,7 +225,7 @@ ok_is_no_cut whole cut e = cc
 same_cut : (a b : RunCut) → let r : Result WholeRun RunCut = Err a in r ≡ Err b → a ≡ b
 same_cut a b e = cc
 
--- what is said of a run that was made and traced
+-- the results for a run that was made and traced
 pub trace_says : (result : Result WholeRun RunCut) (program : ProgramTable) (model data_text : List ℕ)
     (xs : List Question) (asked : Asked) (old new trace traced : OutletState) → IsOutcome model (accepted program) →
     MakesTrace result (input_with program data_text) xs asked old new trace traced →
@@ -263,7 +263,7 @@ no_trace whole (load.Check rule number) model data_text xs trace r =
     ends_refused whole.end whole model data_text _ number xs trace r
 no_trace whole load.Memory model data_text xs trace r = absurd r
 
--- what is said of a model that was not loaded
+-- the results for a model that was not loaded
 pub refused_trace_says : (result : Result WholeRun RunCut) (fault : LoadFault) (model data_text : List ℕ)
     (xs : List Question) (asked : Asked) (old trace : OutletState) → IsRefusal result model fault →
     IsLoadFault fault model → TraceSays result model data_text xs asked old old trace trace

@@ -1,4 +1,4 @@
--- A list whose items are turned one by one, and what is told of them.
+-- A list whose items are turned one by one, and the lists that a function makes of them.
 use Rattle.std.proofs.Common.{◌≡◌, ℕ, zero, suc, ◌+◌, ◌<◌, List, [], ◌∷◌, ◌++◌, length, map, take, drop, get_or}
 use Rattle.std.proofs.Common.{refl, sym, ap, ◌∙◌, arith, slice_set, add-one, append_assoc, append-nil}
 use Rattle.std.specs.List.{flat_map}
@@ -28,7 +28,7 @@ turned_at f g h (y ∷ ys) (w ∷ ws) (suc k) v x l e t m =
     let head : h w ≡ g y = cc in
     rw (head, turned_at f g h ys ws k v x (omega (arith, l)) e t (ap (λ zs. drop 1 zs) m)) refl
 
--- the list behind that
+-- the list after that
 pub turned : {X V W : Type 0} → (f g : X → W) (h : V → W) (xs : List X) (vs : List V) (k : ℕ) (v : V) (x : X) →
     k < length xs → x ≡ get_or xs k x → h v ≡ g x → map h vs ≡ map g (take k xs) ++ map f (drop k xs) →
     map h (slice_set vs k v) ≡ map g (take (k + 1) xs) ++ map f (drop (k + 1) xs)
@@ -42,7 +42,7 @@ told_at f (y ∷ ys) (suc k) x l e =
     ap (λ zs. f y ++ zs) (told_at f ys k x (omega (arith, l)) e)
     ∙ sym (append_assoc (f y) (flat_map f (take k ys)) (f x))
 
--- what is told of one more
+-- the list of one item more
 pub told_more : {X A : Type 0} → (f : X → List A) (xs : List X) (k : ℕ) (x : X) (first old new : List A) →
     k < length xs → x ≡ get_or xs k x → old ≡ first ++ flat_map f (take k xs) → new ≡ old ++ f x →
     new ≡ first ++ flat_map f (take (k + 1) xs)

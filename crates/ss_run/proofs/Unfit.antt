@@ -22,7 +22,7 @@ use Rattle.ss_run.proofs.Counts.{counted_more}
 
 -- ---- one byte more
 
--- 1 where a test holds, else 0
+-- 1 if a test holds, else 0
 abbrev one_if : Bool → ℕ
 one_if x = cond x 1 0
 
@@ -152,7 +152,7 @@ IsNoField (byte b ∷ ps) = Unit {0}
 IsNoField (line_end ∷ ps) = Unit {0}
 IsNoField [] = Unit {0}
 
--- no field stands directly behind another, none is empty, and no byte is an asterisk
+-- no field is directly after another, none is empty, and no byte is an asterisk
 abbrev AreApart : List Part → Type 0
 AreApart [] = Unit {0}
 AreApart (field n ∷ ps) = (1 ≤ n) × (IsNoField ps × AreApart ps)
@@ -192,7 +192,7 @@ picture_apart (l ∷ ls) =
     rw (append_assoc (line_parts l) (line_end ∷ []) (picture_parts ls))
     (apart_on (line_parts l) (line_end ∷ picture_parts ls) (line_apart l) (picture_apart ls) tt)
 
--- where parts begin with a field, the text before does not end with an asterisk
+-- if parts begin with a field, the text before does not end with an asterisk
 abbrev IsReady : List ℕ → List Part → Type 0
 IsReady text (field n ∷ ps) = starred text ≡ false
 IsReady text (byte b ∷ ps) = Unit {0}
@@ -241,7 +241,7 @@ lines_free : (report : List ℕ) → IsOfLines report → starred report ≡ fal
 lines_free report (inl e) = rw e refl
 lines_free report (inr e) = rw e.1 (ends_starred e.0 LINE_FEED)
 
--- what ends with the end of a line
+-- the text of parts that end with the end of a line
 parts_end : (ps : List Part) (vs : List ℤ) →
     (text : List ℕ) × (parts_text (ps ++ line_end ∷ []) vs ≡ text ++ LINE_FEED ∷ [])
 parts_end [] vs = ([], refl)

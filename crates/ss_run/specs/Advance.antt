@@ -24,12 +24,12 @@ use Rattle.ss_run.specs.Report.{IsRunEnd, SaysEnd, RunEnds}
 use Rattle.ss_run.specs.Results.{Asked}
 use Rattle.ss_run.specs.WholeRun.{TellsEnd}
 
--- where some steps lead that were to be made: all of them, or fewer where the run has ended
+-- the position after `steps` steps were to be made: all are made, or fewer if the run has ended
 abbrev pub EndsBy : Stepped → ℕ → Moment → Moment → Type 0
 EndsBy Moved steps old new = position new ≡ position old + steps
 EndsBy AtEnd steps old new = (is_ready_at old.input (position new) ≡ false) ⊎ (position new ≡ LAST_POSITION)
 
--- some steps are made, or fewer where the run has ended
+-- some steps are made, or fewer if the run has ended
 pub record HasAdvanced (stepped : Stepped) (steps : ℕ) (old new : Moment) : Type 0 where
   -- the run is the same one
   pub input : new.input ≡ old.input
@@ -39,17 +39,17 @@ pub record HasAdvanced (stepped : Stepped) (steps : ℕ) (old new : Moment) : Ty
   pub within : position new ≤ LAST_POSITION
   -- all states that it left were ready
   pub ready : (k : ℕ) → position old ≤ k → k < position new → is_ready_at old.input k ≡ true
-  -- why it stopped
+  -- the reason why it stopped
   pub reason : EndsBy stepped steps old new
 
--- a run is made, and its report written, or what cut it short
+-- a run is made, and its report written, or the run is cut short
 unfoldable pub MakesRun : Result WholeRun RunCut → Input → Asked → OutletState → OutletState → Type 0
 MakesRun (Ok whole) input asked old new =
     (p : ℕ) × IsRunEnd input p × SaysEnd input p whole.end × TellsEnd whole input asked p
     × Appends old.taken new.taken (run input p).report × (new.failures ≡ old.failures)
 MakesRun (Err cut) input asked old new = RunEnds (Err cut) input old new
 
--- what is said of a model whose text the rule with this code refuses
+-- the result for a model whose text the rule with this code refuses
 abbrev pub RefusesText : RunEnd → WholeRun → List ℕ → List ℕ → ℕ → Type 0
 RefusesText (Refused line) whole model code number =
     (line.items ≡ refusal_line code number) × IsSaid model whole.explanation.items × (whole.unfit ≡ 0)
@@ -57,7 +57,7 @@ RefusesText (Refused line) whole model code number =
 RefusesText Done whole model code number = ⊥
 RefusesText (Faulted line) whole model code number = ⊥
 
--- what is said of a model that the rule of the checker with this code refuses
+-- the result for a model that the rule of the checker with this code refuses
 abbrev pub RefusesBy : RunEnd → WholeRun → List ℕ → List ℕ → ℕ → Type 0
 RefusesBy (Refused line) whole model code number =
     (line.items ≡ refusal_line code number)
@@ -66,7 +66,7 @@ RefusesBy (Refused line) whole model code number =
 RefusesBy Done whole model code number = ⊥
 RefusesBy (Faulted line) whole model code number = ⊥
 
--- what is said of a model that was not loaded
+-- the result for a model that was not loaded
 abbrev pub IsRefusal : Result WholeRun RunCut → List ℕ → LoadFault → Type 0
 IsRefusal (Ok whole) model (load.Text rule number) = RefusesText whole.end whole model (text_rule_code rule) number
 IsRefusal (Ok whole) model (load.Check rule number) = RefusesBy whole.end whole model (check_rule_code rule) number

@@ -1,4 +1,4 @@
--- What is said behind the line of a fault, or of a refused model.
+-- The explanation after the line of a fault, or of a refused model.
 use Rattle.std.specs.Prelude.{ℕ, ◌-◌, List, ◌∷◌, [], ◌++◌, length, take, codes, decimal, nat_eq, get_or}
 use Rattle.std.specs.Prelude.{zero, suc, if◌then◌else◌}
 use Rattle.std.specs.List.{before_first, after_first}
@@ -9,15 +9,15 @@ use Rattle.ss_sentences.specs.Wording.{rule_sentence}
 use Rattle.ss_faults.specs.Sentence.{fault_text}
 use Rattle.ss_names.specs.Subjects.{breach_text}
 
--- what is said behind the line of the last state: where it is faulted, the fault's sentence and what it is about
+-- the text after the line of the last state: if it is faulted, the fault's sentence and its parts
 unfoldable pub end_explanation : ProgramTable → State → List ℕ
 end_explanation program state = fault_text program state state.status
 
--- the sentence of a rule behind its code, as a line
+-- the sentence of a rule after its code, as a line
 abbrev pub rule_line : List ℕ → List ℕ
 rule_line code = code ++ codes ": " ++ rule_sentence code ++ 10 ∷ []
 
--- a text behind so many line feeds
+-- a text after its first k line feeds
 abbrev pub behind_lines : ℕ → List ℕ → List ℕ
 behind_lines zero text = text
 behind_lines (suc k) text = after_first (separates line_separators) (behind_lines k text)
@@ -31,8 +31,9 @@ without_return line =
 abbrev pub line_of_text : List ℕ → ℕ → List ℕ
 line_of_text text l = without_return (before_first (separates line_separators) (behind_lines (l - 1) text))
 
--- what is said behind the line of a model that is refused by the rule of the checker with this code at line l: the
--- rule's sentence, the line of the model behind its number, and which name it is about
+-- the text after the line of a model that the rule of the checker with this code refuses at line l:
+-- the rule's sentence, the line of the model after its number, and the name that the breach is
+-- about
 unfoldable pub refusal_explanation : List ℕ → List ℕ → ℕ → List ℕ
 refusal_explanation model code l =
     rule_line code ++ decimal l ++ codes "> " ++ line_of_text model l ++ codes "\n" ++ breach_text model code l

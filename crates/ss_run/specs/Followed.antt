@@ -1,4 +1,4 @@
--- Private: what is kept of a question that is traced, from state to state.
+-- Private: the glance and the answer that are kept of a traced question, from state to state.
 use Rattle.std.specs.Prelude.{ℕ, Bool, true, false, List, [], ◌++◌, codes, decimal, if◌then◌else◌}
 use Rattle.ss_state.specs.Run.{Input}
 use Rattle.ss_debug.specs.declared.commands.Question.TheVariants as shown
@@ -16,19 +16,19 @@ abbrev pub is_report : Question → Bool
 is_report (Shown shown.Report) = true
 is_report question = false
 
--- the answer that is kept in state p: none of the report, of which its length is seen
+-- the answer that is kept in state p: none for the report, whose length is in the glance
 abbrev pub answer_kept : Input → Question → ℕ → List ℕ
 answer_kept input question p = if is_report question then [] else answer_at input question p
 
--- what is kept in state p: what is seen, and the answer
+-- the glance and the answer that are kept in state p
 abbrev pub kept_at : Input → Question → ℕ → Glance × List ℕ
 kept_at input question p = (glance_at input question p, answer_kept input question p)
 
--- what is kept there
+-- the glance and the answer in a value of the code
 abbrev pub kept_in : Followed → Glance × List ℕ
 kept_in followed = (followed.glance, followed.answer.items)
 
--- the value of a question by what is kept of it
+-- the value of a question by its kept glance and answer
 abbrev pub value_kept : Question → Glance → List ℕ → List ℕ
 value_kept question (Length n) answer = decimal n ++ codes " BYTES"
 value_kept question _ answer = value_in question answer

@@ -54,8 +54,8 @@ too_wide (line_end ∷ ps) vs = too_wide ps vs
 abbrev pub IsOfLines : List ℕ → Type 0
 IsOfLines report = (report ≡ []) ⊎ ((text : List ℕ) × (report ≡ text ++ LINE_FEED ∷ []))
 
--- what is counted on a report: on an empty one nothing, and behind whole lines of each picture the values that are too
--- wide for their fields, of line feeds none
+-- the values that are counted on a report: none on an empty one; after whole lines, a picture adds
+-- the values that are too wide for their fields, and line feeds add none
 pub record AreCounted : Type 0 where
   -- an empty report has none
   pub none : unfit_values [] ≡ 0
@@ -65,8 +65,8 @@ pub record AreCounted : Type 0 where
       unfit_values (report ++ picture_text lines values) ≡ unfit_values report + too_wide (picture_parts lines) values
   -- line feeds add none
   pub skip : (report : List ℕ) (n : ℕ) → unfit_values (report ++ replicate n LINE_FEED) ≡ unfit_values report
-  -- behind a picture, a report is again of whole lines
+  -- after a picture, a report is again of whole lines
   pub printed : (report : List ℕ) (lines : List (List ℕ)) (values : List ℤ) → IsOfLines report →
       IsOfLines (report ++ picture_text lines values)
-  -- and behind line feeds
+  -- and after line feeds
   pub skipped : (report : List ℕ) (n : ℕ) → IsOfLines report → IsOfLines (report ++ replicate n LINE_FEED)

@@ -1,3 +1,5 @@
+-- The definitions of a whole run: its report, results, explanations and warnings, its trace, its
+-- laws.
 pub mod Fields
 pub mod Explained
 pub mod Report

@@ -1,4 +1,4 @@
--- What a whole run writes: its report alone.
+-- The output of a whole run: only its report.
 use Rattle.std.specs.Prelude.{ℕ, ◌+◌, ◌<◌, ◌≤◌, ◌≡◌, ◌⊎◌, true, false, List, [], Result, Ok, Err}
 use Rattle.std.specs.Io.KnownBytes.{Appends}
 use Rattle.ss_words.specs.declared.fault.TextRule.{TextRule}
@@ -43,8 +43,8 @@ IsRefusalLine model line =
     ⊎ ((rule : CheckRule) × (number : ℕ) × IsOutcome model (refused_check rule number)
     × (line ≡ refusal_line (check_rule_code rule) number))
 
--- the run of a program is made, by how it ends: the whole report of its last state is written, nothing where memory is
--- refused, a prefix where a write fails
+-- the run of a program is made, by how it ends: the whole report of its last state is written,
+-- nothing if memory is refused, a prefix if a write fails
 unfoldable pub RunEnds : Result RunEnd RunCut → Input → OutletState → OutletState → Type 0
 RunEnds (Ok end) input old new =
     (p : ℕ) × IsRunEnd input p × SaysEnd input p end × Appends old.taken new.taken (run input p).report
@@ -59,7 +59,7 @@ IsRun result model data_text old new =
     (program : ProgramTable) × IsOutcome model (accepted program)
     × RunEnds result (input_with program data_text) old new
 
--- the same of a model that may be refused: then its line is told, and nothing is written
+-- the run of a model, or the line of a refused model: then nothing is written
 unfoldable pub ReportSays : Result RunEnd RunCut → List ℕ → List ℕ → OutletState → OutletState → Type 0
 ReportSays (Ok (Refused line)) model data_text old new =
     IsRefusalLine model line.items × Appends old.taken new.taken [] × (new.failures ≡ old.failures)
@@ -75,7 +75,7 @@ status_of_end Done = 0
 status_of_end (Faulted line) = 4
 status_of_end (Refused line) = 3
 
--- the same, 2 a failed write, 5 no memory
+-- those statuses, and 2 for a failed write, 5 for no memory
 abbrev pub status_of_run : Result RunEnd RunCut → ℕ
 status_of_run (Ok end) = status_of_end end
 status_of_run (Err Write) = 2

@@ -6,7 +6,7 @@ use Rattle.ss_trace.specs.Question.{question_text}
 use Rattle.ss_trace.specs.Value.{value_at}
 use Rattle.ss_run.specs.Rows.{csv_row}
 
--- what results are asked for
+-- the results that are asked for
 pub record Asked : Type 0 where
   -- the name of the run's data
   pub name : List ℕ
@@ -21,7 +21,7 @@ result_names ys = codes "data" ∷ codes "status" ∷ map question_text ys
 abbrev pub values_at : Input → List Question → ℕ → List (List ℕ)
 values_at input ys p = map (λ y. value_at input y p) ys
 
--- of a run that ended in state p with this status: the name of its data, the status, the value of each question
+-- for a run that ended in state p with this status: data name, status, the value of each question
 abbrev pub result_fields : Input → Asked → ℕ → ℕ → List (List ℕ)
 result_fields input asked status p = asked.name ∷ decimal status ∷ values_at input asked.questions p
 

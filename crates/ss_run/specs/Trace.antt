@@ -31,15 +31,15 @@ use Rattle.ss_run.specs.WholeRun.{RunSays}
 abbrev pub column_names : List (List ℕ)
 column_names = map (λ name. name.now) COLUMN_NAMES
 
--- the row of a question that changes at the step from state q: the state, its clock, section and line, the question as
--- it is asked, and its value behind the step
+-- the row of a question that changes at the step from state q: the state, its clock, section and
+-- line, the question as it is asked, and its value after the step
 abbrev pub step_fields : Input → Question → ℕ → List (List ℕ)
 step_fields input question q =
     decimal q ∷ signed_decimal (run input q).clock ∷ section_at input q ∷ decimal (line_at input q)
     ∷ question_text question
     ∷ value_at input question (q + 1) ∷ []
 
--- that row where the question changes, else nothing
+-- that row if the question changes, else nothing
 unfoldable pub change_row : Input → ℕ → Question → List ℕ
 change_row input q question = if changes_at input question q then csv_row (step_fields input question q) else []
 
@@ -67,7 +67,7 @@ pub record Reaches (input : Input) (p : ℕ) : Type 0 where
 abbrev pub WritesNothing : OutletState → OutletState → Type 0
 WritesNothing old new = Appends old.taken new.taken [] × (new.failures ≡ old.failures)
 
--- how many failures of the trace a cut counts
+-- the number of failures of the trace that a cut counts
 abbrev pub cut_failures : RunCut → ℕ
 cut_failures Memory = 0
 cut_failures Write = 1
@@ -78,7 +78,7 @@ IsTraced input xs trace traced =
     (p : ℕ) × IsRunEnd input p × Appends trace.taken traced.taken (trace_text input xs p)
     × (traced.failures ≡ trace.failures)
 
--- a part of the trace up to a state that the run reaches is written, where it was cut
+-- if the trace was cut, a part of it is written, up to a state that the run reaches
 abbrev pub IsTracedInPart : RunCut → Input → List Question → OutletState → OutletState → Type 0
 IsTracedInPart cut input xs trace traced =
     (p : ℕ) × Reaches input p × WritesPart (trace_text input xs p) trace.taken traced.taken
@@ -89,20 +89,20 @@ abbrev pub TracesModel : (Input → Type 0) → List ℕ → List ℕ → Type 0
 TracesModel Traced model data_text =
     (program : ProgramTable) × IsOutcome model (accepted program) × Traced (input_with program data_text)
 
--- what is written of the trace of a run that ends so: nothing of a refused model
+-- the trace that is written for a run that ends so: nothing for a refused model
 abbrev pub EndsTraced : RunEnd → List ℕ → List ℕ → List Question → OutletState → OutletState → Type 0
 EndsTraced (Refused line) model data_text xs trace traced = WritesNothing trace traced
 EndsTraced Done model data_text xs trace traced = TracesModel (λ t. IsTraced t xs trace traced) model data_text
 EndsTraced (Faulted line) model data_text xs trace traced =
     TracesModel (λ t. IsTraced t xs trace traced) model data_text
 
--- nothing of a trace where memory was refused before the run
+-- nothing of a trace is written if memory was refused before the run
 abbrev pub IsNotBegun : RunCut → OutletState → OutletState → Type 0
 IsNotBegun Memory trace traced = WritesNothing trace traced
 IsNotBegun Write trace traced = ⊥
 
--- a whole run and its trace: report and what is told as without a trace, and the whole trace; or where the trace was
--- cut, a part of it and nothing of the report
+-- a whole run and its trace: the report and the results as without a trace, and the whole trace;
+-- or, if the trace was cut, a part of it and nothing of the report
 unfoldable pub TraceSays : Result WholeRun RunCut → List ℕ → List ℕ → List Question → Asked → OutletState →
     OutletState → OutletState → OutletState → Type 0
 TraceSays (Ok whole) model data_text xs asked old new trace traced =

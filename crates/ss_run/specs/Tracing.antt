@@ -1,4 +1,4 @@
--- What the private functions of a traced run rest on. No public contract cites this module.
+-- The relations on which the private functions of a traced run rest; no public contract cites them.
 use Rattle.std.specs.Prelude.{ℕ, ◌+◌, ◌<◌, ◌≡◌, ◌⊎◌, true, Result, Err, List, [], ◌∷◌, ◌++◌, length, map, decimal}
 use Rattle.std.specs.Prelude.{slice_get}
 use Rattle.std.specs.Fmt.{signed_decimal}
@@ -26,7 +26,7 @@ use Rattle.ss_run.specs.Rows.{csv_row}
 use Rattle.ss_run.specs.Trace.{step_rows, rows_before, Reaches, cut_failures}
 use Rattle.ss_run.specs.Trace.{WritesNothing, IsTraced, IsTracedInPart}
 
--- it tells state q
+-- it describes state q
 pub record IsHere (input : Input) (q : ℕ) (here : Here) : Type 0 where
   -- its number
   pub position : here.position ≡ q
@@ -43,14 +43,14 @@ pub record IsHere (input : Input) (q : ℕ) (here : Here) : Type 0 where
   -- the line of its place
   pub line : here.line ≡ line_at input q
 
--- the row of a question that has this value behind a step from there
+-- the row of a question that has this value after a step from there
 abbrev pub row_of : ProgramTable → Here → Question → List ℕ → List ℕ
 row_of program here question value =
     csv_row (decimal here.position ∷ signed_decimal here.clock
     ∷ section_name (slice_get program.sections here.section) ∷ decimal here.line ∷ question_text question
     ∷ value ∷ [])
 
--- what is kept of some questions in state p
+-- the glances and answers of some questions are those of state p
 abbrev pub AreKept : Input → List Question → ℕ → List Followed → Type 0
 AreKept input xs p fs = map kept_in fs ≡ map (λ x. kept_at input x p) xs
 
@@ -60,33 +60,33 @@ pub record HasTraced (input : Input) (xs : List Question) (p q : ℕ) (old new :
   pub rows : List ℕ
   -- they are those
   pub follow : rows_before input xs q ≡ rows_before input xs p ++ rows
-  -- they are put behind what was written
+  -- they are put after the earlier text
   pub put : Appends old.taken new.taken rows
   -- nothing failed
   pub failures : new.failures ≡ old.failures
 
--- a run was traced from its start to where it stands now
+-- a run was traced from its start to its present position
 pub record TracesSoFar (a b : Moment) (xs : List Question) (fs : List Followed) (old new : OutletState) : Type 0 where
   -- it has made as many steps as its position says
   pub advanced : HasAdvanced Moved (position b) a b
-  -- what is kept of the questions is that of now
+  -- the kept glances and answers are those of now
   pub kept : AreKept a.input xs (position b) fs
   -- the rows are written
   pub traced : HasTraced a.input xs 0 (position b) old new
 
--- what is written of a text where it is cut: nothing where memory is refused, else a part, by a call that failed
+-- the part of a cut text that is written: none if memory is refused, else some, by a failed call
 abbrev pub CutsText : RunCut → List ℕ → OutletState → OutletState → Type 0
 CutsText Memory text old new = Appends old.taken new.taken [] × (new.failures ≡ old.failures)
 CutsText Write text old new = WritesPart text old.taken new.taken × (new.failures ≡ old.failures + 1)
 
--- what is written of the rows of the step from state p where the trace is cut: nothing where memory is refused, else a
--- part, by a call that failed; then the step was made
+-- the part of the rows of the step from state p that is written if the trace is cut: none if memory
+-- is refused, else some, by a call that failed; then the step was made
 abbrev pub CutsStep : RunCut → Input → List Question → ℕ → OutletState → OutletState → Type 0
 CutsStep Memory input xs p old new = Appends old.taken new.taken [] × (new.failures ≡ old.failures)
 CutsStep Write input xs p old new =
     (is_ready_at input p ≡ true) × (p < LAST_POSITION) × CutsText Write (step_rows input xs p) old new
 
--- what is written of the rows of a run where the trace is cut
+-- the part of the rows of a run that is written if the trace is cut
 abbrev pub CutsRows : RunCut → Input → List Question → OutletState → OutletState → Type 0
 CutsRows cut input xs old new =
     (p : ℕ) × Reaches input p × WritesPart (rows_before input xs p) old.taken new.taken

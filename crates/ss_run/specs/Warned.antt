@@ -1,10 +1,10 @@
--- What is said of what is suspicious in a model.
+-- The warnings of a model: the suspicious parts of its text and its program.
 use Rattle.std.specs.Prelude.{ℕ, ◌≡◌, List, ◌++◌}
 use Rattle.ss_session.specs.Model.{Outcome, refused_text, refused_check, accepted, IsOutcome}
 use Rattle.ss_names.specs.Unused.{program_warnings}
 use Rattle.ss_names.specs.Warnings.{warnings}
 
--- the warnings of a model's words, and behind them those of its program, where it is one
+-- the warnings of a model's words, and after them those of its program, if it is one
 abbrev pub warnings_of : List ℕ → Outcome → List ℕ
 warnings_of model (refused_text rule line) = warnings model
 warnings_of model (refused_check rule line) = warnings model

@@ -1,4 +1,4 @@
--- What is told of a whole run beside its report.
+-- The results of a whole run, in addition to its report.
 use Rattle.std.specs.Prelude.{ℕ, ◌≡◌, ◌⊎◌, List, [], Result, Ok, Err}
 use Rattle.ss_words.specs.declared.fault.TextRule.{TextRule}
 use Rattle.ss_check.specs.declared.fault.CheckRule.{CheckRule}
@@ -17,21 +17,21 @@ use Rattle.ss_run.specs.Fields.{unfit_values}
 use Rattle.ss_run.specs.Report.{IsRunEnd, ReportSays, status_of_end}
 use Rattle.ss_run.specs.Results.{Asked, results_row}
 
--- of a run that ended at position p: what explains that state, how many values of its report did not fit, and the row
--- of its results
+-- the results of a run that ended at position p: the explanation of that state, the number of
+-- values of its report that did not fit, and the row of its results
 abbrev pub TellsEnd : WholeRun → Input → Asked → ℕ → Type 0
 TellsEnd whole input asked p =
     (whole.explanation.items ≡ end_explanation input.program (run input p))
     × (whole.unfit ≡ unfit_values (run input p).report)
     × (whole.results.items ≡ results_row input asked (status_of_end whole.end) p)
 
--- of the run of a model that is a program, over the data
+-- those of the run over the data of a model that is a program
 abbrev pub TellsRun : WholeRun → List ℕ → List ℕ → Asked → Type 0
 TellsRun whole model data_text asked =
     (program : ProgramTable) × IsOutcome model (accepted program)
     × (p : ℕ) × IsRunEnd (input_with program data_text) p × TellsEnd whole (input_with program data_text) asked p
 
--- of a model that a rule refuses: what is said of its text, or the sentence of the checker's rule and the line
+-- those of a refused model: the explanation of its text, or the checker's sentence and the line
 abbrev pub TellsRefusal : WholeRun → List ℕ → Type 0
 TellsRefusal whole model =
     ((rule : TextRule) × (number : ℕ) × IsOutcome model (refused_text rule number)
@@ -46,13 +46,13 @@ TellsBeside (Faulted line) whole model data_text asked = TellsRun whole model da
 TellsBeside (Refused line) whole model data_text asked =
     TellsRefusal whole model × (whole.unfit ≡ 0) × (whole.results.items ≡ [])
 
--- what a whole run writes, and what is told of it
+-- the report that a whole run writes, and its results
 unfoldable pub RunSays : Result WholeRun RunCut → List ℕ → List ℕ → Asked → OutletState → OutletState → Type 0
 RunSays (Ok whole) model data_text asked old new =
     ReportSays (Ok whole.end) model data_text old new × TellsBeside whole.end whole model data_text asked
 RunSays (Err cut) model data_text asked old new = ReportSays (Err cut) model data_text old new
 
--- how a run ended, without what is told beside
+-- how a run ended, without the other results
 abbrev pub end_of_outcome : Result WholeRun RunCut → Result RunEnd RunCut
 end_of_outcome (Ok whole) = Ok whole.end
 end_of_outcome (Err cut) = Err cut

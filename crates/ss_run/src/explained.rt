@@ -1,4 +1,4 @@
-//! What is said behind the line of a fault, or of a refused model.
+//! The explanation after the line of a fault, or of a refused model.
 ghost use Rattle.std.specs.Prelude.{◌≡◌, ◌++◌, OnOk, IfOk};
 ghost use Rattle.ss_run.specs.Explained.{end_explanation, rule_line, without_return, line_of_text};
 ghost use Rattle.ss_run.specs.Explained.{refusal_explanation};
@@ -12,8 +12,8 @@ use ss_names::push_breach;
 use ss_sentences::rule_sentence;
 use std::alloc::{AllocError, Global};
 
-/// What is said behind the state line of the last state: where it is faulted, the fault's sentence
-/// and what it is about.
+/// The text after the state line of the last state: if that state is faulted, the fault's sentence
+/// and the parts that it is about.
 #[tactic(auto, unfolding(crate::specs::Explained::end_explanation))]
 pub fn end_explanation<S: SetBoard>(
     alloc: Global,
@@ -27,7 +27,7 @@ pub fn end_explanation<S: SetBoard>(
     Ok(text)
 }
 
-/// Appends the sentence of a rule behind its code.
+/// Appends the sentence of a rule after its code.
 fn push_rule_line(text: &mut Vec<u8>, code: &str) -> Result<(), AllocError>
     ensures { OnOk result (text.new.items ≡ text.old.items ++ rule_line code.now) }
 {
@@ -47,7 +47,7 @@ fn without_return(line: &[u8]) -> &[u8]
     line
 }
 
-/// Line `number` of a text, the first of which is line 1; nothing where there is none.
+/// Line `number` of a text, the first of which is line 1; nothing if there is none.
 fn line_of_text(text: &[u8], number: usize) -> &[u8]
     ensures { result.now ≡ line_of_text text.now number }
 {
@@ -61,9 +61,9 @@ fn line_of_text(text: &[u8], number: usize) -> &[u8]
     without_return(line)
 }
 
-/// What is said behind the line of a model that is refused by the rule of the checker with this code
-/// at this line: the rule's sentence, the line of the model behind its number, and which name it is
-/// about.
+/// The text after the line of a model that is refused by the rule of the checker with this code at
+/// this line: the rule's sentence, the line of the model after its number, and the name that the
+/// breach is about.
 #[tactic(auto, unfolding(crate::specs::Explained::refusal_explanation))]
 pub fn rule_explanation(
     alloc: Global,

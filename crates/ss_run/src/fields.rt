@@ -10,8 +10,8 @@ fn begins_run(text: &[u8], k: usize) -> bool
     text[k] == b'*' && !(0 < k && text[k - 1] == b'*')
 }
 
-/// How many values of a report did not fit their fields: the runs of asterisks in it, since a
-/// picture has no asterisk of its own (docs/LANGUAGE.md, "PRINT and SKIP").
+/// The number of values of a report that did not fit their fields: the number of runs of asterisks
+/// in it, since a picture has no asterisk of its own (docs/LANGUAGE.md, "PRINT and SKIP").
 #[tactic(auto, using(crate::proofs::Counts::counted_more), unfolding(crate::specs::Fields::unfit_values))]
 pub fn unfit_values(report: &[u8]) -> usize
     ensures { result ≡ unfit_values report.now }
@@ -25,7 +25,7 @@ pub fn unfit_values(report: &[u8]) -> usize
     count
 }
 
-/// What is said of so many values that did not fit their fields, behind their number.
+/// The words after the number of the values that did not fit their fields.
 pub fn unfit_words(unfit: usize) -> &'static str
     ensures { result.now ≡ unfit_words unfit }
 {

@@ -1,5 +1,5 @@
-//! What is kept of a question that is traced, from state to state. The type is told by definitions,
-//! for proofs alone.
+//! The glance and the answer that are kept of a traced question, from state to state. Definitions
+//! name the type only for proofs.
 ghost use Rattle.std.specs.Prelude.{◌≡◌, ◌++◌, ◌+◌, ◌&&◌, ◌||◌, IfOk, OnOk, not, bytes_eq};
 ghost use Rattle.std.specs.Prelude.{codes, decimal};
 ghost use Rattle.ss_machine.specs.Moment.{position};
@@ -17,12 +17,12 @@ use ss_trace::{Question, push_answer, push_value};
 use std::alloc::{AllocError, Global};
 use std::mem::replace;
 
-/// What is kept of a question.
+/// The glance and the answer that are kept of a question.
 #[derive(Drop)]
 pub struct Followed {
-    /// What is seen at a glance.
+    /// The glance at the state.
     pub glance: Glance,
-    /// The answer; nothing of the report, of which its length is seen.
+    /// The answer; empty for the report, whose length is in the glance.
     pub answer: Vec<u8>,
 }
 
@@ -33,7 +33,7 @@ fn is_report(question: &Question) -> bool
     matches!(question, Question::Shown(Shown::Report))
 }
 
-/// The answer that is kept, where the debugger stands.
+/// The answer that is kept at the debugger's position.
 fn answer_kept<S: SetBoard>(
     alloc: Global,
     debugger: &Debugger<S>,
@@ -50,22 +50,22 @@ fn answer_kept<S: SetBoard>(
     Ok(answer)
 }
 
-/// Whether the step of a place leaves the answer to a question as it is, by what was seen before it
-/// and is behind it.
+/// Whether the step of a place leaves the answer to a question as it is, by the glances before and
+/// after it.
 fn is_left(question: &Question, place: &Place, before: Glance, seen: Glance) -> bool
     ensures { result ≡ (is_same before seen && is_quiet question.now place.now) }
 {
     is_same(before, seen) && is_quiet(question, place)
 }
 
-/// Whether a question changed whose answer is not left as it is, by those that are kept.
+/// Whether a question whose answer is not left as it is changed, by the two answers that are kept.
 fn has_changed(question: &Question, before: &[u8], now: &[u8]) -> bool
     ensures { result ≡ (is_report question.now || not (bytes_eq before.now now.now)) }
 {
     is_report(question) || before != now
 }
 
-/// Appends how long the report is.
+/// Appends the length of the report.
 fn push_length(bytes: &mut Vec<u8>, length: usize) -> Result<(), AllocError>
     ensures { OnOk result (bytes.new.items ≡ bytes.old.items ++ decimal length ++ codes " BYTES") }
 {
@@ -74,7 +74,7 @@ fn push_length(bytes: &mut Vec<u8>, length: usize) -> Result<(), AllocError>
 }
 
 impl Followed {
-    /// What is kept where the debugger stands.
+    /// The glance and the answer at the debugger's position.
     pub fn new<S: SetBoard>(
         alloc: Global,
         debugger: &Debugger<S>,
@@ -90,8 +90,9 @@ impl Followed {
         })
     }
 
-    /// Keeps what is now where the debugger stands, behind a step from where this tells, and says
-    /// whether the question changed there. An answer is made only if the step may have changed it.
+    /// Keeps the glance and the answer at the debugger's position, after a step from `here`, and
+    /// returns whether the question changed there. An answer is made only if the step may have
+    /// changed it.
     pub fn follow<S: SetBoard>(
         &mut self,
         alloc: Global,

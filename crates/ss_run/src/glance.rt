@@ -1,5 +1,5 @@
-//! What is seen of a state at a glance, in place of the answer to a question. The type is told by
-//! definitions, for proofs alone.
+//! A glance at a state, in place of the answer to a question. Definitions name the type only for
+//! proofs.
 ghost use Rattle.std.specs.Prelude.{◌≡◌, ◌<◌, length, not};
 ghost use Rattle.ss_program.specs.Program.{set_of};
 ghost use Rattle.ss_trace.specs.Touches.{touched_lists, touched_notices};
@@ -13,14 +13,14 @@ use ss_machine::Machine;
 use ss_program::{Making, Owner, Place};
 use ss_trace::Question;
 
-/// What is seen of a state in place of the answer to a question.
+/// A glance at a state, in place of the answer to a question.
 #[derive(Clone, Copy)]
 pub enum Glance {
     /// Nothing.
     Nothing,
-    /// How many bytes the report has: no step changes those that it has.
+    /// The number of bytes of the report: no step changes those that it has.
     Length(usize),
-    /// The number of an owner, and how many members its list has, if it exists.
+    /// The number of an owner, and the number of members of its list, if it exists.
     Members(i64, Option<u32>),
 }
 
@@ -46,7 +46,8 @@ pub fn is_same(a: Glance, b: Glance) -> bool
     }
 }
 
-/// Whose list of a set is asked for: no one's where one of the system is asked for by a number.
+/// The owner whose list of a set is asked for; none if a set of the system is asked for by a
+/// number.
 fn owner_asked<S: SetBoard>(machine: &Machine<S>, set: usize, owner: Option<i64>) -> Option<i64>
     requires { set < length machine.now.input.program.sets }
     ensures { result ≡ owner_asked machine.now.input.program machine.now.state owner
@@ -61,7 +62,7 @@ fn owner_asked<S: SetBoard>(machine: &Machine<S>, set: usize, owner: Option<i64>
     }
 }
 
-/// How many members the list of a set has for this owner, if it exists.
+/// The number of members that the list of a set has for this owner, if it exists.
 #[tactic(auto, using(ss_debug::proofs::Tables::sets_kept))]
 fn members_seen<S: SetBoard>(machine: &Machine<S>, set: usize, owner: i64) -> Glance
     requires { set < length machine.now.input.program.sets }
@@ -73,7 +74,7 @@ fn members_seen<S: SetBoard>(machine: &Machine<S>, set: usize, owner: i64) -> Gl
     }
 }
 
-/// What is seen of the list of the set of this name that is asked for.
+/// The glance at the list of the set of this name that is asked for.
 fn list_seen<S: SetBoard>(machine: &Machine<S>, name: &[u8], owner: Option<i64>) -> Glance
     ensures { result ≡ list_seen machine.now.input.program machine.now.state name.now owner }
 {
@@ -86,7 +87,7 @@ fn list_seen<S: SetBoard>(machine: &Machine<S>, name: &[u8], owner: Option<i64>)
     }
 }
 
-/// What is seen where the debugger stands.
+/// The glance at the state at the debugger's position.
 pub fn glance_of<S: SetBoard>(debugger: &Debugger<S>, question: &Question) -> Glance
     ensures { result
         ≡ glance_at debugger.now.machine.input question.now (position debugger.now.machine) }
@@ -117,8 +118,8 @@ fn changes_notices(place: &Place) -> bool
     matches!(place, Place::Timing(_))
 }
 
-/// Whether the step of a place leaves the answer to a question as it is, if the same is seen behind
-/// it.
+/// Whether the step of a place leaves the answer to a question as it is, if the glance is the same
+/// after it.
 pub fn is_quiet(question: &Question, place: &Place) -> bool
     ensures { result ≡ is_quiet question.now place.now }
 {

@@ -1,4 +1,4 @@
-//! Where a machine stands, as the rows of a trace tell it.
+//! The position of a machine, as the rows of a trace show it.
 ghost use Rattle.std.specs.Prelude.{◌≡◌};
 ghost use Rattle.ss_machine.specs.Moment.{position};
 ghost use Rattle.ss_debug.specs.Move.{line_at};
@@ -8,7 +8,7 @@ use ss_debug::Debugger;
 use ss_links::SetBoard;
 use ss_machine::Machine;
 
-/// Where a machine stands.
+/// The position of a machine: state, clock, section, place and line.
 #[derive(Clone, Copy, Debug)]
 pub struct Here {
     /// The number of the state.
@@ -23,7 +23,7 @@ pub struct Here {
     pub line: usize,
 }
 
-/// The line of the place where the machine stands.
+/// The line of the machine's present place.
 fn present_line<S: SetBoard>(machine: &Machine<S>) -> usize
     ensures { result ≡ line_at machine.now.input (position machine.now) }
 {
@@ -32,7 +32,7 @@ fn present_line<S: SetBoard>(machine: &Machine<S>) -> usize
     machine.program().spot(section, place).line
 }
 
-/// Where a debugger stands.
+/// The position of a debugger's machine.
 pub fn read_here<S: SetBoard>(debugger: &Debugger<S>) -> Here
     ensures { IsHere debugger.now.machine.input (position debugger.now.machine) result }
 {

@@ -1,4 +1,4 @@
-//! A whole run: model and data in, the report out, and a trace of questions beside it.
+//! A whole run: model and data in, the report out, and a trace of questions in addition.
 #![tactic(auto)]
 
 mod explained;

@@ -14,7 +14,7 @@ use ss_links::SetBoard;
 use ss_trace::{Question, push_answer, push_asked, push_value};
 use std::alloc::{AllocError, Global};
 
-/// What is asked of a whole run beside its report.
+/// The questions to a whole run, in addition to its report.
 #[derive(Clone, Copy)]
 pub struct Asked<'a> {
     /// The questions that are traced, if there is a trace.

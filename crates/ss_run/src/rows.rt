@@ -47,7 +47,7 @@ pub fn head_row(alloc: Global) -> Result<Vec<u8>, AllocError>
     csv_row(alloc, &COLUMN_NAMES)
 }
 
-/// The row of a question that has this value behind a step from where this tells.
+/// The row of a question that has this value after a step from `here`.
 fn row_of(
     alloc: Global,
     program: &Program,
@@ -75,8 +75,8 @@ fn row_of(
     )
 }
 
-/// Follows a question over the step that led to where a debugger stands, and appends its row where
-/// it changed there.
+/// Follows a question over the step that led to a debugger's position, and appends its row if it
+/// changed there.
 fn push_change<S: SetBoard>(
     rows: &mut Vec<u8>,
     debugger: &Debugger<S>,
@@ -103,7 +103,7 @@ fn push_change<S: SetBoard>(
     rows.extend_from_slice(&row)
 }
 
-/// Follows some questions over the step that led to where a debugger stands, and appends the rows of
+/// Follows some questions over the step that led to a debugger's position, and appends the rows of
 /// that step.
 pub fn push_changes<S: SetBoard>(
     rows: &mut Vec<u8>,
@@ -126,7 +126,7 @@ pub fn push_changes<S: SetBoard>(
     Ok(())
 }
 
-/// What is kept of some questions where a debugger stands.
+/// The glances and answers of some questions at a debugger's position.
 pub fn follow_all<S: SetBoard>(
     alloc: Global,
     debugger: &Debugger<S>,

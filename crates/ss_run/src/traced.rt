@@ -25,7 +25,7 @@ use ss_state::Stepped;
 use ss_trace::Question;
 use std::alloc::{AllocError, Global};
 
-/// Lets go of the way back where it has become long.
+/// Forgets the steps back if they have become many.
 fn forget_many<S: SetBoard>(alloc: Global, debugger: &mut Debugger<S>) -> Result<(), AllocError>
     ensures input { debugger.new.machine.input ≡ debugger.old.machine.input }
     ensures position { position debugger.new.machine ≡ position debugger.old.machine }
@@ -53,7 +53,7 @@ fn put_text<T: Outlet>(trace: &mut T, text: &[u8]) -> Result<(), RunCut>
     }
 }
 
-/// Follows some questions over the step that led to where a debugger stands, and writes its rows.
+/// Follows some questions over the step that led to a debugger's position, and writes its rows.
 fn trace_change<S: SetBoard, T: Outlet>(
     alloc: Global,
     debugger: &Debugger<S>,
@@ -82,7 +82,7 @@ fn trace_change<S: SetBoard, T: Outlet>(
     put_text(trace, &rows)
 }
 
-/// One step and its rows, or none where the run has ended.
+/// One step and its rows, or none if the run has ended.
 fn trace_step<S: SetBoard, T: Outlet>(
     alloc: Global,
     debugger: &mut Debugger<S>,
@@ -116,7 +116,7 @@ fn trace_step<S: SetBoard, T: Outlet>(
     Ok(stepped)
 }
 
-/// Says each so many steps how far a run is.
+/// Reports after each `STEPS_BETWEEN` steps how far a run is.
 fn tell_progress<S: SetBoard, P: Progress>(debugger: &Debugger<S>, progress: &mut P) {
     let machine = debugger.machine();
     if machine.position() % STEPS_BETWEEN == 0 {
@@ -253,16 +253,18 @@ fn trace_program<P: Progress, T: Outlet, W: Outlet>(
     trace_run(alloc, machine, asked, progress, trace, out)
 }
 
-/// As `run_model`, and writes a trace of the watched questions as the run goes: comma-separated values, a
-/// row of the names of the columns, and then, for each step at which the answer to a question
-/// changes, the state before the step, its clock, section and line, the question and its value
-/// behind the step (docs/RUNS.md). Of each question the last answer is kept, and no more; of the
-/// report its length alone, so that a trace of it takes no longer than the run.
+/// As `run_model`, and writes a trace of the watched questions as the run goes.
 ///
-/// `Ok` where all of report and trace was written; of a refused model nothing is. `Write` where
-/// `out` counted a failure, and then the trace is whole, or where `trace` counted one: then a part of
-/// the trace is written, and nothing of the report. `Memory` where a growth was refused: nothing of
-/// the report is written, and of the trace a part.
+/// The trace has comma-separated values: a row of the names of the columns, and then a row for each
+/// step at which the answer to a question changes. That row has the state before the step, its
+/// clock, section and line, the question and its value after the step (docs/RUNS.md). Only the last
+/// answer to each question is kept. For the report only its length is kept, so that a trace of it
+/// takes no longer than the run.
+///
+/// `Ok` if all of report and trace was written; nothing is written for a refused model. `Write` if
+/// `out` counted a failure, and then the trace is whole; or if `trace` counted one, and then a part
+/// of the trace is written, and nothing of the report. `Memory` if a growth was refused: nothing of
+/// the report is written, and a part of the trace.
 pub fn trace_model<P: Progress, T: Outlet, W: Outlet>(
     alloc: Global,
     model: &[u8],

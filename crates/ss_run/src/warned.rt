@@ -1,4 +1,4 @@
-//! What is suspicious in a model.
+//! The suspicious parts of a model.
 ghost use Rattle.std.specs.Prelude.{◌≡◌, ◌++◌, IfOk};
 ghost use Rattle.ss_names.specs.Unused.{program_warnings};
 ghost use Rattle.ss_names.specs.Warnings.{warnings};
@@ -18,7 +18,7 @@ fn words_warnings(alloc: Global, model: &[u8]) -> Result<Vec<u8>, AllocError>
     Ok(text)
 }
 
-/// The warnings of a model's words, and behind them those of its program.
+/// The warnings of a model's words, and after them those of its program.
 fn program_told(alloc: Global, model: &[u8], program: &Program) -> Result<Vec<u8>, AllocError>
     ensures { IfOk result (λ text. text.items
         ≡ warnings model.now ++ program_warnings program.now model.now) }
@@ -28,8 +28,8 @@ fn program_told(alloc: Global, model: &[u8], program: &Program) -> Result<Vec<u8
     Ok(text)
 }
 
-/// The warnings of a model (docs/SENTENCES.md), each with its line: those of its words, and behind
-/// them those of its program, where it is one. The only error is that memory was refused.
+/// The warnings of a model (docs/SENTENCES.md), each with its line: those of its words, and after
+/// them those of its program, if it is one. The only error is that memory was refused.
 pub fn model_warnings(alloc: Global, model: &[u8]) -> Result<Vec<u8>, AllocError>
     ensures { IfOk result (λ text. IsWarned model.now text.items) }
 {

@@ -27,10 +27,10 @@ fn is_among(alloc: Global, questions: &[Question], text: &[u8]) -> Result<bool, 
     Ok(is_there)
 }
 
-/// Appends a question to those that are traced, if none of them is the same: one that is named twice
-/// is traced once.
+/// Appends a question to those that are traced, if none of them is the same: one that is named
+/// twice is traced once.
 ///
-/// `AllocError` where a growth was refused; then nothing is said of the questions.
+/// `AllocError` if a growth was refused; then the contract says nothing about `questions`.
 pub fn push_question(questions: &mut Vec<Question>, question: Question) -> Result<(), AllocError>
     ensures { OnOk result (questions.new.items ≡ with_question questions.old.items question) }
 {

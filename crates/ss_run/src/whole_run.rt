@@ -1,4 +1,4 @@
-//! A whole run without a debugger: to its end, and its report alone.
+//! A whole run without a debugger: to its end, and only its report.
 ghost use Rattle.std.specs.Prelude.{◌≡◌, ◌-◌, ◌^◌, ◌<◌, OnErr, OnOk, IfOk};
 ghost use Rattle.ss_links.specs.Board.{empty_board};
 ghost use Rattle.ss_machine.specs.Moment.{position};
@@ -20,10 +20,10 @@ use ss_state::{Status, Stepped};
 use std::alloc::{AllocError, Global};
 use thiserror::Error;
 
-/// How many steps the way back has at most while a run goes to its end; nobody goes it.
+/// The greatest number of steps back that are kept while a run goes to its end; nobody goes back.
 pub(crate) const MOST_KEPT: u64 = 4096;
 
-/// After how many steps a run says how far it is: ten million.
+/// The number of steps after which a run reports how far it is: ten million.
 pub(crate) const STEPS_BETWEEN: u64 = 10_000_000;
 
 /// Hears how far a run is.
@@ -39,27 +39,28 @@ pub enum RunEnd {
     Done,
     /// Its last state is faulted; this is its state line (docs/DEBUGGER.md, "Movements").
     Faulted(Vec<u8>),
-    /// The model is refused; this is the line that says by which rule, and where.
+    /// The model is refused; this is the line that says by which rule, and at which line.
     Refused(Vec<u8>),
 }
 
-/// What is known of a whole run behind its end.
+/// The results of a whole run, after its end.
 #[derive(Debug, Drop, PartialEq, Eq)]
 pub struct WholeRun {
     /// How it ended.
     pub end: RunEnd,
-    /// What explains a fault or a refusal, in whole lines (docs/SENTENCES.md): the sentence of the
-    /// fault and what it is about; what is said of a refused text, its place and what could stand
-    /// there; the sentence of the checker's rule and the refused line. Empty for another end.
+    /// The explanation of a fault or a refusal, in whole lines (docs/SENTENCES.md): the sentence of
+    /// the fault and the parts that it is about; the explanation of a refused text, its place and
+    /// the words that could be there; the sentence of the checker's rule and the refused line.
+    /// Empty for another end.
     pub explanation: Vec<u8>,
-    /// How many values of the report did not fit their fields.
+    /// The number of values of the report that did not fit their fields.
     pub unfit: usize,
     /// The row of its results (docs/RUNS.md): the name of the data, the exit status, and the values
     /// of the questions in its last state. Empty for a refused model.
     pub results: Vec<u8>,
 }
 
-/// What cut a whole run short.
+/// The reason why a whole run was cut short.
 #[derive(Clone, Copy, Debug, Drop, PartialEq, Eq, Error)]
 pub enum RunCut {
     /// The outlet failed.
@@ -92,8 +93,8 @@ fn end_status(end: &RunEnd) -> u8
     }
 }
 
-/// The exit status for how a whole run ended: 0 where it did not fault, 2 where the outlet failed,
-/// 3 for a refused model, 4 where the last state is faulted, 5 where memory was refused.
+/// The exit status for how a whole run ended: 0 if it did not fault, 2 if the outlet failed,
+/// 3 for a refused model, 4 if the last state is faulted, 5 if memory was refused.
 pub fn run_status(outcome: &Result<RunEnd, RunCut>) -> u8
     ensures { result ≡ status_of_run outcome.now }
 {
@@ -104,7 +105,7 @@ pub fn run_status(outcome: &Result<RunEnd, RunCut>) -> u8
     }
 }
 
-/// Lets go of the way back where it has become long.
+/// Forgets the steps back if they have become many.
 fn forget_many<S: SetBoard>(machine: &mut Machine<S>)
     ensures input { machine.new.input ≡ machine.old.input }
     ensures position { position machine.new ≡ position machine.old }
@@ -114,7 +115,7 @@ fn forget_many<S: SetBoard>(machine: &mut Machine<S>)
     }
 }
 
-/// One step, or none where the run has ended; few are kept.
+/// One step, or none if the run has ended; few are kept.
 #[tactic(auto, using(crate::proofs::Advances::one_step))]
 fn advance_once<S: SetBoard>(machine: &mut Machine<S>) -> Result<Stepped, AllocError>
     ensures ok { IfOk result (λ stepped. HasAdvanced stepped 1 machine.old machine.new) }
@@ -131,7 +132,7 @@ fn advance_once<S: SetBoard>(machine: &mut Machine<S>) -> Result<Stepped, AllocE
     }
 }
 
-/// Makes some steps, or fewer where the run ends.
+/// Makes some steps, or fewer if the run ends.
 fn advance<S: SetBoard>(machine: &mut Machine<S>, steps: u64) -> Result<Stepped, AllocError>
     ensures ok { IfOk result (λ stepped. HasAdvanced stepped steps machine.old machine.new) }
     ensures err { OnErr result (machine.new.input ≡ machine.old.input) }
@@ -185,7 +186,7 @@ fn end_of_run<S: SetBoard>(alloc: Global, debugger: &mut Debugger<S>) -> Result<
     }
 }
 
-/// What is told of the run whose last state a debugger holds.
+/// The results of the run whose last state a debugger holds.
 fn tell_end<S: SetBoard>(
     alloc: Global,
     debugger: &mut Debugger<S>,
@@ -266,7 +267,7 @@ fn write_run<S: SetBoard, P: Progress, W: Outlet>(
     written
 }
 
-/// What is said of a model whose text the rule with this code refuses at this line.
+/// The result for a model whose text the rule with this code refuses at this line.
 fn refused_text(
     alloc: Global,
     model: &[u8],
@@ -285,7 +286,7 @@ fn refused_text(
     })
 }
 
-/// What is said of a model that the checker's rule with this code refuses at this line.
+/// The result for a model that the checker's rule with this code refuses at this line.
 fn refused(alloc: Global, model: &[u8], code: &str, line: usize) -> Result<WholeRun, AllocError>
     ensures { IfOk result (λ whole. RefusesBy whole.end whole model.now code.now line) }
 {
@@ -299,7 +300,7 @@ fn refused(alloc: Global, model: &[u8], code: &str, line: usize) -> Result<Whole
     })
 }
 
-/// What is said of a model that is no program.
+/// The result for a model that is no program.
 pub(crate) fn refusal(alloc: Global, model: &[u8], fault: LoadFault) -> Result<WholeRun, RunCut>
     ensures { IsRefusal result model.now fault }
 {
@@ -331,15 +332,16 @@ fn run_program<P: Progress, W: Outlet>(
     write_run(alloc, machine, asked, progress, out)
 }
 
-/// Runs a model over its data to the end of the run, without a bound, and writes its report alone;
-/// few steps back are kept, so that the memory it takes does not grow with the steps. `progress`
-/// hears every ten million steps how far it is. Beside how the run ended it tells what explains a
-/// fault or a refusal, how many values did not fit their fields, and the row of the results that
-/// `asked` names (docs/RUNS.md).
+/// Runs a model over its data to the end of the run, without a bound, and writes only its report.
 ///
-/// `Ok` where all was written: its end is `Done`, or `Faulted` with the state line of the last
-/// state; or `Refused` with the line of a refused model, where nothing is written. `Write` where
-/// `out` counted a failure; what was written is a prefix of the report. `Memory` where a growth was
+/// Few steps back are kept, so that the memory that the run takes does not grow with the steps.
+/// `progress` hears every ten million steps how far the run is. Besides how the run ended, the
+/// result has the explanation of a fault or a refusal, the number of values that did not fit their
+/// fields, and the row of the results that `asked` names (docs/RUNS.md).
+///
+/// `Ok` if all was written: its end is `Done`, or `Faulted` with the state line of the last state;
+/// or `Refused` with the line of a refused model, for which nothing is written. `Write` if `out`
+/// counted a failure; the text that was written is a prefix of the report. `Memory` if a growth was
 /// refused, and nothing is written.
 pub fn run_model<P: Progress, W: Outlet>(
     alloc: Global,
@@ -361,12 +363,12 @@ pub fn run_model<P: Progress, W: Outlet>(
     }
 }
 
-/// As `run_model`, and tells how the run ended alone.
+/// As `run_model`, and returns only how the run ended.
 ///
-/// `Ok` where all was written: `Done`, or `Faulted` with the state line of the last state; `Refused`
-/// with the line of a refused model, where nothing is written. `Write` where `out` counted a
-/// failure; what was written is a prefix of the report. `Memory` where a growth was refused, and
-/// nothing is written.
+/// `Ok` if all was written: `Done`, or `Faulted` with the state line of the last state; `Refused`
+/// with the line of a refused model, for which nothing is written. `Write` if `out` counted a
+/// failure; the text that was written is a prefix of the report. `Memory` if a growth was refused,
+/// and nothing is written.
 #[tactic(auto, unfolding(crate::specs::WholeRun::RunSays))]
 pub fn report<P: Progress, W: Outlet>(
     alloc: Global,

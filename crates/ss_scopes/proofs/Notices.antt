@@ -19,7 +19,7 @@ item_more p es i j e text new all h n k l =
     rw (l, next)
     (append_assoc text _ _ ∙ ap (λ (l : List Pending). text ++ notice_items p l) (sym (dropped es i e h)) ∙ k)
 
--- all items, where the listing has ended
+-- all items, if the listing has ended
 pub all_items : (p : ProgramTable) (es : List Pending) (i : ℕ) (text all : List ℕ) →
     None ≡ option_map (λ (e : Pending). e.notice) (slice_get es i) →
     text ++ notice_items p (drop i es) ≡ all → text ≡ all

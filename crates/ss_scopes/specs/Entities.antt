@@ -34,7 +34,7 @@ living_page program store c start count =
     entity_items program c
     (take (page_size start count (length (living_numbers store c))) (drop start (living_numbers store c)))
 
--- the same, if there is such a class
+-- a page of the living entities of class c, if there is such a class
 abbrev pub class_page : ProgramTable → Store → ℕ → ℕ → ℕ → List ℕ
 class_page program store c start count =
     if nat_lt c (length program.classes) then living_page program store c start count else []
@@ -51,19 +51,19 @@ list_item program store name s k =
     paged_item name (decimal (length (members_of (shape_of program s) store k))) (set_reference s k)
     (length (members_of (shape_of program s) store k))
 
--- the list of set number s for entity number k of class c, and what is kept of it, if the class owns it
+-- the list of set number s for entity number k of class c, with its kept attributes, if c owns s
 abbrev pub owned_item : ProgramTable → Store → ℕ → ℕ → ℕ → List ℕ
 owned_item program store c k s =
     if is_same_owner (OwnedBy c) (set_of program s).owner
     then list_item program store (set_of program s).name s k
     ++ owner_items (set_of program s).name (shape_of program s) store k else []
 
--- what is kept of entity number k of class c in set number s, if it may be in it
+-- the kept attributes of entity number k of class c in set number s, if it may be in s
 abbrev pub joined_item : ProgramTable → Store → ℕ → ℕ → ℕ → List ℕ
 joined_item program store c k s =
     if (set_of program s).member == c then member_items (set_of program s).name (shape_of program s) store k else []
 
--- the attributes of an entity and the lists that it owns, each in order of declaration
+-- an entity's attributes, owned lists, and kept attributes, each in order of declaration
 abbrev pub entity_text : ProgramTable → Store → ℕ → ℕ → List ℕ
 entity_text program store c k =
     texts_below (attribute_item program store c k) (length (class_of program c).attributes)

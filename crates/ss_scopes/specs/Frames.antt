@@ -17,7 +17,7 @@ placed_frame program path counting depth None = []
 placed_frame program path counting depth (Some (section, place)) =
     frame_item (depth + 1) (section_of program section).name (spot_line (spot_at program section place)) path counting
 
--- the frame on which so many others stand
+-- the frame with `depth` frames above it
 abbrev pub frame_text : ProgramTable → State → List ℕ → Counting → ℕ → List ℕ
 frame_text program state path counting depth = placed_frame program path counting depth (frame_place state depth)
 
@@ -30,19 +30,19 @@ abbrev pub frames_page : ProgramTable → State → List ℕ → Counting → �
 frames_page program state path counting start count =
     page (frame_text program state path counting) start count (frame_count state)
 
--- a local of the frame on which so many others stand, which is of this section
+-- a local of the frame with `depth` frames above it; the frame is of this section
 abbrev pub local_item : ProgramTable → State → ℕ → ℕ → ℕ → List ℕ
 local_item program state depth section i =
     variable_item (name_at (locals_in program section) i)
     (signed_decimal (unwrap_or (frame_local state depth i) (pos 0))) 0
 
--- a page of the locals of a frame that stands at this place
+-- a page of the locals of a frame that is at this place
 abbrev pub placed_locals : ProgramTable → State → ℕ → ℕ → ℕ → Option (ℕ × ℕ) → List ℕ
 placed_locals program state depth start count None = []
 placed_locals program state depth start count (Some (section, place)) =
     page (local_item program state depth section) start count (length (locals_in program section))
 
--- a page of the locals of the frame on which so many others stand
+-- a page of the locals of the frame with `depth` frames above it
 abbrev pub locals_page : ProgramTable → State → ℕ → ℕ → ℕ → List ℕ
 locals_page program state depth start count = placed_locals program state depth start count (frame_place state depth)
 

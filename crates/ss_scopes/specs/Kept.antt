@@ -7,7 +7,7 @@ use Rattle.ss_store.specs.Filing.{walk_first, walk_last, count, predecessor, suc
 use Rattle.ss_debug.specs.Entities.{member_read}
 use Rattle.ss_messages.specs.Bodies.{variable_item}
 
--- a kept attribute: what stands before the set's name, that name, and its value
+-- a kept attribute: the letter and period before the set's name, that name, and its value
 abbrev pub kept_item : List ℕ → List ℕ → ℕ → List ℕ
 kept_item kept set value = variable_item (kept ++ set) (decimal value) 0
 

@@ -5,7 +5,7 @@ use Rattle.ss_scopes.specs.declared.group.TheConstants.{ROW, MOST_ROWS, FIRST_LO
 use Rattle.ss_scopes.specs.declared.scopes.TheConstants.{MOST_FRAMES}
 use Rattle.ss_scopes.specs.References.{class_reference, set_reference, group_of}
 
--- what the reference of each part refers to
+-- the reference of each part refers to that part
 pub record AreReadBack : Type 0 where
   -- that of a class
   pub class : (c : ℕ) → c < MOST_ROWS → group_of (class_reference c 0) ≡ Class c

@@ -1,3 +1,5 @@
+-- The definitions of the variables that an editor shows: references, pages, frames, scopes, and
+-- laws.
 pub mod References
 pub mod Pages
 pub mod Frames

@@ -1,7 +1,7 @@
 -- Pages of items.
 use Rattle.std.specs.Prelude.{ℕ, suc, zero, ◌+◌, ◌-◌, min, List, [], ◌++◌, nat_eq, if◌then◌else◌}
 
--- how many of n items are on a page that begins at start: all that follow, where its length is 0
+-- the number of items of n on a page that begins at start; a page of length 0 has all that follow
 abbrev pub page_size : ℕ → ℕ → ℕ → ℕ
 page_size start count n = if nat_eq count 0 then n - start else min count (n - start)
 

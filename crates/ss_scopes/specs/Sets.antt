@@ -30,7 +30,7 @@ set_item_by program store s (OwnedBy c) =
     paged_item (set_of program s).name (decimal (length (living_numbers store c))) (set_reference s 0)
     (length (living_numbers store c))
 
--- the same
+-- set number s, as an item: how many members its list has, or how many entities own one
 abbrev pub set_item : ProgramTable → Store → ℕ → List ℕ
 set_item program store s = set_item_by program store s (set_of program s).owner
 
@@ -62,7 +62,7 @@ abbrev pub set_part : ProgramTable → Store → ℕ → ℕ → ℕ → Owner �
 set_part program store s start count System = members_part program store s 0 start count
 set_part program store s start count (OwnedBy c) = lists_page program store s c start count
 
--- the same, if there is such a set
+-- a page of the members or lists of set number s, if there is such a set
 abbrev pub set_page : ProgramTable → Store → ℕ → ℕ → ℕ → List ℕ
 set_page program store s start count =
     if nat_lt s (length program.sets) then set_part program store s start count (set_of program s).owner else []

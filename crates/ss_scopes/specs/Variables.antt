@@ -24,7 +24,7 @@ use Rattle.ss_scopes.specs.Events.{event_items}
 
 -- ---- scopes
 
--- the locals of the frame on which so many others stand, if there is one
+-- the locals of the frame with `depth` frames above it, if there is one
 abbrev pub locals_scope : State → ℕ → List ℕ
 locals_scope state depth =
     if nat_lt depth MOST_FRAMES && nat_lt depth (frame_count state)
@@ -40,7 +40,7 @@ scopes_text input p frame = locals_scope (run input p) (frame - 1) ++ OTHER_SCOP
 abbrev pub question_item : List ℕ → Input → ℕ → Question → List ℕ
 question_item name input p question = variable_item name (value_at input (Shown question) p) 0
 
--- the clock, and where the run stands
+-- the clock, and the position of the run
 abbrev pub run_items : Input → ℕ → List ℕ
 run_items input p = question_item (codes "TIME.V") input p Clock ++ question_item (codes "STATE") input p Where
 
@@ -48,7 +48,7 @@ run_items input p = question_item (codes "TIME.V") input p Clock ++ question_ite
 abbrev pub data_items : Input → ℕ → List ℕ
 data_items input p = question_item (codes "TAKEN") input p Taken ++ question_item (codes "ENTRY") input p Entry
 
--- what a group holds in state p: a page, where it may be long
+-- the variables of a group in state p: a page, if there may be many
 abbrev pub group_text : Input → ℕ → ℕ → ℕ → Group → List ℕ
 group_text input p start count Nothing = []
 group_text input p start count Globals = globals_page input.program (run input p) start count
@@ -63,7 +63,7 @@ group_text input p start count (Entity c k) = entity_variables input.program (ru
 group_text input p start count (Set s) = set_page input.program (run input p).store s start count
 group_text input p start count (Members s j) = list_page input.program (run input p).store s j start count
 
--- whether what a group holds has numbers, not names
+-- whether the variables of a group have numbers, not names
 abbrev pub is_indexed : Group → Bool
 is_indexed (Class c) = true
 is_indexed (Set s) = true

@@ -150,7 +150,7 @@ fn push_attributes<S: SetBoard>(
     Ok(())
 }
 
-/// How many members the list of a set has, none where its owner does not exist.
+/// How many members the list of a set has; 0 if its owner does not exist.
 fn list_length<S: SetBoard>(store: &Store<S>, set: usize, owner: i64) -> u32
     requires { set < length store.now.tables.sets }
     ensures { result ≡ length (members_of (tables.set_of store.now.tables set) store.now.state
@@ -205,7 +205,7 @@ fn is_owned_by(owner: Owner, class: usize) -> bool
     }
 }
 
-/// Appends what is kept of the list of a set of the program for the owner with this number.
+/// Appends the kept attributes of the owner with this number, for a set of the program.
 #[tactic(auto, using(ss_debug::proofs::Tables::sets_kept))]
 fn push_owner_kept<S: SetBoard>(
     alloc: Global,
@@ -223,7 +223,7 @@ fn push_owner_kept<S: SetBoard>(
     push_owner_items(alloc, out, machine.store(), name, set, i64::from(owner))
 }
 
-/// Appends what is kept of an entity in a set of the program.
+/// Appends the kept attributes of an entity in a set of the program.
 #[tactic(auto, using(ss_debug::proofs::Tables::sets_kept))]
 fn push_member_kept<S: SetBoard>(
     alloc: Global,
@@ -241,7 +241,8 @@ fn push_member_kept<S: SetBoard>(
     push_member_items(alloc, out, machine.store(), name, set, i64::from(number))
 }
 
-/// Appends the list of a set for an entity, and what is kept of it, if its class owns it.
+/// Appends the list of a set for an entity, and the kept attributes of the list, if its class owns
+/// it.
 fn push_owned<S: SetBoard>(
     alloc: Global,
     out: &mut Vec<u8>,
@@ -262,7 +263,7 @@ fn push_owned<S: SetBoard>(
     push_owner_kept(alloc, out, machine, set, number)
 }
 
-/// Appends what is kept of an entity in a set, if it may be in it.
+/// Appends the kept attributes of an entity in a set, if it may be in it.
 fn push_joined<S: SetBoard>(
     alloc: Global,
     out: &mut Vec<u8>,
@@ -281,7 +282,7 @@ fn push_joined<S: SetBoard>(
     push_member_kept(alloc, out, machine, set, number)
 }
 
-/// Appends the lists that an entity owns, and what is kept of them.
+/// Appends the lists that an entity owns, and the kept attributes of each.
 fn push_owned_lists<S: SetBoard>(
     alloc: Global,
     out: &mut Vec<u8>,
@@ -299,7 +300,7 @@ fn push_owned_lists<S: SetBoard>(
     Ok(())
 }
 
-/// Appends what is kept of an entity in the sets in which it may be.
+/// Appends the kept attributes of an entity in the sets in which it may be.
 fn push_joined_sets<S: SetBoard>(
     alloc: Global,
     out: &mut Vec<u8>,
@@ -317,7 +318,7 @@ fn push_joined_sets<S: SetBoard>(
     Ok(())
 }
 
-/// Appends the attributes of an entity that lives, the lists that it owns, and what is kept of it.
+/// Appends the attributes of an entity that lives, the lists that it owns, and its kept attributes.
 pub fn push_entity_variables<S: SetBoard>(
     alloc: Global,
     out: &mut Vec<u8>,

@@ -16,7 +16,7 @@ use ss_messages::{Source, frame_item, variable_item};
 use ss_program::{Variable, name_at};
 use std::alloc::{AllocError, Global};
 
-/// Appends the frame on which so many others stand.
+/// Appends the frame with `depth` frames above it.
 fn push_frame<S: SetBoard>(
     alloc: Global,
     out: &mut Vec<u8>,
@@ -63,7 +63,7 @@ pub fn push_frames<S: SetBoard>(
     Ok(())
 }
 
-/// The value of a local of the frame on which so many others stand, 0 where there is none.
+/// The value of a local of the frame with `depth` frames above it; 0 if there is none.
 fn local_value<S: SetBoard>(machine: &Machine<S>, depth: usize, number: usize) -> i64
     ensures { result ≡ unwrap_or (frame_local machine.now.state depth number) (pos 0) }
 {
@@ -80,7 +80,7 @@ fn push_value(alloc: Global, out: &mut Vec<u8>, name: &[u8], value: i64) -> Resu
     out.extend_from_slice(&item)
 }
 
-/// Appends a local of the frame on which so many others stand, which is of this section.
+/// Appends a local of the frame with `depth` frames above it; the frame is of this section.
 fn push_local<S: SetBoard>(
     alloc: Global,
     out: &mut Vec<u8>,
@@ -116,7 +116,7 @@ fn push_section_locals<S: SetBoard>(
     Ok(())
 }
 
-/// Appends a page of the locals of the frame on which so many others stand.
+/// Appends a page of the locals of the frame with `depth` frames above it.
 pub fn push_locals<S: SetBoard>(
     alloc: Global,
     out: &mut Vec<u8>,

@@ -1,4 +1,4 @@
-//! What a reference of an editor refers to.
+//! The parts of a state to which the references of an editor refer.
 ghost use Rattle.std.specs.Prelude.{◌≡◌, ◌<◌};
 ghost use Rattle.ss_scopes.specs.References.{class_reference, set_reference, fixed_group, row_group, group_of};
 
@@ -11,7 +11,7 @@ pub const MOST_ROWS: usize = 1_000;
 /// The reference of the locals of the last frame.
 pub const FIRST_LOCALS: u32 = 7;
 
-/// What a reference refers to.
+/// The part of a state to which a reference refers.
 #[derive(Clone, Copy)]
 pub enum Group {
     Nothing,
@@ -23,17 +23,17 @@ pub enum Group {
     Sets,
     /// The pending notices.
     Events,
-    /// What is taken of the data.
+    /// The pieces of the data that are taken.
     Data,
-    /// The clock and where the run stands.
+    /// The clock and the position of the run.
     Run,
-    /// The locals of the frame on which so many others stand.
+    /// The locals of the frame with this number of frames above it.
     Locals(u32),
     /// The entities of the class with this number.
     Class(usize),
     /// An entity of the class with this number.
     Entity(usize, u32),
-    /// The lists of the set with this number, or its members, where the system owns it.
+    /// The lists of the set with this number, or its members, if the system owns it.
     Set(usize),
     /// The list of the set with this number for the owner with this number.
     Members(usize, u32),
@@ -59,7 +59,7 @@ pub fn set_reference(set: usize, owner: u32) -> u64
     0
 }
 
-/// What the references below `ROW` refer to.
+/// The part to which a reference below `ROW` refers.
 fn fixed_group(number: u32) -> Group
     ensures { result ≡ fixed_group number }
 {
@@ -75,7 +75,7 @@ fn fixed_group(number: u32) -> Group
     }
 }
 
-/// What those of a row refer to.
+/// The part to which a reference of a row refers.
 fn row_group(row: u32, number: u32) -> Group
     requires { 0 < row }
     ensures { result ≡ row_group row number }
@@ -93,7 +93,7 @@ fn row_group(row: u32, number: u32) -> Group
     Group::Members(half - 1, number)
 }
 
-/// What a reference refers to.
+/// The part to which a reference refers.
 pub fn group_of(reference: u64) -> Group
     ensures { result ≡ group_of reference }
 {

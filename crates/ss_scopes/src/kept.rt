@@ -12,7 +12,7 @@ use ss_store::Store;
 use ss_words::RunFault;
 use std::alloc::{AllocError, Global};
 
-/// Appends a kept attribute: what stands before the set's name, that name, and its value.
+/// Appends a kept attribute: the letter and period before the set's name, that name, and its value.
 fn push_kept(
     alloc: Global,
     out: &mut Vec<u8>,
@@ -30,7 +30,7 @@ fn push_kept(
     out.extend_from_slice(&item)
 }
 
-/// The number of a member, 0 standing for none.
+/// The number of a member; 0 means none.
 fn member_number(member: Result<Option<u32>, RunFault>) -> u32
     ensures { result ≡ member_read member }
 {

@@ -1,9 +1,9 @@
-//! What an editor shows of a state: frames, scopes, and the variables of each, a page at a time.
-//! All is read off the state of the run at the machine's position. A reference is a number that is
-//! the same for the same part of each state.
+//! The parts of a state that an editor shows: frames, scopes, and the variables of each, a page at
+//! a time. All is read off the state of the run at the machine's position. A reference is a number
+//! that is the same for the same part of each state.
 //!
-//! A call that appends wants memory for it. After `AllocError` a part may stand behind what `out`
-//! held, and counts for nothing.
+//! A call that appends needs memory for it. After `AllocError` a part may be left after the bytes
+//! that `out` held before. That part counts for nothing.
 #![tactic(auto)]
 
 mod entities;

@@ -2,7 +2,7 @@
 ghost use Rattle.std.specs.Prelude.{◌≡◌, ◌+◌, ◌≤◌, ◌⊎◌, length, take, drop};
 ghost use Rattle.ss_scopes.specs.Pages.{page_size};
 
-/// How many of so many items are on a page.
+/// How many of `items` items are on a page.
 pub fn page_size(start: usize, count: usize, items: usize) -> usize
     ensures size { result ≡ page_size start count items }
     ensures within { result + start ≤ items ⊎ (result ≡ 0) }
@@ -11,7 +11,7 @@ pub fn page_size(start: usize, count: usize, items: usize) -> usize
     if count == 0 { rest } else { count.min(rest) }
 }
 
-/// So many numbers behind so many others, where there are so many.
+/// The `count` numbers from `start` on; there are at least as many.
 fn numbers_behind(numbers: &[u32], start: usize, count: usize) -> &[u32]
     requires { count + start ≤ length numbers.now }
     ensures part { result.now ≡ take count (drop start numbers.now) }

@@ -9,10 +9,10 @@ use ss_machine::Machine;
 use ss_messages::scope_item;
 use std::alloc::{AllocError, Global};
 
-/// The locals of a frame on which as many or more others stand have no scope.
+/// The locals of a frame with this number of frames above it, or more, have no scope.
 pub const MOST_FRAMES: u64 = 1_000;
 
-/// The scopes that all frames have, each behind a comma.
+/// The scopes that all frames have, each after a comma.
 pub const OTHER_SCOPES: &[u8] =
     b",{\"name\":\"Globals\",\"variablesReference\":1,\"expensive\":false},\
     {\"name\":\"Classes\",\"variablesReference\":2,\"expensive\":false},\
@@ -21,7 +21,7 @@ pub const OTHER_SCOPES: &[u8] =
     {\"name\":\"Data\",\"variablesReference\":5,\"expensive\":false},\
     {\"name\":\"Run\",\"variablesReference\":6,\"expensive\":false}";
 
-/// Appends the locals of the frame on which so many others stand, if there is one.
+/// Appends the locals of the frame with `depth` frames above it, if there is one.
 fn push_locals_scope<S: SetBoard>(
     alloc: Global,
     out: &mut Vec<u8>,
@@ -38,7 +38,7 @@ fn push_locals_scope<S: SetBoard>(
     out.extend_from_slice(&item)
 }
 
-/// Appends the scopes of the frame with this number, each behind a comma.
+/// Appends the scopes of the frame with this number, each after a comma.
 pub fn push_scopes<S: SetBoard>(
     alloc: Global,
     out: &mut Vec<u8>,

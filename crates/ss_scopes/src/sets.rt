@@ -16,7 +16,7 @@ use ss_messages::paged_item;
 use ss_program::Owner;
 use std::alloc::{AllocError, Global};
 
-/// Appends what refers to so many entities, under a name.
+/// Appends a name with the reference of `count` entities.
 fn push_counted(
     alloc: Global,
     out: &mut Vec<u8>,

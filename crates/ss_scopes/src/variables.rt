@@ -16,7 +16,7 @@ use ss_messages::{Filter, Wanted, variable_item};
 use ss_trace::{Question, push_answer, push_value};
 use std::alloc::{AllocError, Global};
 
-/// The value of a question, as a row and a watch of it tell.
+/// The value of a question, as a row and a watch of it show it.
 pub fn question_value<S: SetBoard>(
     alloc: Global,
     debugger: &Debugger<S>,
@@ -49,7 +49,7 @@ fn push_question<S: SetBoard>(
     out.extend_from_slice(&item)
 }
 
-/// Appends the clock, and where the run stands.
+/// Appends the clock, and the position of the run.
 fn push_run<S: SetBoard>(
     alloc: Global,
     out: &mut Vec<u8>,
@@ -75,7 +75,7 @@ fn push_data<S: SetBoard>(
     push_question(alloc, out, debugger, b"ENTRY", Shown::Entry)
 }
 
-/// Appends what a group holds: a page, where it may be long.
+/// Appends the variables of a group: a page, if there may be many.
 fn push_group<S: SetBoard>(
     alloc: Global,
     out: &mut Vec<u8>,
@@ -108,7 +108,7 @@ fn push_group<S: SetBoard>(
     }
 }
 
-/// Whether what a group holds has numbers, not names.
+/// Whether the variables of a group have numbers, not names.
 fn is_indexed(group: Group) -> bool
     ensures { result ≡ is_indexed group }
 {
@@ -129,8 +129,9 @@ fn passes(filter: Filter, indexed: bool) -> bool
     }
 }
 
-/// Appends the variables that are wanted where the debugger stands, each behind a comma: none where
-/// the reference refers to nothing, or the filter is one for others.
+/// Appends the variables that are wanted at the debugger's position, each after a comma.
+///
+/// There are none if the reference refers to nothing, or the filter is one for others.
 #[tactic(auto, unfolding(crate::specs::Variables::variables_text))]
 pub fn push_variables<S: SetBoard>(
     alloc: Global,

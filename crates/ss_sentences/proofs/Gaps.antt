@@ -4,7 +4,7 @@ use Rattle.std.proofs.Common.{append_assoc, append-nil}
 use Rattle.std.specs.Prelude.{slice_index}
 use Rattle.ss_sentences.specs.Pieces.{begins_gap, gaps_filled}
 
--- where a gap begins
+-- if a gap begins at the front
 pub at_gap : (rest done word others : List ℕ) → begins_gap rest ≡ true
     → done ++ gaps_filled rest word others ≡ (done ++ word) ++ gaps_filled (drop 2 rest) others others
 unfolding begins_gap gaps_filled
@@ -30,7 +30,7 @@ at_letter (b ∷ c ∷ bs) done word others e n =
       | false ↦ b ∷ behind
     ]) ≡ (done ++ b ∷ []) ++ behind) (sym e) (sym (append_assoc done (b ∷ []) behind))
 
--- a step of a loop where a gap begins
+-- a step of a loop if a gap begins at the front
 pub gap_step : (rest done word others new all more : List ℕ) → begins_gap rest ≡ true
     → done ++ gaps_filled rest word others ≡ all → new ≡ done ++ word → more ≡ drop 2 rest
     → new ++ gaps_filled more others others ≡ all

@@ -1,4 +1,4 @@
--- Of each text one thing is said.
+-- Each text has one explanation.
 use Rattle.std.proofs.Common.{◌≡◌, ◌⊎◌, inl, inr, ℕ, zero, suc, ◌+◌, ◌-◌, nat_lt, Bool, true, false, ◌&&◌, not, List}
 use Rattle.std.proofs.Common.{[], ◌∷◌, ◌++◌, length, map, take, Option, Some, None, Result, Ok, Err, refl, sym, ap, ◌∙◌}
 use Rattle.std.proofs.Common.{subst, arith, ltb-true, ltb-false}
@@ -156,7 +156,7 @@ some_fitting : (front : List WordAt) (told : List ℕ) (tried : Tried) → (b : 
 some_fitting front told tried =
     some_by (is_dropped front tried) (plain_words_of (with_candidate front told tried))
 
--- ---- judgements, as they are told
+-- ---- judgements, as they are shown
 
 abbrev shown : Judgement → List ℕ × Bool
 shown j = (j.told.now, j.fits)
@@ -169,7 +169,7 @@ abbrev tail_of : List (List ℕ × Tried) → List (List ℕ × Tried)
 tail_of [] = []
 tail_of (x ∷ xs) = xs
 
--- what holds of each element, of the first and of the others
+-- a property of each element holds of the first and of the others
 all_first : {X : Type 0} (P : X → Type 0) (x : X) (xs : List X) → All P (x ∷ xs) → P x
 all_first P x xs h = h zero x (omega arith)
 
@@ -183,7 +183,7 @@ all_with : {X : Type 0} (P : X → Type 0) (x : X) (xs : List X) → P x → All
 all_with P x xs p h zero d lt = p
 all_with P x xs p h (suc k) d lt = h k d (omega (arith, lt))
 
--- a judgement is right behind these words
+-- a judgement is right after these words
 abbrev IsJudged : List WordAt → Judgement → Type 0
 IsJudged front j = IsFitting front j.told.now j.tried j.fits
 
@@ -219,7 +219,7 @@ same_of_two model front js ks (inl h) (inr k) = absurd (omega (arith, h.0, k.0))
 same_of_two model front js ks (inr h) (inl k) = absurd (omega (arith, h.0, k.0))
 same_of_two model front js ks (inr h) (inr k) = same_judged front js ks h.1 k.1 (h.2 ∙ sym k.2)
 
--- ---- what is told of judgements
+-- ---- the texts about judgements
 
 abbrev fits_in : List (List ℕ × Bool) → List ℕ → Bool
 fits_in [] told = false
@@ -355,7 +355,7 @@ same_behind ws r.UnexpectedWord i js ks e = same_unexpected ws i js ks e
 same_behind ws r.UnexpectedEnd i js ks e = same_ended ws js ks e
 same_behind ws rule i js ks e = refl
 
--- ---- nothing else is said
+-- ---- there is no other explanation
 
 one_of_rule : (model : List ℕ) (ws : List WordAt) (rule : TextRule) (i : ℕ) (a b : List ℕ) →
     IsSaidOf model ws rule i a → IsSaidOf model ws rule i b → a ≡ b
@@ -366,7 +366,7 @@ one_of_rule model ws rule i a b h k =
     (same_behind ws rule i h.0 k.0 (same_of_two model (front_of ws rule i) h.0 k.0 h.1 k.1))
     ∙ sym k.2
 
--- what is said of words that are refused so
+-- a text explains words that are refused so
 abbrev IsSaidBy : List ℕ → List WordAt → TextFault → List ℕ → Type 0
 IsSaidBy model ws (Refused rule i) said = IsSaidOf model ws rule i said
 IsSaidBy model ws Memory said = ⊥
@@ -401,7 +401,7 @@ nothing_else model a b (inr h) (inr k) =
     one_of_words model h.0 a b h.2
     (subst (λ (ws : List WordAt). AreSaid model ws b) (ap words_or_none (sym k.1 ∙ h.1)) k.2)
 
--- ---- something is said
+-- ---- there is an explanation
 
 -- each candidate of a table is judged
 judged_rows : {R : Type 0} (front : List WordAt) (rows : List (R × Tried)) (told : R → List ℕ) →

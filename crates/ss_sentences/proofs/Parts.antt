@@ -16,13 +16,13 @@ pub in_preamble : (ws : List PlainAt) (f : TextFault) → preamble.IsFault f ws 
 in_preamble ws (Refused r l) h = inl h
 in_preamble ws Memory h = tt
 
--- one in the sections behind it
+-- one in the sections after it
 pub in_sections : (ws : List PlainAt) (d : Decls) (from : ℕ) (f : TextFault) → AreDecls d from ws
     → sections.IsFault f (words_from from ws) → IsFault f ws
 in_sections ws d from (Refused r l) a h = inr (d, from, a, h)
 in_sections ws d from Memory a h = tt
 
--- where a program goes on
+-- the rule of a refusal says whether a program goes on
 pub going : (b : Bool) (ws : List PlainAt) (r : TextRule) (l : ℕ) → b ≡ is_end r → IsRefused r l ws → IsGoing b ws
 going true ws r l e h = inr (r, l, h, sym e)
 going false ws r l e h = (r, l, h, sym e)
@@ -30,7 +30,7 @@ going false ws r l e h = (r, l, h, sym e)
 -- of parts
 pub ruleset parts = (in_preamble, in_sections)
 
--- where words are a program
+-- a program goes on if the words are one
 pub going_on : (ws : List PlainAt) → IsSpelled ws → IsGoing true ws
 going_on ws h = inl h
 

@@ -1,4 +1,4 @@
--- What is said of a model, from its parts.
+-- The explanation of a model, from its parts.
 use Rattle.std.proofs.Common.{◌≡◌, ◌++◌, inl, inr, ℕ, ◌<◌, ◌≤◌, List, [], length, map, Ok, Err}
 use Rattle.std.specs.Prelude.{All}
 use Rattle.ss_words.specs.declared.fault.TextRule.{TextRule}
@@ -14,27 +14,27 @@ use Rattle.ss_sentences.specs.Grammar.{IsRefused, IsSpelled}
 use Rattle.ss_sentences.specs.Refusals.{AreJudged, AreSaid, IsSaid, IsSaidOf, behind_text, front_of, sentence_text}
 use Rattle.ss_sentences.specs.Unread.{unread_text}
 
--- of words that are refused by a rule
+-- that of words that are refused by a rule
 pub said_by_rule : (model : List ℕ) (ws : List WordAt) (rule : TextRule) (i : ℕ) (js : List Judgement) (said : List ℕ)
     → AreJudged model (front_of ws rule i) js → said ≡ sentence_text model ws rule i ++ behind_text ws rule i js
     → IsSaidOf model ws rule i said
 unfolding IsSaidOf
 said_by_rule model ws rule i js said j e = (js, j, e)
 
--- of a long text nothing is judged
+-- no candidate is judged for a long text
 pub judged_none : (model : List ℕ) (front : List WordAt) (js : List Judgement) → LONGEST_TEXT_JUDGED < length model
     → js ≡ [] → AreJudged model front js
 unfolding AreJudged
 judged_none model front js long e = inl (long, e)
 
--- of another each candidate
+-- each candidate is judged for another text
 pub judged_all : (model : List ℕ) (front : List WordAt) (js : List Judgement) → length model ≤ LONGEST_TEXT_JUDGED
     → All (λ j. IsFitting front j.told.now j.tried j.fits) js → map candidate_of js ≡ candidates
     → AreJudged model front js
 unfolding AreJudged
 judged_all model front js short all complete = inr (short, all, complete)
 
--- of a program nothing
+-- a program has the empty explanation
 pub said_of_none : (model : List ℕ) (ws : List WordAt) (said : List ℕ) → IsSpelled (plain_words_of (words_by_number ws))
     → said ≡ [] → AreSaid model ws said
 unfolding AreSaid

@@ -15,7 +15,7 @@ pub ruleset whole = (all_views)
 -- the first ones
 pub ruleset firsts = (first_views)
 
--- no word stands behind the last
+-- there is no word after the last
 pub past_views : {X Y : Type 0} (f : X → Y) (n : ℕ) (xs : List X) → length xs ≤ n
     → take n (map f xs) ≡ take (n + 1) (map f xs)
 past_views f n xs h =
@@ -29,7 +29,7 @@ pub ruleset nexts = (past_views)
 pub front_views : {X Y : Type 0} (f : X → Y) (xs : List X) (x : X) → map f (take (length xs) (xs ++ x ∷ [])) ≡ map f xs
 front_views f xs x = ap (map f) (take-append_seam xs (x ∷ []))
 
--- a word behind others
+-- a word after others
 pub pushed_views : {X Y : Type 0} (f : X → Y) (xs : List X) (x : X) → map f (xs ++ x ∷ []) ≡ map f xs ++ f x ∷ []
 pushed_views f xs x = map_push f xs x
 
@@ -44,5 +44,5 @@ pub fronts : {X Y : Type 0} (f : X → Y) (xs : List X)
     → map f (take (length xs - 1) xs) ≡ take (length (map f xs) - 1) (map f xs)
 fronts f xs = rw (length-map xs f, take-map f (length xs - 1) xs)
 
--- what they are
+-- all words but the last, as the definitions read them
 pub ruleset but_last = (fronts)

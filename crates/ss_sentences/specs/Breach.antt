@@ -1,4 +1,4 @@
--- Where a text breaks a rule L.
+-- The line and column at which a text breaks a rule L.
 use Rattle.std.specs.Prelude.{ℕ, ◌+◌, ◌&&◌, ◌||◌, ◌==◌, Bool, true, false, not, List, [], ◌∷◌, ◌++◌, length, take}
 use Rattle.std.specs.Prelude.{take_while, map, codes, bytes_eq, Result, Ok, Err}
 use Rattle.ss_words.specs.declared.characters.TheConstants.{BLANK, CARRIAGE_RETURN, LINE_FEED}
@@ -29,7 +29,7 @@ front_line_len (b ∷ bs) = elim (b == LINE_FEED || is_last_return b bs) [ true 
 abbrev pub front_line : List ℕ → List ℕ
 front_line text = take (front_line_len text) text
 
--- ---- where the rule is broken
+-- ---- the column at which the rule is broken
 
 -- a refusal by this rule
 abbrev pub is_by_rule : TextRule → TextFault → Bool
@@ -41,7 +41,7 @@ abbrev pub is_refused_by : TextRule → Result (List WordAt) TextFault → Bool
 is_refused_by rule (Ok ws) = false
 is_refused_by rule (Err f) = is_by_rule rule f
 
--- a line stands in a picture: the text before it lacks lines of one
+-- a line is in a picture: the text before it lacks lines of one
 abbrev pub is_of_picture : List ℕ → Bool
 is_of_picture before = is_refused_by r.NoPicture (words_of before)
 
@@ -50,7 +50,7 @@ abbrev pub plain_line : Bool → List ℕ → List ℕ
 plain_line true line = map (λ b. BLANK) line
 plain_line false line = with_blank_comments false line
 
--- the column, counted from `at`, of the first byte that may not stand in a line; of its end where there is none
+-- the column, counted from `at`, of the first byte that may not be in a line, or of its end
 unfoldable pub stray_column : ℕ → List ℕ → List ℕ → ℕ
 stray_column at [] plain = at
 stray_column at (b ∷ bs) [] = at
@@ -60,7 +60,7 @@ stray_column at (b ∷ bs) (p ∷ ps) = elim (is_stray b p) [ true ↦ at | fals
 abbrev pub front_run : List ℕ → List ℕ
 front_run plain = take (length (take_while in_run plain)) plain
 
--- a run begins at the front, behind the byte `last`, that breaks a rule by itself, as the word behind AS
+-- a run begins at the front, after the byte `last`, and breaks a rule if it is the word after AS
 unfoldable pub breaks_rule : TextRule → ℕ → List ℕ → Bool
 breaks_rule rule last [] = false
 breaks_rule rule last (p ∷ ps) = elim (in_run p && not (is_joined last p)) [
@@ -68,7 +68,7 @@ breaks_rule rule last (p ∷ ps) = elim (in_run p && not (is_joined last p)) [
   | false ↦ false
 ]
 
--- the column, counted from `at`, of the first run that breaks a rule by itself; of the end where there is none
+-- the column, counted from `at`, of the first run that breaks a rule by itself, or of the end
 unfoldable pub run_column : TextRule → ℕ → ℕ → List ℕ → ℕ
 run_column rule at last [] = at
 run_column rule at last (p ∷ ps) = elim (breaks_rule rule last (p ∷ ps)) [
@@ -76,8 +76,8 @@ run_column rule at last (p ∷ ps) = elim (breaks_rule rule last (p ∷ ps)) [
   | false ↦ run_column rule (at + 1) p ps
 ]
 
--- the column at which a line breaks a rule: of L1 the first byte that may not stand there, of L5 the first one that is
--- too many, of the others a run
+-- the column at which a line breaks a rule: for L1 that of the first byte that may not be there,
+-- for L5 that of the first byte too many, for the others that of a run
 abbrev pub breach_column : TextRule → Bool → List ℕ → ℕ
 breach_column r.StrayByte of_picture line = stray_column 1 line (plain_line of_picture line)
 breach_column r.LongPictureLine of_picture line = LONGEST_PICTURE_LINE + 1

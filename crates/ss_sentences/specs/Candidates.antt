@@ -1,4 +1,4 @@
--- What could stand behind words.
+-- The candidates: which words could come after other words.
 use Rattle.std.specs.Prelude.{◌≡◌, ℕ, Bool, true, false, not, List, [], ◌∷◌, ◌++◌, length, codes, map, Option}
 use Rattle.std.specs.Prelude.{Some, None}
 use Rattle.ss_words.specs.Words.{Kind, name, number, sign, WordAt}
@@ -11,7 +11,7 @@ use Rattle.ss_sentences.specs.Grammar.{IsGoing}
 use Rattle.ss_sentences.specs.Pieces.{last_kind}
 use Rattle.ss_columns.specs.Reserved.{is_kind_among, scheduling_words}
 
--- the word that is tried: of names and numbers, one
+-- the word that is tried: one name for all names, one number for all numbers
 abbrev pub candidate_kind : List ℕ → Tried → Kind
 candidate_kind told t.AName = name (codes "X")
 candidate_kind told t.ANumber = number 1
@@ -19,7 +19,7 @@ candidate_kind told (t.Sign s) = sign s
 candidate_kind told t.Reserved = name told
 candidate_kind told t.Article = name told
 
--- how each candidate is told, and what is tried for it
+-- how each candidate is printed, and the word that is tried for it
 unfoldable pub candidates : List (List ℕ × Tried)
 candidates = map (λ row. (row.0.now, row.1)) CANDIDATES
 
@@ -27,7 +27,7 @@ candidates = map (λ row. (row.0.now, row.1)) CANDIDATES
 abbrev pub candidate_of : Judgement → List ℕ × Tried
 candidate_of judgement = (judgement.told.now, judgement.tried)
 
--- the words and the candidate behind them, with its number for its line
+-- the words and the candidate after them, with its number for its line
 abbrev pub with_candidate : List WordAt → List ℕ → Tried → List WordAt
 with_candidate ws told tried = ws ++ record { line = length ws; kind = candidate_kind told tried } ∷ []
 
@@ -40,7 +40,7 @@ is_scheduling (Some k) = is_kind_among scheduling_words k
 abbrev pub keeps_article : List WordAt → Bool
 keeps_article ws = is_scheduling (last_kind None ws)
 
--- it is an article, which is dropped behind these words
+-- it is an article, which is dropped after these words
 abbrev pub is_dropped : List WordAt → Tried → Bool
 is_dropped ws t.Article = not (keeps_article ws)
 is_dropped ws t.AName = false
@@ -48,7 +48,7 @@ is_dropped ws t.ANumber = false
 is_dropped ws (t.Sign s) = false
 is_dropped ws t.Reserved = false
 
--- a candidate fits behind these words, or not: with it they are a program, or are refused because they end
+-- a candidate fits after these words: with it they are a program, or are refused because they end
 abbrev pub IsFitting : List WordAt → List ℕ → Tried → Bool → Type 0
 IsFitting ws told tried fits = elim (is_dropped ws tried) [
   | true ↦ fits ≡ false

@@ -1,4 +1,4 @@
--- What could stand at a place, as it is told.
+-- The list of the candidates that could be at a place, as it is printed.
 use Rattle.std.specs.Prelude.{ℕ, ◌-◌, ◌&&◌, Bool, true, false, nat_lt, List, [], ◌∷◌, ◌++◌, length, codes, bytes_eq}
 use Rattle.std.specs.Prelude.{if◌then◌else◌}
 use Rattle.ss_sentences.specs.declared.candidate.Judgement.{Judgement}
@@ -8,7 +8,7 @@ use Rattle.ss_sentences.specs.declared.expected.TheConstants.{EXPECTED, FIRST_RO
 abbrev pub separator : Bool → List ℕ
 separator is_first = if is_first then codes " " else codes ", "
 
--- those of the candidates that fit, where so many bytes have room on the line, and on a new line where they have none
+-- the candidates that fit; one without room in the `room` bytes left on a line is on a new line
 abbrev pub fitting_list : Bool → ℕ → List Judgement → List ℕ
 fitting_list is_first room [] = codes "\n"
 fitting_list is_first room (j ∷ js) = elim j.fits [
@@ -19,11 +19,11 @@ fitting_list is_first room (j ∷ js) = elim j.fits [
   ]
 ]
 
--- what could stand at a place
+-- the list of the candidates that could be at a place
 unfoldable pub expected_text : List Judgement → List ℕ
 expected_text js = EXPECTED.now ++ fitting_list true FIRST_ROOM js
 
--- a candidate that is told so fits
+-- a candidate that is printed so fits
 abbrev pub fits : List Judgement → List ℕ → Bool
 fits [] told = false
 fits (j ∷ js) told = elim (j.fits && bytes_eq (j.told.now) told) [ true ↦ true | false ↦ fits js told ]

@@ -1,6 +1,6 @@
--- Whether words are a program, by its two parts, and whether one goes on behind them. That these are the refusals of
--- the whole program, by the farthest word of preamble and sections together, is a law of ss_session
--- (`program_is_refused_in_one_part`).
+-- Whether words are a program, by its two parts, and whether a program goes on after them. These
+-- are the refusals of the whole program, by the farthest word of preamble and sections together:
+-- that is a law of ss_session (`program_is_refused_in_one_part`).
 use Rattle.std.specs.Prelude.{◌≡◌, ◌⊎◌, ℕ, Bool, true, false, List}
 use Rattle.ss_words.specs.declared.fault.TextRule.{TextRule}
 use Rattle.ss_words.specs.declared.fault.TextRule.TheVariants.{UnexpectedEnd}
@@ -14,12 +14,12 @@ use Rattle.ss_routines.specs.Places.{Section}
 use Rattle.ss_routines.specs.Refused.{AreSections, words_from}
 use Rattle.ss_routines.specs.Refused as sections
 
--- plain words are a preamble or none, and sections behind it
+-- plain words are a preamble or none, and sections after it
 abbrev pub IsSpelled : List PlainAt → Type 0
 IsSpelled ws =
     (d : Decls) × (from : ℕ) × (ss : List Section) × AreDecls d from ws × AreSections ss (words_from from ws)
 
--- plain words are refused by this rule at this line: in their preamble, or else in the sections behind it
+-- plain words are refused by this rule at this line: in their preamble, or in the sections after it
 abbrev pub IsRefused : TextRule → ℕ → List PlainAt → Type 0
 IsRefused rule line ws =
     preamble.IsRefused rule line ws

@@ -1,4 +1,4 @@
--- Hints at what is often meant where a word does not fit.
+-- Hints at what is often meant if a word does not fit.
 use Rattle.std.specs.Prelude.{ℕ, ◌-◌, ◌&&◌, Bool, true, false, not, List, [], ◌∷◌, ◌++◌, length, take, map, codes}
 use Rattle.std.specs.Prelude.{decimal, Option, Some, None}
 use Rattle.ss_words.specs.Words.{Kind, name, number, sign, picture, WordAt}
@@ -30,7 +30,7 @@ abbrev pub is_dropped_word : Option Kind → Bool
 is_dropped_word None = false
 is_dropped_word (Some k) = is_kind_among dropped_words k
 
--- the last word is dropped: it is one of these, and does not stand directly behind SCHEDULE or CAUSE
+-- the last word is dropped: it is one of these, and is not directly after SCHEDULE or CAUSE
 abbrev pub ends_in_dropped : List WordAt → Bool
 ends_in_dropped ws = is_dropped_word (last_kind None ws) && not (keeps_article (take (length ws - 1) ws))
 
@@ -38,15 +38,15 @@ ends_in_dropped ws = is_dropped_word (last_kind None ws) && not (keeps_article (
 abbrev pub hint_text : Bool → List ℕ → List ℕ → List ℕ
 hint_text is_given hint word = elim is_given [ true ↦ gaps_filled hint word word | false ↦ [] ]
 
--- what a refused word hints at: that it is reserved, where a name fits and no statement begins; that it is no unit,
--- where one fits
+-- the hints for a refused word: it is reserved, if a name fits and no statement begins; it is no
+-- unit, if a unit fits
 abbrev pub word_hints : List Judgement → Kind → List ℕ → List ℕ
 word_hints js kind told =
     hint_text (is_reserved_word kind && fits js (codes "a name") && not (fits js (codes "LET")))
     RESERVED_HINT.now told
     ++ hint_text (is_name kind && not (is_reserved_word kind) && fits js (codes "UNITS")) UNIT_HINT.now told
 
--- the lines of the words that open blocks which no word behind them closes, the innermost last
+-- the lines of the words that open blocks which no word after them closes, the innermost last
 abbrev pub open_lines : List (List ℕ) → List (List ℕ) → List ℕ → List WordAt → List ℕ
 open_lines opening closing lines [] = lines
 open_lines opening closing lines (w ∷ ws) = elim (is_kind_among opening w.kind) [
@@ -57,7 +57,7 @@ open_lines opening closing lines (w ∷ ws) = elim (is_kind_among opening w.kind
   ]
 ]
 
--- the last of these lines, behind this one
+-- the last of these lines, after this one
 abbrev pub last_line : Option ℕ → List ℕ → Option ℕ
 last_line last [] = last
 last_line last (l ∷ ls) = last_line (Some l) ls
@@ -67,11 +67,11 @@ abbrev pub line_hint : Bool → List ℕ → Option ℕ → List ℕ
 line_hint is_given hint None = []
 line_hint is_given hint (Some l) = hint_text is_given hint (decimal l)
 
--- the last of the open blocks, where its end fits
+-- the hint for the last of the open blocks, if its end fits
 abbrev pub open_hint : Bool → List ℕ → List ℕ → List ℕ
 open_hint ends_here hint ls = line_hint ends_here hint (last_line None ls)
 
--- which blocks are open behind these words, where their ends fit
+-- the hints for the blocks that are open after these words, if their ends fit
 abbrev pub block_hints : List Judgement → List WordAt → List ℕ
 block_hints js ws =
     let names = map (λ row. row.now) in
@@ -82,6 +82,6 @@ block_hints js ws =
 abbrev pub dropped_hint : List WordAt → List ℕ
 dropped_hint ws = hint_text (ends_in_dropped ws) DROPPED_HINT.now (last_text ws)
 
--- what the words before a place hint at
+-- the hints that the words before a place give
 unfoldable pub front_hints : List Judgement → List WordAt → List ℕ
 front_hints js ws = dropped_hint ws ++ block_hints js ws

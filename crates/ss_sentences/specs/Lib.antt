@@ -1,3 +1,5 @@
+-- The definitions of this crate: sentences of codes, words that could be at a place, hints, and the
+-- explanation of a refused model.
 pub mod Wording
 pub mod Grammar
 pub mod Candidates

@@ -3,7 +3,7 @@ use Rattle.std.specs.Prelude.{ℕ, ◌==◌, ◌&&◌, ◌||◌, nat_le, Bool, t
 use Rattle.std.specs.Prelude.{Option, Some, None, if◌then◌else◌}
 use Rattle.ss_sentences.specs.declared.near.TheConstants.{ONE_DIFFERS, TWO_DIFFER}
 
--- what two words have behind the letters at their front that are the same
+-- the rests of two words after the letters at their front that are the same
 unfoldable pub behind_same : List ℕ → List ℕ → List ℕ × List ℕ
 behind_same [] b = ([], b)
 behind_same (x ∷ xs) [] = (x ∷ xs, [])

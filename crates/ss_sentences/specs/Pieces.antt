@@ -26,7 +26,7 @@ gaps_filled (b ∷ c ∷ bs) word others = elim (b == 123 && c == 125) [
   | false ↦ b ∷ gaps_filled (c ∷ bs) word others
 ]
 
--- how a sign is told
+-- how a sign is printed
 abbrev pub sign_text : Sign → List ℕ
 sign_text s.Plus = codes "+"
 sign_text s.Minus = codes "-"
@@ -40,7 +40,7 @@ sign_text s.Greater = codes ">"
 sign_text s.LessEqual = codes "<="
 sign_text s.GreaterEqual = codes ">="
 
--- how a word is told
+-- how a word is printed
 abbrev pub kind_text : Kind → List ℕ
 kind_text (name n) = n
 kind_text (number n) = decimal n
@@ -52,17 +52,17 @@ abbrev pub kind_seen : Option (Bor WordKind) → Option Kind
 kind_seen None = None
 kind_seen (Some k) = Some (kind_of k.now)
 
--- what the last of these words is, behind this one
+-- the kind of the last of these words, after this one
 abbrev pub last_kind : Option Kind → List WordAt → Option Kind
 last_kind last [] = last
 last_kind last (w ∷ ws) = last_kind (Some w.kind) ws
 
--- how a word is told, if there is one
+-- how a word is printed, if there is one
 abbrev pub word_told : Option Kind → List ℕ
 word_told None = codes "the start of the text"
 word_told (Some k) = kind_text k
 
--- how the last of these words is told
+-- how the last of these words is printed
 abbrev pub last_text : List WordAt → List ℕ
 last_text ws = word_told (last_kind None ws)
 
@@ -79,15 +79,15 @@ place_text line column = codes "Line " ++ decimal line ++ column_text column ++ 
 abbrev pub blank_of : ℕ → ℕ
 blank_of b = if b == TAB then TAB else BLANK
 
--- what is shown of a byte: itself where it may stand in a line, and else a question mark
+-- a byte as it is shown: itself if it may be in a line, and else a question mark
 abbrev pub shown_byte : ℕ → ℕ
 shown_byte b = if is_allowed b then b else UNSHOWN
 
--- what is shown of some bytes
+-- some bytes as they are shown
 abbrev pub shown : List ℕ → List ℕ
 shown bytes = map shown_byte bytes
 
--- a caret behind so much room
+-- a caret after blanks as wide as a mark and the bytes before it
 abbrev pub caret_text : List ℕ → List ℕ → List ℕ
 caret_text mark before = map blank_of mark ++ map blank_of before ++ codes "^\n"
 
@@ -96,7 +96,7 @@ abbrev pub caret_at : List ℕ → List ℕ → Option ℕ → List ℕ
 caret_at mark line None = []
 caret_at mark line (Some c) = caret_text mark (take (c - 1) line)
 
--- a line of the model behind its number, and below it a caret at a column
+-- a line of the model after its number, and below it a caret at a column
 abbrev pub source_text : List ℕ → ℕ → Option ℕ → List ℕ
 source_text model line column =
     let mark = decimal line ++ codes "> " in

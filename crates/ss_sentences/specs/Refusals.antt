@@ -1,4 +1,4 @@
--- What is said of a text that a rule L or P refuses.
+-- The explanation of a model that a rule L or P refuses.
 use Rattle.std.specs.Prelude.{◌≡◌, ◌⊎◌, ℕ, ◌+◌, ◌<◌, ◌≤◌, true, false, List, [], ◌∷◌, ◌++◌, length, take, map}
 use Rattle.std.specs.Prelude.{codes, Option, Some, None, slice_get, Ok, Err, All}
 use Rattle.ss_words.specs.declared.fault.TextRule.{TextRule}
@@ -21,7 +21,7 @@ use Rattle.ss_sentences.specs.Pieces.{gaps_filled, last_text, place_text, source
 use Rattle.ss_sentences.specs.Unread.{unread_text}
 use Rattle.ss_sentences.specs.Wording.{rule_sentence}
 
--- how the last of so many words is told
+-- how the last of the first `count` words is printed
 abbrev pub told_before : List WordAt → ℕ → List ℕ
 told_before ws count = last_text (take count ws)
 
@@ -32,57 +32,57 @@ sentence_text model ws rule i =
     ++ gaps_filled (rule_sentence (text_rule_code rule)) (told_before ws (i + 1)) (told_before ws i)
     ++ codes "\n" ++ source_text model (line_at ws i) (column_at model ws i)
 
--- each candidate is judged behind these words; none where the text is too long
+-- each candidate is judged after these words; none is if the text is too long
 unfoldable pub AreJudged : List ℕ → List WordAt → List Judgement → Type 0
 AreJudged model front js =
     ((LONGEST_TEXT_JUDGED < length model) × (js ≡ []))
     ⊎ ((length model ≤ LONGEST_TEXT_JUDGED) × All (λ j. IsFitting front j.told.now j.tried j.fits) js
     × (map candidate_of js ≡ candidates))
 
--- what could stand at a place, where that is judged
+-- the list of the candidates that could be at a place, if they are judged
 abbrev pub judged_text : List Judgement → List ℕ
 judged_text [] = []
 judged_text (j ∷ js) = expected_text (j ∷ js)
 
--- the hints at a word behind others, if there is one
+-- the hints for a word after others, if there is one
 abbrev pub hints_at : List Judgement → List WordAt → Option WordAt → List ℕ → List ℕ
 hints_at js before None told = []
 hints_at js before (Some w) told = word_hints js w.kind told ++ meant_hints js before w.kind
 
--- what could stand in the place of word i, and hints
+-- the list of the candidates in the place of word i, and hints
 abbrev pub unexpected_text : List WordAt → ℕ → List Judgement → List ℕ
 unexpected_text ws i js =
     judged_text js ++ hints_at js (take i ws) (slice_get ws i) (told_before ws (i + 1)) ++ front_hints js (take i ws)
 
--- what could stand at the end of the words, and which blocks are open there
+-- the list of the candidates at the end of the words, and which blocks are open there
 abbrev pub ended_text : List WordAt → List Judgement → List ℕ
 ended_text ws js = judged_text js ++ block_hints js ws
 
--- what is said behind the sentence of a rule at word i
+-- the text after the sentence of a rule at word i
 abbrev pub behind_text : List WordAt → TextRule → ℕ → List Judgement → List ℕ
 behind_text ws r.UnexpectedWord i js = unexpected_text ws i js
 behind_text ws r.UnexpectedEnd i js = ended_text ws js
 behind_text ws _ i js = []
 
--- the words behind which it is judged what could stand: at the end of the words all, and else those before word i
+-- the words after which candidates are judged: all at their end, and else those before word i
 abbrev pub front_of : List WordAt → TextRule → ℕ → List WordAt
 front_of ws rule i = elim (is_end rule) [ true ↦ words_by_number ws | false ↦ words_by_number (take i ws) ]
 
--- what is said of words that are refused by a rule at word i
+-- a text explains the refusal of words by a rule at word i
 unfoldable pub IsSaidOf : List ℕ → List WordAt → TextRule → ℕ → List ℕ → Type 0
 IsSaidOf model ws rule i said =
     (js : List Judgement) × AreJudged model (front_of ws rule i) js
     × (said ≡ sentence_text model ws rule i ++ behind_text ws rule i js)
 
--- what is said of words: nothing where they are a program; else what is said of their refusal, where the word is that
--- whose line the refusal tells when each word stands on a line of its own, the lines numbered from 0
+-- a text explains words: it is empty if they are a program; else it explains their refusal at word
+-- i. That is the line of their refusal when each word is on a line of its own, numbered from 0.
 unfoldable pub AreSaid : List ℕ → List WordAt → List ℕ → Type 0
 AreSaid model ws said =
     (IsSpelled (plain_words_of (words_by_number ws)) × (said ≡ []))
     ⊎ ((rule : TextRule) × (i : ℕ) × IsRefused rule i (plain_words_of (words_by_number ws))
     × IsSaidOf model ws rule i said)
 
--- what is said of a model
+-- a text explains a model
 unfoldable pub IsSaid : List ℕ → List ℕ → Type 0
 IsSaid model said =
     ((rule : TextRule) × (line : ℕ) × (words_of model ≡ Err (Refused rule line)) × (said ≡ unread_text model rule line))

@@ -1,4 +1,4 @@
--- What is said of a text that a rule L refuses.
+-- The explanation of a model that a rule L refuses.
 use Rattle.std.specs.Prelude.{ℕ, ◌+◌, ◌-◌, ◌&&◌, ◌||◌, ◌==◌, Bool, true, false, not, nat_lt, nat_le, List, [], ◌∷◌}
 use Rattle.std.specs.Prelude.{◌++◌, length, take, drop, take_while, slice_index, map, codes, decimal, if◌then◌else◌}
 use Rattle.std.specs.Prelude.{Some, bytes_eq}
@@ -18,13 +18,13 @@ use Rattle.ss_sentences.specs.Breach.{front_line, front_run, is_of_picture, brea
 use Rattle.ss_sentences.specs.Pieces.{gaps_filled, place_text, source_text}
 use Rattle.ss_sentences.specs.Wording.{beside_number, rule_sentence}
 
--- ---- what stands there
+-- ---- the bytes at the place
 
 -- a byte as it is written, or its number
 abbrev pub byte_text : ℕ → List ℕ
 byte_text b = if nat_lt BLANK b && nat_le b TILDE then b ∷ [] else decimal b
 
--- a run; of a long one the first bytes
+-- a run; if it is long, its first bytes and a mark
 abbrev pub run_text : List ℕ → List ℕ
 run_text run = if nat_lt LONGEST_RUN_TOLD (length run) then take LONGEST_RUN_TOLD run ++ CUT_MARK.now else run
 
@@ -32,7 +32,7 @@ run_text run = if nat_lt LONGEST_RUN_TOLD (length run) then take LONGEST_RUN_TOL
 abbrev pub from_column : List ℕ → ℕ → List ℕ
 from_column line column = drop (column - 1) line
 
--- what the sentence of a rule names first
+-- the text in the first gap of the sentence of a rule
 abbrev pub breach_text : TextRule → List ℕ → ℕ → List ℕ
 breach_text r.StrayByte line column = byte_text (slice_index line (column - 1))
 breach_text r.LongPictureLine line column = decimal (length line)
@@ -49,7 +49,7 @@ breach_sentence rule line column =
 
 -- ---- hints
 
--- a last byte that makes the piece behind the last line feed a line
+-- a last byte that makes the piece after the last line feed a line
 abbrev pub ends_last_line : ℕ → List ℕ → Bool
 ends_last_line b [] = not (b == CARRIAGE_RETURN)
 ends_last_line b (c ∷ cs) = false
@@ -59,41 +59,41 @@ unfoldable pub line_count : List ℕ → ℕ
 line_count [] = 0
 line_count (b ∷ bs) = elim (b == LINE_FEED || ends_last_line b bs) [ true ↦ 1 + line_count bs | false ↦ line_count bs ]
 
--- what is said of a byte that may stand in no line, with which the rest of its line begins: it begins a byte order
--- mark, or is of a letter outside ASCII
+-- the hint for a byte that may be in no line, with which the rest of its line begins: it begins a
+-- byte order mark, or is of a letter outside ASCII
 abbrev pub outside_hint : ℕ → List ℕ → List ℕ
 outside_hint b rest =
     if bytes_eq (take (length BYTE_ORDER_MARK) rest) BYTE_ORDER_MARK then MARK_HINT.now
     else if nat_lt LAST_OF_ASCII b then LETTER_HINT.now else OUTSIDE_HINT.now
 
--- what is often meant by a byte
+-- the hint at what is often meant by a byte
 abbrev pub byte_hint : ℕ → List ℕ → List ℕ
 byte_hint b rest =
     if is_allowed b then beside_number b (map (λ row. (row.0, row.1.now)) BYTE_HINTS) else outside_hint b rest
 
--- a stop stands in a run
+-- there is a stop in a run
 abbrev pub has_stop : List ℕ → Bool
 has_stop run = list_any (λ b. b == STOP) run
 
--- why a run is no number: a stop stands in it, or it is too great
+-- why a run is no number: there is a stop in it, or it is too great
 abbrev pub number_hint : List ℕ → List ℕ
 number_hint run = if has_stop (without_stops run) then STOP_HINT.now else GREAT_HINT.now
 
--- only blanks and comments stand here
+-- there are only blanks and comments here
 abbrev pub is_bare : List ℕ → Bool
 is_bare behind = list_all is_blank (with_blank_comments false behind)
 
--- what stands behind THUS or FOLLOWS: more on its line, or else so many lines below
+-- the hint at the text after THUS or FOLLOWS: more on its line, or else the number of lines below
 abbrev pub picture_hint : List ℕ → List ℕ → List ℕ
 picture_hint behind below =
     if is_bare behind then gaps_filled BELOW_HINT.now (decimal (line_count below)) (decimal (line_count below))
     else BEHIND_HINT.now
 
--- the line behind the run at its front
+-- the line after the run at its front
 abbrev pub behind_run : List ℕ → List ℕ
 behind_run line = drop (length (take_while in_run line)) line
 
--- what the breach of a rule at a column hints at, the text below that line given
+-- the hint for the breach of a rule at a column, the text below that line given
 abbrev pub breach_hint : TextRule → List ℕ → ℕ → List ℕ → List ℕ
 breach_hint r.StrayByte line column below =
     byte_hint (slice_index line (column - 1)) (from_column line column)
@@ -101,9 +101,9 @@ breach_hint r.BadNumber line column below = number_hint (front_run (from_column 
 breach_hint r.NoPicture line column below = picture_hint (behind_run (from_column line column)) below
 breach_hint rule line column below = []
 
--- ---- all that is said
+-- ---- the whole explanation
 
--- what is said of the breach of a rule L on a line, at a column
+-- the explanation of the breach of a rule L on a line, at a column
 abbrev pub breach_said : List ℕ → TextRule → ℕ → List ℕ → ℕ → List ℕ → List ℕ
 breach_said model rule n line column below =
     place_text n (Some column) ++ breach_sentence rule line column ++ codes "\n" ++ source_text model n (Some column)
@@ -117,7 +117,7 @@ from_line model n = behind_feeds (n - 1) model
 abbrev pub before_rest : List ℕ → List ℕ → List ℕ
 before_rest model rest = take (length model - length rest) model
 
--- what is said of a model that a rule L refuses on line n
+-- the explanation of a model that a rule L refuses on line n
 unfoldable pub unread_text : List ℕ → TextRule → ℕ → List ℕ
 unread_text model rule n =
     let rest = from_line model n in

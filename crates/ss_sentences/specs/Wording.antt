@@ -2,12 +2,12 @@
 use Rattle.std.specs.Prelude.{ℕ, List, [], ◌∷◌, map, bytes_eq, ◌==◌, if◌then◌else◌}
 use Rattle.ss_sentences.specs.declared.wording.TheConstants.{RULE_SENTENCES, FAULT_SENTENCES}
 
--- the sentence beside this code in a table, empty where it has none
+-- the sentence in the row of this code in a table, empty if there is no such row
 abbrev pub beside : List ℕ → List (List ℕ × List ℕ) → List ℕ
 beside code [] = []
 beside code (row ∷ rows) = if bytes_eq row.0 code then row.1 else beside code rows
 
--- the sentence beside this number in a table, empty where it has none
+-- the sentence in the row of this number in a table, empty if there is no such row
 abbrev pub beside_number : ℕ → List (ℕ × List ℕ) → List ℕ
 beside_number n [] = []
 beside_number n (row ∷ rows) = if row.0 == n then row.1 else beside_number n rows

@@ -1,4 +1,4 @@
-//! Where a text breaks a rule L.
+//! The line and column at which a text breaks a rule L.
 ghost use Rattle.std.specs.Prelude.{◌≡◌, ◌≤◌, IfOk, length};
 ghost use Rattle.ss_words.specs.declared.characters.TheConstants.{BLANK};
 ghost use Rattle.ss_words.specs.TextWords.{words_of};
@@ -47,7 +47,7 @@ pub fn front_line(text: &[u8]) -> &[u8]
     &text[..front_line_len(text)]
 }
 
-// ---- where the rule is broken
+// ---- the column at which the rule is broken
 
 /// Whether a text is refused by this rule.
 fn is_refused_by(alloc: Global, text: &[u8], rule: TextRule) -> Result<bool, AllocError>
@@ -60,7 +60,7 @@ fn is_refused_by(alloc: Global, text: &[u8], rule: TextRule) -> Result<bool, All
     }
 }
 
-/// Whether a line stands in a picture: the text before it, which lacks lines of one, is given.
+/// Whether a line is in a picture: the text before it, which lacks lines of one, is given.
 pub fn is_of_picture(alloc: Global, before: &[u8]) -> Result<bool, AllocError>
     ensures { IfOk result (λ is. is ≡ spec.is_of_picture before.now) }
 {
@@ -83,7 +83,7 @@ fn plain_line(alloc: Global, of_picture: bool, line: &[u8]) -> Result<Vec<u8>, A
     Ok(plain)
 }
 
-/// The column of the first byte that may not stand in a line; of its end where there is none.
+/// The column of the first byte that may not be in a line; that of its end if there is none.
 #[tactic(auto, unfolding(crate::specs::Breach::stray_column))]
 fn stray_column(line: &[u8], plain: &[u8]) -> usize
     ensures { result ≡ spec.stray_column 1 line.now plain.now }
@@ -112,8 +112,8 @@ pub fn front_run(plain: &[u8]) -> &[u8]
     &plain[..run_len(plain)]
 }
 
-/// Whether a run begins at the front, behind this byte, that breaks a rule by itself, as the word
-/// behind AS.
+/// Whether a run begins at the front, after this byte, and breaks a rule by itself, as the word
+/// after AS.
 #[tactic(auto, unfolding(crate::specs::Breach::breaks_rule))]
 fn breaks_rule(alloc: Global, rule: TextRule, last: u8, rest: &[u8]) -> Result<bool, AllocError>
     ensures { IfOk result (λ breaks. breaks ≡ spec.breaks_rule rule last rest.now) }
@@ -130,7 +130,7 @@ fn breaks_rule(alloc: Global, rule: TextRule, last: u8, rest: &[u8]) -> Result<b
     is_refused_by(alloc, &text, rule)
 }
 
-/// The column of the first run that breaks a rule by itself; of the end where there is none.
+/// The column of the first run that breaks a rule by itself; that of the end if there is none.
 #[tactic(auto, unfolding(crate::specs::Breach::run_column))]
 fn run_column(alloc: Global, rule: TextRule, plain: &[u8]) -> Result<usize, AllocError>
     ensures { IfOk result (λ column. column ≡ spec.run_column rule 1 BLANK plain.now) }

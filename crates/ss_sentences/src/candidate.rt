@@ -1,4 +1,4 @@
-//! What could stand at a place of a text.
+//! The candidates: which words could be at a place of a text.
 ghost use Rattle.std.specs.Prelude.{◌≡◌, IfOk, OnOk, All, map};
 ghost use Rattle.ss_words.specs.PlainRules.{plain_words_of};
 ghost use Rattle.ss_words.specs.Words.{kind_of, name, word_at};
@@ -12,20 +12,20 @@ use ss_columns::{SCHEDULING, is_kind_among};
 use ss_words::{Name, Sign, Word, WordKind, Words};
 use std::alloc::{AllocError, Global};
 
-/// What is tried at a place: a word, or one of a kind of words.
+/// The word that is tried at a place: a given word, or one of a kind of words.
 #[derive(Clone, Copy, Debug, PartialEq, Eq)]
 pub enum Tried {
     /// A name that is not reserved.
     AName,
     ANumber,
     Sign(Sign),
-    /// The reserved word that is told.
+    /// The reserved word that is printed.
     Reserved,
-    /// The article that is told, which stays directly behind SCHEDULE and CAUSE alone.
+    /// The article that is printed. It stays only directly after SCHEDULE and CAUSE.
     Article,
 }
 
-/// How a candidate is told, what is tried for it, and whether it fits.
+/// How a candidate is printed, the word that is tried for it, and whether it fits.
 #[derive(Clone, Copy, Debug)]
 pub struct Judgement {
     pub told: &'static [u8],
@@ -33,8 +33,8 @@ pub struct Judgement {
     pub fits: bool,
 }
 
-/// How each candidate is told, and what is tried for it, in this order: of words that mean the same,
-/// one. The definitions read this table too.
+/// How each candidate is printed, and the word that is tried for it, in this order. There is one
+/// candidate for words that mean the same. The definitions read this table too.
 pub const CANDIDATES: [(&[u8], Tried); 111] = [
     (b"a name", Tried::AName),
     (b"a number", Tried::ANumber),
@@ -168,7 +168,7 @@ fn name_of(alloc: Global, bytes: &[u8]) -> Result<WordKind, AllocError>
     Ok(WordKind::Name(Name::new(alloc, bytes)?))
 }
 
-/// Whether the last of these words keeps an article behind it.
+/// Whether the last of these words keeps an article after it.
 #[tactic(auto, unfolding(ss_columns::specs::Reserved::scheduling_words))]
 pub fn keeps_article(words: &[Word]) -> bool
     ensures { result ≡ spec.keeps_article (map word_at words.now) }
@@ -179,7 +179,7 @@ pub fn keeps_article(words: &[Word]) -> bool
     }
 }
 
-/// Whether a candidate would be dropped behind these words.
+/// Whether a candidate would be dropped after these words.
 fn is_dropped(words: &Words, tried: Tried) -> bool
     ensures { result ≡ spec.is_dropped words.now tried }
 {
@@ -189,7 +189,7 @@ fn is_dropped(words: &Words, tried: Tried) -> bool
     }
 }
 
-/// Whether a program goes on or ends behind these words and the candidate. The words are again as
+/// Whether a program goes on or ends after these words and the candidate. The words are again as
 /// they were, unless memory was refused.
 #[tactic(auto, using(crate::proofs::WordLists::pushed))]
 fn goes_on_with(
@@ -210,7 +210,7 @@ fn goes_on_with(
     Ok(goes_on)
 }
 
-/// Judges a candidate behind these words.
+/// Judges a candidate after these words.
 fn judge(alloc: Global, words: &mut Words, told: &[u8], tried: Tried) -> Result<bool, AllocError>
     ensures same { OnOk result (words.new ≡ words.old) }
     ensures judged { IfOk result (λ fits. IsFitting words.old told.now tried fits) }
@@ -229,7 +229,7 @@ fn candidates() -> &'static [(&'static [u8], Tried)]
     &CANDIDATES
 }
 
-/// Judges each candidate behind these words, which are numbered from 0.
+/// Judges each candidate after these words, which are numbered from 0.
 pub fn judge_all(alloc: Global, words: &mut Words) -> Result<Vec<Judgement>, AllocError>
     ensures judged { IfOk result
         (λ all. All (λ j. IsFitting words.old j.told.now j.tried j.fits) all.items) }

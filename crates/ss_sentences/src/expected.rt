@@ -1,4 +1,4 @@
-//! What could stand at a place, as it is told.
+//! The list of the candidates that could be at a place, as it is printed.
 ghost use Rattle.std.specs.Prelude.{◌≡◌, ◌++◌, true, OnOk};
 ghost use Rattle.ss_sentences.specs.declared.expected.TheConstants.{FIRST_ROOM};
 ghost use Rattle.ss_sentences.specs.Expected as spec;
@@ -6,11 +6,11 @@ ghost use Rattle.ss_sentences.specs.Expected as spec;
 use crate::candidate::Judgement;
 use std::alloc::AllocError;
 
-/// What stands before what could stand at a place. The definitions read these texts too.
+/// The text before the list of the candidates at a place. The definitions read these texts too.
 pub const EXPECTED: &[u8] = b"Expected:";
-/// So many bytes have room behind that, and a comma.
+/// The number of bytes that have room after that, with a comma.
 pub const FIRST_ROOM: usize = 110;
-/// So many bytes have room on each further line, and a comma.
+/// The number of bytes that have room on each further line, with a comma.
 pub const FURTHER_ROOM: usize = 117;
 
 fn separator(is_first: bool) -> &'static [u8]
@@ -53,7 +53,7 @@ fn push_listed(text: &mut Vec<u8>, judged: &[Judgement]) -> Result<(), AllocErro
     text.extend_from_slice(b"\n")
 }
 
-/// Whether a candidate that is told so fits.
+/// Whether a candidate that is printed so fits.
 pub fn fits(mut judged: &[Judgement], told: &[u8]) -> bool
     ensures { result ≡ spec.fits judged.entry.now told.now }
 {

@@ -1,4 +1,4 @@
-//! Whether words are a program, and whether one goes on behind them.
+//! Whether words are a program, and whether a program goes on after them.
 ghost use Rattle.std.specs.Prelude.{◌≡◌, IfErr, IfOk};
 ghost use Rattle.ss_words.specs.PlainRules.{plain_words_of};
 ghost use Rattle.ss_sentences.specs.Grammar.{IsFault, IsGoing, IsSpelled};

@@ -1,4 +1,4 @@
-//! Hints at what is often meant where a word does not fit.
+//! Hints at what is often meant if a word does not fit.
 ghost use Rattle.std.specs.Prelude.{◌≡◌, ◌-◌, ◌++◌, [], IfOk, None, OnOk, length, map, take};
 ghost use Rattle.ss_words.specs.Words.{word_at};
 ghost use Rattle.ss_sentences.specs.Hints as spec;
@@ -13,7 +13,7 @@ use ss_columns::{DROPPED, is_kind_among};
 use ss_words::{Word, WordKind, is_reserved_name};
 use std::alloc::{AllocError, Global};
 
-/// What opens blocks, and what closes them. The definitions read these tables too.
+/// The words that open blocks, and those that close them. The definitions read these tables too.
 pub const IFS: [&[u8]; 1] = [b"IF"];
 
 pub const ALWAYS: [&[u8]; 2] = [b"ALWAYS", b"REGARDLESS"];
@@ -57,7 +57,7 @@ fn is_reserved_word(word: &Word) -> bool
     }
 }
 
-/// Whether the last of these words is one that is dropped, wherever it stands.
+/// Whether the last of these words is one that is dropped, at whatever place it is.
 #[tactic(auto, unfolding(ss_columns::specs::Reserved::dropped_words))]
 fn ends_in_filler(words: &[Word]) -> bool
     ensures { result ≡ spec.is_dropped_word (last_kind None (map word_at words.now)) }
@@ -68,7 +68,7 @@ fn ends_in_filler(words: &[Word]) -> bool
     }
 }
 
-/// Whether the last but one of these words keeps an article behind it.
+/// Whether the last but one of these words keeps an article after it.
 #[tactic(auto, using(crate::proofs::WordLists::but_last))]
 fn last_is_kept(words: &[Word]) -> bool
     ensures { let all = map word_at words.now in
@@ -95,7 +95,7 @@ fn push_hint(text: &mut Vec<u8>, is_given: bool, hint: &[u8], word: &[u8]) -> Re
     Ok(())
 }
 
-/// Appends what a refused word hints at, behind these words.
+/// Appends the hints for a refused word, after these words.
 pub fn push_word_hints(
     text: &mut Vec<u8>,
     judged: &[Judgement],
@@ -121,7 +121,7 @@ fn push_dropped_hint(alloc: Global, text: &mut Vec<u8>, before: &[Word]) -> Resu
     push_hint(text, ends_in_dropped(before), DROPPED_HINT, &told)
 }
 
-/// Appends what the words before a place hint at.
+/// Appends the hints that the words before a place give.
 #[tactic(auto, unfolding(crate::specs::Hints::front_hints))]
 pub fn push_front_hints(
     alloc: Global,
@@ -136,7 +136,7 @@ pub fn push_front_hints(
     push_block_hints(alloc, text, judged, before)
 }
 
-/// The lines of the words that open blocks which no word behind them closes, the innermost last.
+/// The lines of the words that open blocks which no word after them closes, the innermost last.
 fn open_lines(
     alloc: Global,
     mut words: &[Word],
@@ -172,7 +172,7 @@ fn last_line(lines: &[usize]) -> Option<usize>
     last
 }
 
-/// Appends the line of the innermost open block behind these words, if its end fits there.
+/// Appends the line of the innermost open block after these words, if its end fits there.
 fn push_open(
     alloc: Global,
     text: &mut Vec<u8>,
@@ -191,7 +191,7 @@ fn push_open(
     push_hint(text, ends_here, hint, &number)
 }
 
-/// Appends which blocks are open behind these words, where their ends fit.
+/// Appends which blocks are open after these words, if their ends fit.
 pub fn push_block_hints(
     alloc: Global,
     text: &mut Vec<u8>,

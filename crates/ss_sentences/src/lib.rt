@@ -1,5 +1,6 @@
-//! What a refusal of a model and a fault of a run mean, in English: a sentence for each code, and for
-//! a refused text the word at which it is refused, where that stands, and what could stand there.
+//! The meaning of a refusal of a model and of a fault of a run, in English: a sentence for each
+//! code, and for a refused text the word at which it is refused, its place, and the words that
+//! could be there.
 #![tactic(auto)]
 
 mod breach;

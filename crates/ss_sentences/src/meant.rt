@@ -1,4 +1,4 @@
-//! Hints at what is often meant by the words of other languages, and by a misspelt one.
+//! Hints at what is often meant by the words of other languages, and by a misspelt word.
 ghost use Rattle.std.specs.Prelude.{◌≡◌, ◌-◌, ◌++◌, None, OnOk, length, map, take};
 ghost use Rattle.ss_words.specs.Words.{kind_of, word_at};
 ghost use Rattle.ss_columns.specs.Reserved.{is_kind_among};
@@ -71,7 +71,7 @@ pub const LOOP_END_HINT: &[u8] =
     b"WHILE and UNTIL belong to a FOR: FOR I = 1 TO 1000, WHILE X < 3, DO .. LOOP.\n";
 
 pub const NOT_HINT: &[u8] =
-    b"NOT stands in IS NOT EMPTY and IS NOT IN alone: turn the comparison, as = to NE.\n";
+    b"NOT is part of IS NOT EMPTY and IS NOT IN only: turn the comparison, as = to NE.\n";
 
 pub const UNEQUAL_HINT: &[u8] = b"Unequal is NE.\n";
 
@@ -96,7 +96,7 @@ fn push_given(text: &mut Vec<u8>, is_given: bool, hint: &[u8]) -> Result<(), All
     Ok(())
 }
 
-/// What two signs mean that do not fit together.
+/// The hint for two signs that do not fit together.
 fn sign_hint(before: Sign, refused: Sign) -> &'static [u8]
     ensures { result.now ≡ spec.sign_hint before refused }
 {
@@ -109,7 +109,7 @@ fn sign_hint(before: Sign, refused: Sign) -> &'static [u8]
     }
 }
 
-/// What the refused word and the one before it mean, where both are signs.
+/// The hint for the refused word and the one before it, if both are signs.
 fn signs_hint(before: Option<&WordKind>, refused: &WordKind) -> &'static [u8]
     ensures { result.now ≡ spec.signs_hint (kind_seen before.entry) (kind_of refused.now) }
 {
@@ -129,7 +129,7 @@ fn is_of_processes(kind: Option<&WordKind>) -> bool
     }
 }
 
-/// The words without the last one, where that is dropped.
+/// The words without the last one, if that is dropped.
 #[tactic(auto, using(crate::proofs::WordLists::but_last))]
 fn without_dropped(words: &[Word]) -> &[Word]
     ensures { map word_at result.now ≡ spec.without_dropped (map word_at words.now) }
@@ -140,7 +140,7 @@ fn without_dropped(words: &[Word]) -> &[Word]
     words
 }
 
-/// Appends what a name is nearly, if it is.
+/// Appends the hint that a name is nearly another word, if it is.
 fn push_nearest(text: &mut Vec<u8>, name: &[u8]) -> Result<(), AllocError>
     ensures { OnOk result (text.new.items ≡ text.old.items ++ spec.nearest_hint name.now) }
 {
@@ -150,7 +150,7 @@ fn push_nearest(text: &mut Vec<u8>, name: &[u8]) -> Result<(), AllocError>
     }
 }
 
-/// Appends which first word of a statement a word nearly is, where that is a name and not reserved.
+/// Appends which first word of a statement a word nearly is, if it is a name and not reserved.
 fn push_misspelt(text: &mut Vec<u8>, kind: Option<&WordKind>) -> Result<(), AllocError>
     ensures { OnOk result (text.new.items ≡ text.old.items ++ spec.misspelt_hint (kind_seen kind.entry)) }
 {
@@ -165,7 +165,7 @@ fn push_misspelt(text: &mut Vec<u8>, kind: Option<&WordKind>) -> Result<(), Allo
     }
 }
 
-/// Appends what the words before a place mean where an assignment could go on.
+/// Appends the hints for the words before a place at which an assignment could go on.
 fn push_assigned_hints(text: &mut Vec<u8>, before: &[Word]) -> Result<(), AllocError>
     ensures { OnOk result (text.new.items
         ≡ text.old.items ++ spec.assigned_hints (map word_at before.now)) }
@@ -175,7 +175,7 @@ fn push_assigned_hints(text: &mut Vec<u8>, before: &[Word]) -> Result<(), AllocE
     push_misspelt(text, last)
 }
 
-/// Appends what a refused word means behind the words before it.
+/// Appends the hints for a refused word after the words before it.
 #[tactic(auto, unfolding(crate::specs::Meant::meant_hints))]
 pub fn push_meant_hints(
     text: &mut Vec<u8>,

@@ -2,13 +2,13 @@
 ghost use Rattle.std.specs.Prelude.{◌≡◌, drop, map, option_map, length};
 ghost use Rattle.ss_sentences.specs.Near as spec;
 
-/// From so many letters on a word may differ from what is meant by one letter, and by two. The
-/// definitions read these numbers too.
+/// The least lengths from which a word may differ from the one that is meant by one letter, and by
+/// two. The definitions read these numbers too.
 pub const ONE_DIFFERS: usize = 4;
 
 pub const TWO_DIFFER: usize = 6;
 
-/// What two words have behind the letters at their front that are the same.
+/// The rests of two words after the letters at their front that are the same.
 #[tactic(auto, unfolding(crate::specs::Near::behind_same))]
 fn behind_same<'a>(mut a: &'a [u8], mut b: &'a [u8]) -> (&'a [u8], &'a [u8])
     ensures { (result.0.now, result.1.now) ≡ spec.behind_same a.entry.now b.entry.now }

@@ -9,7 +9,7 @@ use ss_words::characters::{BLANK, TAB};
 use ss_words::{Sign, Word, WordKind};
 use std::alloc::{AllocError, Global};
 
-/// What is shown in place of a byte that may stand in no line. The definitions read it too.
+/// The byte that is shown in place of one that may be in no line. The definitions read it too.
 pub const UNSHOWN: u8 = b'?';
 
 /// Appends a sentence with a word in the place of its first `{}`, and another in that of its others.
@@ -64,7 +64,7 @@ fn sign_text(sign: Sign) -> &'static [u8]
     }
 }
 
-/// How a word is told.
+/// How a word is printed.
 fn kind_text(alloc: Global, kind: &WordKind) -> Result<Vec<u8>, AllocError>
     ensures { IfOk result (λ text. text.items ≡ spec.kind_text (kind_of kind.now)) }
 {
@@ -77,7 +77,7 @@ fn kind_text(alloc: Global, kind: &WordKind) -> Result<Vec<u8>, AllocError>
     }
 }
 
-/// What the last of these words is.
+/// The kind of the last of these words.
 pub fn last_kind(words: &[Word]) -> Option<&WordKind>
     ensures { spec.kind_seen result ≡ spec.last_kind None (map word_at words.now) }
 {
@@ -90,7 +90,7 @@ pub fn last_kind(words: &[Word]) -> Option<&WordKind>
     last
 }
 
-/// How the last of these words is told.
+/// How the last of these words is printed.
 pub fn last_text(alloc: Global, words: &[Word]) -> Result<Vec<u8>, AllocError>
     ensures { IfOk result (λ text. text.items ≡ spec.last_text (map word_at words.now)) }
 {
@@ -139,7 +139,7 @@ fn blank_of(byte: u8) -> u8
     if byte == TAB { TAB } else { BLANK }
 }
 
-/// What is shown of a byte: the byte itself where it may stand in a line, and else a question mark.
+/// A byte as it is shown: the byte itself if it may be in a line, and else a question mark.
 #[tactic(auto, unfolding(ss_words::specs::TextBytes::is_allowed))]
 fn shown_byte(byte: u8) -> u8
     ensures { result ≡ spec.shown_byte byte }
@@ -147,7 +147,7 @@ fn shown_byte(byte: u8) -> u8
     if is_allowed(byte) { byte } else { UNSHOWN }
 }
 
-/// Appends what is shown of some bytes: a question mark for each that may stand in no line.
+/// Appends some bytes as they are shown: a question mark for each that may be in no line.
 pub fn push_shown(text: &mut Vec<u8>, bytes: &[u8]) -> Result<(), AllocError>
     ensures { OnOk result (text.new.items ≡ text.old.items ++ spec.shown bytes.now) }
 {
@@ -157,14 +157,14 @@ pub fn push_shown(text: &mut Vec<u8>, bytes: &[u8]) -> Result<(), AllocError>
     Ok(())
 }
 
-/// The first bytes, so many of them.
+/// The first `count` bytes.
 pub fn first_bytes(bytes: &[u8], count: usize) -> &[u8]
     ensures { result.now ≡ take count bytes.now }
 {
     &bytes[..count.min(bytes.len())]
 }
 
-/// Appends the line of a place, behind its number, and below it a caret at its column.
+/// Appends the line of a place, after its number, and below it a caret at its column.
 pub fn push_source(
     alloc: Global,
     text: &mut Vec<u8>,
@@ -187,7 +187,7 @@ pub fn push_source(
     }
 }
 
-/// Appends a caret behind so much room.
+/// Appends a caret after blanks as wide as a mark and the bytes before it.
 fn push_caret(text: &mut Vec<u8>, mark: &[u8], before: &[u8]) -> Result<(), AllocError>
     ensures { OnOk result (text.new.items
         ≡ text.old.items ++ spec.caret_text mark.now before.now) }

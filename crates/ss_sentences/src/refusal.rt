@@ -1,4 +1,4 @@
-//! What is said of a text that a rule L or P refuses.
+//! The explanation of a model that a rule L or P refuses.
 ghost use Rattle.std.specs.Prelude.{◌≡◌, ◌+◌, ◌++◌, IfOk, OnOk, map, slice_get, take};
 ghost use Rattle.ss_words.specs.Words.{word_at};
 ghost use Rattle.ss_columns.specs.Numbers.{words_by_number};
@@ -16,12 +16,12 @@ use ss_columns::{numbered_words, place_of};
 use ss_words::{TextFault, TextRule, Word, Words, words};
 use std::alloc::{AllocError, Global};
 
-/// Of longer texts it is not told what could stand at a place. The definitions read this number too.
+/// The greatest length of a text that is judged. The definitions read this number too.
 pub const LONGEST_TEXT_JUDGED: usize = 262_144;
 
-/// What a model that a rule L or P refuses is refused with (docs/SENTENCES.md): the sentence of the
-/// rule with its place, the line with a caret below the word, what could stand there, and hints.
-/// Empty where no rule L or P refuses it. The only error is that memory was refused.
+/// The explanation of a model that a rule L or P refuses (docs/SENTENCES.md): the sentence of the
+/// rule with its place, the line with a caret below the word, the words that could be there, and
+/// hints. Empty if no rule L or P refuses it. The only error is that memory was refused.
 #[tactic(auto, using(crate::proofs::Sayings::of_models))]
 pub fn text_refusal(alloc: Global, model: &[u8]) -> Result<Vec<u8>, AllocError>
     ensures { IfOk result (λ said. spec.IsSaid model.now said.items) }
@@ -33,7 +33,7 @@ pub fn text_refusal(alloc: Global, model: &[u8]) -> Result<Vec<u8>, AllocError>
     }
 }
 
-/// What the words of a model are refused with, if they are.
+/// The explanation of the refusal of a model's words, empty if they are a program.
 #[tactic(auto, using(crate::proofs::Sayings::of_words))]
 fn said_of_words(alloc: Global, model: &[u8], words: &Words) -> Result<Vec<u8>, AllocError>
     ensures { IfOk result (λ said. spec.AreSaid model.now words.now said.items) }
@@ -54,7 +54,7 @@ fn all_numbered(alloc: Global, words: &Words) -> Result<Words, AllocError>
     numbered_words(alloc, words, words.list.len())
 }
 
-/// What the words of a model are refused with, by this rule at the word with this number.
+/// The explanation of the refusal of a model's words by this rule at the word with this number.
 #[tactic(auto, using(crate::proofs::Sayings::of_rules))]
 fn said_of_rule(
     alloc: Global,
@@ -73,7 +73,7 @@ fn said_of_rule(
     Ok(text)
 }
 
-/// Judges what could stand behind these words of a model, if it is not too long.
+/// Judges each candidate after these words of a model, if the model is not too long.
 #[tactic(auto, using(crate::proofs::Sayings::of_judgements))]
 fn judge_behind(alloc: Global, model: &[u8], mut front: Words) -> Result<Vec<Judgement>, AllocError>
     ensures { IfOk result (λ judged. spec.AreJudged model.now front judged.items) }
@@ -84,7 +84,7 @@ fn judge_behind(alloc: Global, model: &[u8], mut front: Words) -> Result<Vec<Jud
     judge_all(alloc, &mut front)
 }
 
-/// The words behind which it is judged what could stand.
+/// The words after which the candidates are judged.
 fn front_of(
     alloc: Global,
     words: &Words,
@@ -99,7 +99,7 @@ fn front_of(
     numbered_words(alloc, words, number)
 }
 
-/// Appends what is said behind the sentence of a rule at a word.
+/// Appends the text after the sentence of a rule at a word.
 fn push_behind(
     alloc: Global,
     words: &Words,
@@ -139,14 +139,14 @@ fn push_sentence(
     push_source(alloc, text, model, place)
 }
 
-/// How the last of so many words is told.
+/// How the last of the first `count` words is printed.
 fn told_before(alloc: Global, words: &Words, count: usize) -> Result<Vec<u8>, AllocError>
     ensures { IfOk result (λ told. told.items ≡ spec.told_before words.now count) }
 {
     last_text(alloc, first_words(words, count))
 }
 
-/// How the word of a number is told: as the last of the words up to it.
+/// How the word with a number is printed: as the last of the words up to it.
 #[tactic(auto, using(crate::proofs::WordLists::nexts))]
 fn told_at(alloc: Global, words: &Words, number: usize) -> Result<Vec<u8>, AllocError>
     ensures { IfOk result (λ told. told.items ≡ spec.told_before words.now (number + 1)) }
@@ -157,7 +157,7 @@ fn told_at(alloc: Global, words: &Words, number: usize) -> Result<Vec<u8>, Alloc
     told_before(alloc, words, number)
 }
 
-/// Appends what could stand at a place, where that is judged.
+/// Appends the list of the candidates that could be at a place, if they are judged.
 fn push_judged(text: &mut Vec<u8>, judged: &[Judgement]) -> Result<(), AllocError>
     ensures { OnOk result (text.new.items ≡ text.old.items ++ spec.judged_text judged.now) }
 {
@@ -167,7 +167,7 @@ fn push_judged(text: &mut Vec<u8>, judged: &[Judgement]) -> Result<(), AllocErro
     }
 }
 
-/// Appends what the word of a number hints at, if there is one.
+/// Appends the hints for the word with a number, if there is one.
 #[tactic(auto, using(crate::proofs::WordLists::gets))]
 fn push_hints_at(
     alloc: Global,
@@ -190,7 +190,7 @@ fn push_hints_at(
     }
 }
 
-/// The first words, so many of them.
+/// The first `count` words.
 #[tactic(auto, using(crate::proofs::WordLists::firsts))]
 fn first_words(words: &Words, count: usize) -> &[Word]
     ensures { map word_at result.now ≡ take count words.now }
@@ -198,7 +198,7 @@ fn first_words(words: &Words, count: usize) -> &[Word]
     &words.list[..count.min(words.list.len())]
 }
 
-/// Appends what could stand in the place of a word, and hints.
+/// Appends the list of the candidates in the place of a word, and hints.
 fn push_unexpected(
     alloc: Global,
     words: &Words,
@@ -214,7 +214,7 @@ fn push_unexpected(
     push_front_hints(alloc, text, judged, first_words(words, number))
 }
 
-/// Appends what could stand at the end of a text, and which blocks are open there.
+/// Appends the list of the candidates at the end of a text, and which blocks are open there.
 fn push_ended(
     alloc: Global,
     words: &Words,

@@ -1,4 +1,4 @@
-//! What is said of a text that a rule L refuses.
+//! The explanation of a model that a rule L refuses.
 ghost use Rattle.std.specs.Prelude.{◌≡◌, ◌-◌, ◌++◌, IfOk, OnOk, slice_index};
 ghost use Rattle.ss_sentences.specs.Breach as breach;
 ghost use Rattle.ss_sentences.specs.Unread as spec;
@@ -11,18 +11,20 @@ use ss_words::characters::{BLANK, CARRIAGE_RETURN, LINE_FEED, STOP, TAB, TILDE};
 use ss_words::{TextRule, without_stops};
 use std::alloc::{AllocError, Global};
 
-/// So many bytes of a run are told, and a mark where it has more. The definitions read these too.
+/// The greatest number of bytes of a run that are printed, and the mark after them if the run has
+/// more. The definitions read these too.
 pub const LONGEST_RUN_TOLD: usize = 40;
 
 pub const CUT_MARK: &[u8] = b"..";
 
-/// What is often meant by a byte that has no meaning. The definitions read this table too.
+/// The hints for a byte that has no meaning: what is often meant by it. The definitions read this
+/// table too.
 pub const BYTE_HINTS: [(u8, &[u8]); 17] = [
     (
         b'/',
-        b"A quotient is DIV.F(x, y), and what is left over MOD.F(x, y).\n",
+        b"A quotient is DIV.F(x, y), and a remainder is MOD.F(x, y).\n",
     ),
-    (b'%', b"What is left over by a division is MOD.F(x, y).\n"),
+    (b'%', b"The remainder of a division is MOD.F(x, y).\n"),
     (
         b'_',
         b"A name is of letters, digits and stops: MEAN.WAIT.\n",
@@ -33,28 +35,22 @@ pub const BYTE_HINTS: [(u8, &[u8]); 17] = [
     ),
     (
         b'"',
-        b"Only the picture of a PRINT is a text: the lines behind it, as they stand.\n",
+        b"Only the picture of a PRINT is a text: the lines after it, as they are.\n",
     ),
     (b'!', b"Unequal is NE, and a comment begins with ''.\n"),
     (b'#', b"A comment begins with ''.\n"),
     (
         b';',
-        b"Nothing parts statements: a new one begins with its first word.\n",
+        b"No sign separates statements: a new one begins with its first word.\n",
     ),
     (
         b':',
-        b"Nothing parts statements: a new one begins with its first word.\n",
+        b"No sign separates statements: a new one begins with its first word.\n",
     ),
-    (b'[', b"A subscript stands in parentheses: SIZE(JOB).\n"),
-    (b']', b"A subscript stands in parentheses: SIZE(JOB).\n"),
-    (
-        b'{',
-        b"What belongs together ends with its word: ALWAYS, LOOP or END.\n",
-    ),
-    (
-        b'}',
-        b"What belongs together ends with its word: ALWAYS, LOOP or END.\n",
-    ),
+    (b'[', b"A subscript is written in parentheses: SIZE(JOB).\n"),
+    (b']', b"A subscript is written in parentheses: SIZE(JOB).\n"),
+    (b'{', b"A block ends with its word: ALWAYS, LOOP or END.\n"),
+    (b'}', b"A block ends with its word: ALWAYS, LOOP or END.\n"),
     (b'&', b"Conditions are joined by AND.\n"),
     (b'|', b"Conditions are joined by OR.\n"),
     (b'^', b"A power is written as a product: X * X.\n"),
@@ -69,24 +65,24 @@ pub const OUTSIDE_HINT: &[u8] =
     b"A text has the characters from the blank to ~, and tabs; no others.\n";
 
 pub const LETTER_HINT: &[u8] =
-    b"It is of a letter outside ASCII, as an accented one: a text has none.\n";
+    b"It is part of a letter outside ASCII, such as an accented one: a text has none.\n";
 
-pub const MARK_HINT: &[u8] = b"A byte order mark stands here: save the text without one.\n";
+pub const MARK_HINT: &[u8] = b"A byte order mark is here: save the text without one.\n";
 
 /// The byte order mark of UTF-8, and the last byte of ASCII.
 pub const BYTE_ORDER_MARK: [u8; 3] = [239, 187, 191];
 
 pub const LAST_OF_ASCII: u8 = 127;
 
-pub const STOP_HINT: &[u8] = b"Values are whole: no digits stand behind a stop.\n";
+pub const STOP_HINT: &[u8] = b"Values are whole numbers: no digits follow a stop.\n";
 
 pub const GREAT_HINT: &[u8] = b"It is greater than the greatest value.\n";
 
-pub const BEHIND_HINT: &[u8] = b"More stands behind it on this line.\n";
+pub const BEHIND_HINT: &[u8] = b"More follows it on this line.\n";
 
 pub const BELOW_HINT: &[u8] = b"Lines below this one: {}.\n";
 
-// ---- what stands there
+// ---- the bytes at the place
 
 /// Appends a byte as it is written, or its number.
 fn push_byte(text: &mut Vec<u8>, byte: u8) -> Result<(), AllocError>
@@ -98,7 +94,7 @@ fn push_byte(text: &mut Vec<u8>, byte: u8) -> Result<(), AllocError>
     push_number(text, usize::from(byte))
 }
 
-/// Appends a run; of a long one the first bytes.
+/// Appends a run; if it is long, its first bytes and a mark.
 fn push_run(text: &mut Vec<u8>, run: &[u8]) -> Result<(), AllocError>
     ensures { OnOk result (text.new.items ≡ text.old.items ++ spec.run_text run.now) }
 {
@@ -116,7 +112,7 @@ fn from_column(line: &[u8], column: usize) -> &[u8]
     &line[column.saturating_sub(1).min(line.len())..]
 }
 
-/// The byte at a column; 0 where there is none.
+/// The byte at a column; 0 if there is none.
 fn byte_at(line: &[u8], column: usize) -> u8
     ensures { result ≡ slice_index line.now (column - 1) }
 {
@@ -126,7 +122,7 @@ fn byte_at(line: &[u8], column: usize) -> u8
     }
 }
 
-/// Appends what the sentence of a rule names first.
+/// Appends the text in the first gap of the sentence of a rule.
 fn push_breach(
     text: &mut Vec<u8>,
     rule: TextRule,
@@ -162,7 +158,7 @@ fn push_breach_sentence(
 
 // ---- hints
 
-/// A last byte that makes the piece behind the last line feed a line.
+/// A last byte that makes the piece after the last line feed a line.
 fn ends_last_line(byte: u8, behind: &[u8]) -> bool
     ensures { result ≡ spec.ends_last_line byte behind.now }
 {
@@ -185,7 +181,7 @@ fn line_count(text: &[u8]) -> usize
     count
 }
 
-/// What is said of a byte that may stand in no line.
+/// The hint for a byte that may be in no line.
 fn outside_hint(byte: u8, rest: &[u8]) -> &'static [u8]
     ensures { result.now ≡ spec.outside_hint byte rest.now }
 {
@@ -198,7 +194,7 @@ fn outside_hint(byte: u8, rest: &[u8]) -> &'static [u8]
     }
 }
 
-/// What is often meant by a byte, with which the rest of its line begins.
+/// The hint at what is often meant by a byte, with which the rest of its line begins.
 fn byte_hint(byte: u8, rest: &[u8]) -> &'static [u8]
     ensures { result.now ≡ spec.byte_hint byte rest.now }
 {
@@ -208,7 +204,7 @@ fn byte_hint(byte: u8, rest: &[u8]) -> &'static [u8]
     outside_hint(byte, rest)
 }
 
-/// Whether a stop stands in a run.
+/// Whether there is a stop in a run.
 fn has_stop(run: &[u8]) -> bool
     ensures { result ≡ spec.has_stop run.now }
 {
@@ -225,7 +221,7 @@ fn number_hint(run: &[u8]) -> &'static [u8]
     GREAT_HINT
 }
 
-/// Whether only blanks and comments stand here.
+/// Whether there are only blanks and comments here.
 #[tactic(auto, unfolding(ss_words::specs::TextBytes::is_blank))]
 fn is_bare(alloc: Global, behind: &[u8]) -> Result<bool, AllocError>
     ensures { IfOk result (λ bare. bare ≡ spec.is_bare behind.now) }
@@ -234,7 +230,7 @@ fn is_bare(alloc: Global, behind: &[u8]) -> Result<bool, AllocError>
     Ok(plain.iter().all(|byte| *byte == BLANK || *byte == TAB))
 }
 
-/// Appends what stands behind THUS or FOLLOWS.
+/// Appends the hint at the text after THUS or FOLLOWS.
 fn push_picture_hint(
     alloc: Global,
     text: &mut Vec<u8>,
@@ -252,14 +248,14 @@ fn push_picture_hint(
     push_filled(text, BELOW_HINT, &count, &count)
 }
 
-/// The line behind the run at its front.
+/// The line after the run at its front.
 fn behind_run(line: &[u8]) -> &[u8]
     ensures { result.now ≡ spec.behind_run line.now }
 {
     &line[run_len(line)..]
 }
 
-/// Appends what the breach of a rule at a column hints at.
+/// Appends the hint for the breach of a rule at a column.
 fn push_breach_hint(
     alloc: Global,
     text: &mut Vec<u8>,
@@ -286,7 +282,7 @@ fn push_breach_hint(
     }
 }
 
-// ---- all that is said
+// ---- the whole explanation
 
 /// The text before its rest.
 fn before_rest<'a>(model: &'a [u8], rest: &[u8]) -> &'a [u8]
@@ -295,7 +291,7 @@ fn before_rest<'a>(model: &'a [u8], rest: &[u8]) -> &'a [u8]
     &model[..model.len().saturating_sub(rest.len())]
 }
 
-/// What is said of a model that a rule L refuses on a line.
+/// The explanation of a model that a rule L refuses on a line.
 #[tactic(auto, unfolding(crate::specs::Unread::unread_text))]
 pub fn unread_said(
     alloc: Global,

@@ -7,10 +7,10 @@ ghost use Rattle.ss_sentences.specs.Wording as spec;
 use ss_words::RunFault;
 
 /// The sentence of each rule on the text and of each rule of the checker, by its code. The first
-/// `{}` stands for what is refused; the second, of L3, for its length, and of a rule P for the word
-/// before it.
+/// `{}` is the place of the words that are refused. The second is for L3 the place of their length,
+/// and for a rule P that of the word before them.
 pub const RULE_SENTENCES: [(&[u8], &[u8]); 22] = [
-    (b"L1", b"The byte {} has no meaning where it stands."),
+    (b"L1", b"The byte {} has no meaning here."),
     (
         b"L2",
         b"{} is no whole number from 0 to 9223372036854775807.",
@@ -18,14 +18,14 @@ pub const RULE_SENTENCES: [(&[u8], &[u8]); 22] = [
     (b"L3", b"{} has {} bytes: a word has at most 80."),
     (
         b"L4",
-        b"Behind {} the line must end, and as many picture lines must follow as PRINT says, 1 to 100.",
+        b"After {} the line must end, and as many picture lines must follow as PRINT says, 1 to 100.",
     ),
     (
         b"L5",
         b"This line of a picture has {} bytes: it may have 132.",
     ),
-    (b"P1", b"{} does not fit behind {}."),
-    (b"P2", b"The text ends behind {}, where no program ends."),
+    (b"P1", b"{} does not fit after {}."),
+    (b"P2", b"The text ends after {}, but the program does not."),
     (
         b"P3",
         b"{} is one more than a limit of the language allows.",
@@ -40,7 +40,7 @@ pub const RULE_SENTENCES: [(&[u8], &[u8]); 22] = [
     ),
     (
         b"C3",
-        b"A name of this statement is used as what it is not.",
+        b"A name of this statement is used as something that it is not.",
     ),
     (
         b"C4",
@@ -64,7 +64,7 @@ pub const RULE_SENTENCES: [(&[u8], &[u8]); 22] = [
     ),
     (
         b"C9",
-        b"This statement sets what cannot be set, or its loop variable is no variable.",
+        b"This statement sets a thing that cannot be set, or its loop variable is no variable.",
     ),
     (
         b"C10",
@@ -73,12 +73,12 @@ pub const RULE_SENTENCES: [(&[u8], &[u8]); 22] = [
     (b"C11", b"No section is MAIN, or this is a second MAIN."),
     (
         b"C12",
-        b"A name of PRIORITY is no event or stands twice, or PRIORITY is given a second time.",
+        b"A name of PRIORITY is no event or is named twice, or PRIORITY is given a second time.",
     ),
-    (b"C13", b"START SIMULATION stands in MAIN alone."),
+    (b"C13", b"START SIMULATION is allowed in MAIN only."),
     (
         b"C14",
-        b"IF FOUND and IF NONE stand directly behind a FIND alone.",
+        b"IF FOUND and IF NONE are allowed directly after a FIND only.",
     ),
 ];
 
@@ -87,12 +87,12 @@ pub const FAULT_SENTENCES: [(u8, &[u8]); 22] = [
     (1, b"A value is out of the range of 64 bits."),
     (2, b"The divisor is 0."),
     (3, b"There is no such entity of that class."),
-    (4, b"The entity stands in a list of this set already."),
-    (5, b"The entity does not stand in this list."),
+    (4, b"The entity is in a list of this set already."),
+    (5, b"The entity is not in this list."),
     (6, b"The set is empty."),
     (
         7,
-        b"The entity cannot end: it stands in a set, or is scheduled.",
+        b"The entity cannot end: it is in a set, or is scheduled.",
     ),
     (8, b"The entity cannot end: a set that it owns has members."),
     (9, b"The event would be due before the clock."),
@@ -107,7 +107,7 @@ pub const FAULT_SENTENCES: [(u8, &[u8]); 22] = [
         b"A count is out of range: CREATE EVERY makes 1 to 10,000, SKIP skips 0 to 1,000.",
     ),
     (14, b"The next member of this loop has left its set."),
-    (15, b"The value behind BY is below 1."),
+    (15, b"The value after BY is below 1."),
     (16, b"The data end too early: a value is missing."),
     (17, b"A piece of the data cannot be taken as a value."),
     (18, b"More than 200 sections would be open at once."),
@@ -124,7 +124,7 @@ pub const FAULT_SENTENCES: [(u8, &[u8]); 22] = [
 ];
 
 /// The sentence of the rule with this code, as `C10`, with `{}` in the place of the words that it
-/// names (docs/SENTENCES.md); empty where no rule has this code.
+/// names (docs/SENTENCES.md); empty if no rule has this code.
 #[tactic(auto, unfolding(crate::specs::Wording::rule_sentence))]
 pub fn rule_sentence(code: &str) -> &'static [u8]
     ensures { result.now ≡ spec.rule_sentence code.now }
@@ -153,7 +153,7 @@ pub fn fault_sentence(fault: RunFault) -> &'static [u8]
     text_beside_number(fault.number(), &FAULT_SENTENCES)
 }
 
-/// The text beside a number in a table; empty where it has none.
+/// The text in the row of a number in a table; empty if there is no such row.
 pub fn text_beside_number(number: u8, mut rows: &'static [(u8, &'static [u8])]) -> &'static [u8]
     ensures { result.now
         ≡ spec.beside_number number (map (λ row. (row.0, row.1.now)) rows.entry.now) }

@@ -162,7 +162,7 @@ ends_by_count m from s last n post before left old told k d e = record {
 
 -- ---- one turn, of its parts
 
--- behind the reading of a request
+-- the turn after the reading of a request
 abbrev turn_of : {S : Type 0} → List ℕ → Request → List Sent → S → Turn S
 turn_of body request sent after = record { body = body; request = request; sent = sent; after = after }
 
@@ -222,7 +222,7 @@ unanswered m from last request n before left after old told new Memory e l h =
     inr (record { body = e.body; said = tt; input = rw l e.input; told = adds_no_more old told new _ e.told h })
 unanswered m from last request n before left after old told new Count e l h = absurd h
 
--- what was asked is answered, or is not
+-- a request that was asked is answered, or is not
 pub step_some : (m : Meaning) (from to : m.State) (request : Request) (post next : PostView)
     (before left after : Option (List ℕ)) (old told new : Option (List Event)) (result : Result Go SessionFault) →
     IsAsked (Some request) (seen_of before left old told) → after ≡ left →

@@ -1,4 +1,4 @@
--- Small streams.
+-- Small streams: two requests, their turns, and the messages that answer them.
 use Rattle.std.specs.Prelude.{ℕ, List, [], ◌∷◌, ◌++◌, codes, decimal}
 use Rattle.ss_messages.specs.Messages.{reply, message_text, reply_text}
 use Rattle.ss_messages.specs.declared.request.Command.TheVariants.{Threads, Disconnect}
@@ -9,7 +9,7 @@ use Rattle.ss_serve.specs.Session.{Turn}
 abbrev pub asked_body : List ℕ
 asked_body = codes "{\"seq\":7,\"command\":\"threads\"}"
 
--- it, behind its head
+-- the first request, after its head
 abbrev pub asked_message : List ℕ
 asked_message = codes "Content-Length: 29\r\n\r\n" ++ asked_body
 
@@ -17,11 +17,11 @@ asked_message = codes "Content-Length: 29\r\n\r\n" ++ asked_body
 abbrev pub left_body : List ℕ
 left_body = codes "{\"seq\":8,\"command\":\"disconnect\"}"
 
--- what the first asks for
+-- the request in the first body
 abbrev pub asked_request : Request
 asked_request = record { number = 7; name = codes "threads"; command = Threads }
 
--- what the second asks for
+-- the request in the second body
 abbrev pub left_request : Request
 left_request = record { number = 8; name = codes "disconnect"; command = Disconnect }
 
@@ -29,14 +29,14 @@ left_request = record { number = 8; name = codes "disconnect"; command = Disconn
 abbrev pub asked_turn : Turn ℕ
 asked_turn = record { body = asked_body; request = asked_request; sent = reply (decimal 0) ∷ []; after = 1 }
 
--- the turn of the second, behind the first
+-- the turn of the second, after the first
 abbrev pub left_turn : Turn ℕ
 left_turn = record { body = left_body; request = left_request; sent = reply (decimal 1) ∷ []; after = 2 }
 
--- what is written for the first
+-- the message that is written for the first
 abbrev pub asked_reply : List ℕ
 asked_reply = message_text (reply_text 1 7 (codes "threads") (decimal 0))
 
--- what is written for the second
+-- the message that is written for the second
 abbrev pub left_reply : List ℕ
 left_reply = message_text (reply_text 2 8 (codes "disconnect") (decimal 1))

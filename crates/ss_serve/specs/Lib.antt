@@ -1,3 +1,4 @@
+-- The modules of a session: its channel, its turns and its ends, and small examples.
 pub mod Meaning
 pub mod Channels
 pub mod Seen

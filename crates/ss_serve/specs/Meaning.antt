@@ -1,4 +1,4 @@
--- What an answerer means.
+-- The meaning of an answerer: its states, its answers, and the requests that end a session.
 use Rattle.std.specs.Prelude.{◌≡◌, Bool, List}
 use Rattle.ss_console.specs.Going.{go_of}
 use Rattle.ss_console.specs.declared.answerer.Go.{Go}
@@ -14,7 +14,7 @@ pub record Meaning : Type 1 where
   -- whether a request ends the session
   pub ends : Request → Bool
 
--- what an answerer posted for a request is one answer to it
+-- the messages that an answerer posted for a request are one answer to it
 pub record IsAnswer (m : Meaning) (from to : m.State) (request : Request) (old new : PostView) (go : Go) : Type 0 where
   -- the messages
   pub sent : List Sent

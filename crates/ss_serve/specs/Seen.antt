@@ -1,18 +1,18 @@
--- What is seen of a channel before and behind a call.
+-- The view of a channel before and after a call.
 use Rattle.std.specs.Prelude.{ℕ, List, Option}
 use Rattle.ss_console.specs.Event.{Event}
 
--- what is seen of a channel before and behind a call
+-- the view of a channel before and after a call
 pub record Seen : Type 0 where
-  -- the bytes that were left to read, where they are told
+  -- the bytes that were left to read, if they are shown
   pub before : Option (List ℕ)
-  -- those that are left
+  -- the bytes that are left after the call
   pub after : Option (List ℕ)
-  -- what had happened, where it is told
+  -- the events before the call, if they are shown
   pub old : Option (List Event)
-  -- what has happened
+  -- the events up to the end of the call
   pub new : Option (List Event)
 
--- the same, of its parts
+-- the view from its four parts
 abbrev pub seen_of : Option (List ℕ) → Option (List ℕ) → Option (List Event) → Option (List Event) → Seen
 seen_of before after old new = record { before = before; after = after; old = old; new = new }

@@ -1,5 +1,5 @@
--- A session: from the bytes of a stream to messages, from messages to turns, from turns to what is written; and how it
--- ends.
+-- A session: from the bytes of a stream to messages, from messages to turns, from turns to the
+-- bytes that are written; and how it ends.
 use Rattle.std.specs.Prelude.{ℕ, ◌≡◌, ◌⊎◌, ◌-◌, ◌^◌, ◌≤◌, true, false, List, [], ◌∷◌, ◌++◌, length, map}
 use Rattle.std.specs.Prelude.{Option, Some, None, option_and_then, Result, Ok, Err}
 use Rattle.std.specs.Str.{IsUtf8}
@@ -18,13 +18,13 @@ use Rattle.ss_serve.specs.declared.session.TheConstants.{MOST_SENT}
 
 -- ---- from bytes to messages
 
--- the bytes of a stream begin with messages of these bodies; these stand behind them
+-- the bytes of a stream begin with messages of these bodies; these bytes come after them
 unfoldable pub BeginsWith : List ℕ → List (List ℕ) → List ℕ → Type 0
 BeginsWith text [] rest = rest ≡ text
 BeginsWith text (body ∷ bodies) rest =
     (more : List ℕ) × (first_message text ≡ message body more) × BeginsWith more bodies rest
 
--- the same of a stream that is told
+-- a stream that is shown begins with messages of these bodies, and these bytes come after them
 abbrev pub Gives : Option (List ℕ) → Option (List ℕ) → List (List ℕ) → Type 0
 Gives before after bodies =
     (text : List ℕ) → before ≡ Some text → (rest : List ℕ) × (after ≡ Some rest) × BeginsWith text bodies rest
@@ -39,22 +39,22 @@ request_in body = option_and_then request_of (read_json body)
 abbrev pub IsNoRequest : List ℕ → Type 0
 IsNoRequest body = (¬ (IsUtf8 body)) ⊎ (request_in body ≡ None)
 
--- a turn: a body that was read, what it asks for, what is sent for that, and the state behind it
+-- a turn: a body that was read, its request, the messages sent for it, and the state after it
 pub record Turn (S : Type 0) : Type 0 where
   -- the body
   pub body : List ℕ
-  -- what it asks for
+  -- its request
   pub request : Request
-  -- what is sent
+  -- the messages that are sent
   pub sent : List Sent
-  -- the state behind it
+  -- the state after it
   pub after : S
 
 -- a turn is made in a state
 pub record IsTurn (m : Meaning) (state : m.State) (turn : Turn m.State) : Type 0 where
-  -- its request is what its body asks for
+  -- its request is the one in its body
   pub asks : request_in turn.body ≡ Some turn.request
-  -- it is answered with what is sent, and leads to the state behind
+  -- it is answered with the messages that are sent, and leads to the state after it
   pub answers : m.Answers state turn.request turn.sent turn.after
 
 -- turns are made one after the other, and none of them ends the session
@@ -63,14 +63,14 @@ AreTurns m state [] = Unit {0}
 AreTurns m state (turn ∷ turns) =
     IsTurn m state turn × (m.ends turn.request ≡ false) × AreTurns m turn.after turns
 
--- the state behind some turns
+-- the state after some turns
 unfoldable pub state_after : {S : Type 0} → S → List (Turn S) → S
 state_after s [] = s
 state_after s (turn ∷ turns) = state_after turn.after turns
 
--- ---- from turns to what is written
+-- ---- from turns to the bytes that are written
 
--- the messages of a turn, numbered behind n others
+-- the messages of a turn, numbered after n others
 abbrev pub messages_of : {S : Type 0} → ℕ → Turn S → PostView
 messages_of n turn = posted_all turn.request (record { sent = n; bytes = [] }) turn.sent
 
@@ -78,21 +78,21 @@ messages_of n turn = posted_all turn.request (record { sent = n; bytes = [] }) t
 abbrev pub turn_events : {S : Type 0} → ℕ → Turn S → List Event
 turn_events n turn = read turn.body ∷ write_events (messages_of n turn).bytes
 
--- those of some turns, one after the other
+-- the events of some turns, one after the other
 unfoldable pub events : {S : Type 0} → ℕ → List (Turn S) → List Event
 events n [] = []
 events n (turn ∷ turns) = turn_events n turn ++ events (messages_of n turn).sent turns
 
--- how many messages are sent behind them
+-- how many messages are sent after them
 unfoldable pub sent_after : {S : Type 0} → ℕ → List (Turn S) → ℕ
 sent_after n [] = n
 sent_after n (turn ∷ turns) = sent_after (messages_of n turn).sent turns
 
--- ---- how it ends, behind k turns that lead to state s, when n messages are sent
+-- ---- how it ends, after k turns that lead to state s, when n messages are sent
 
 -- the stream is at its end, and nothing more happened
 pub record EndsByStream (m : Meaning) (s last : m.State) (seen : Seen) : Type 0 where
-  -- the answerer stays where it is
+  -- the answerer stays in its state
   pub state : last ≡ s
   -- no byte is left
   pub input : IsRead None seen.before seen.after
@@ -107,7 +107,7 @@ pub record EndsByRequest (m : Meaning) (s last : m.State) (n : ℕ) (seen : Seen
   pub made : IsTurn m s turn
   -- it ends the session
   pub ends : m.ends turn.request ≡ true
-  -- the answerer is where it leads
+  -- the answerer is in the state to which the turn leads
   pub state : last ≡ turn.after
   -- its body was read
   pub input : IsRead (Some turn.body) seen.before seen.after
@@ -118,14 +118,14 @@ pub record EndsByRequest (m : Meaning) (s last : m.State) (n : ℕ) (seen : Seen
 pub record EndsAtBody (seen : Seen) (P : List ℕ → Type 0) : Type 0 where
   -- its body
   pub body : List ℕ
-  -- what is said of it
+  -- a statement on the body
   pub said : P body
   -- it was read
   pub input : IsRead (Some body) seen.before seen.after
   -- and that is all
   pub told : Adds seen.old seen.new (read body ∷ [])
 
--- a part of what answers a request was written
+-- a part of the messages that answer a request was written
 pub record EndsInAnswer (m : Meaning) (state : m.State) (n : ℕ) (seen : Seen) : Type 0 where
   -- its turn
   pub turn : Turn m.State
@@ -133,16 +133,16 @@ pub record EndsInAnswer (m : Meaning) (state : m.State) (n : ℕ) (seen : Seen) 
   pub made : IsTurn m state turn
   -- its body was read
   pub input : IsRead (Some turn.body) seen.before seen.after
-  -- what had happened then
+  -- the events up to then
   pub heard : Option (List Event)
   -- that its body was read
   pub hears : Adds seen.old heard (read turn.body ∷ [])
   -- a part of its messages was written
   pub told : AddsPart (messages_of n turn).bytes heard seen.new
 
--- by what it ends: the stream or a request; no message, or one that is no request; a reading that failed, or a stream
--- that is cut; a writing that failed; memory that was refused, before or behind a reading; the count of messages or of
--- turns
+-- the end by its kind: the stream or a request; no message, or one that is no request; a reading
+-- that failed, or a stream that is cut; a writing that failed; memory that was refused, before or
+-- after a reading; the count of messages or of turns
 abbrev pub EndsBy : (m : Meaning) → m.State → m.State → ℕ → ℕ → Seen → Result (Unit {0}) SessionFault → Type 0
 EndsBy m state last k n seen (Ok done) = EndsByStream m state last seen ⊎ EndsByRequest m state last n seen
 EndsBy m state last k n seen (Err NoRequest) =
@@ -152,22 +152,22 @@ EndsBy m state last k n seen (Err CannotWrite) = EndsInAnswer m state n seen
 EndsBy m state last k n seen (Err Memory) = Adds seen.old seen.new [] ⊎ EndsAtBody seen (λ body. Unit {0})
 EndsBy m state last k n seen (Err Count) = ((MOST_SENT ≤ n) ⊎ (k ≡ 2 ^ 64 - 1)) × Adds seen.old seen.new []
 
--- a whole session from a state, when n messages are sent, to another: turns, and what ends it behind them
+-- a whole session from a state, when n messages are sent, to another: turns, and the end after them
 pub record HasEnded (m : Meaning) (from last : m.State) (n : ℕ) (c : Seen) (result : Result (Unit {0}) SessionFault) :
     Type 0 where
   -- the turns
   pub turns : List (Turn m.State)
-  -- the bytes that were left behind them
+  -- the bytes that were left after them
   pub left : Option (List ℕ)
-  -- what had happened then
+  -- the events up to then
   pub told : Option (List Event)
   -- they are made from the first state on
   pub made : AreTurns m from turns
   -- their bodies are those of the messages with which the stream begins, in order
   pub messages : Gives c.before left (map (λ turn. turn.body) turns)
-  -- what happened are their events, in order: each body is read, and what answers it written, before the next is read
+  -- the events are those of the turns, in order: each body is answered before the next is read
   pub tells : Adds c.old told (events n turns)
-  -- what ends it behind them
+  -- the end after them
   pub ends :
       EndsBy m (state_after from turns) last (length turns) (sent_after n turns)
       (record { before = left; after = c.after; old = told; new = c.new }) result

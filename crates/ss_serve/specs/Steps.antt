@@ -29,7 +29,7 @@ NoneAsked n seen CannotWrite = ⊥
 NoneAsked n seen Memory = Adds seen.old seen.new [] ⊎ EndsAtBody seen (λ body. Unit {0})
 NoneAsked n seen Count = (MOST_SENT ≤ n) × Adds seen.old seen.new []
 
--- some messages that answer a request, numbered behind n others
+-- some messages that answer a request, numbered after n others
 abbrev pub messages_for : ℕ → Request → List Sent → PostView
 messages_for n request sent = posted_all request (record { sent = n; bytes = [] }) sent
 
@@ -47,7 +47,7 @@ pub record IsAnswered (m : Meaning) (from to : m.State) (request : Request) (n :
   -- the session goes on unless the request ends it
   pub goes : go ≡ go_of (m.ends request)
 
--- why it was not
+-- why a request was not answered
 abbrev pub Unanswered : (m : Meaning) → m.State → Request → ℕ → Option (List Event) → Option (List Event) →
     SessionFault → Type 0
 Unanswered m from request n old new CannotWrite =

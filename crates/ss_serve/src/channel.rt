@@ -1,4 +1,4 @@
-//! Where a session is held.
+//! The interface of a channel: the source and the destination of a session's messages.
 ghost use Rattle.std.specs.Prelude.{◌≡◌, ℕ, [], Err, List, Option, option_map, IfOk, OnOk, OnErr};
 ghost use Rattle.ss_console.specs.Event.{Event, Adds, write_events};
 ghost use Rattle.ss_console.specs.Puts.{AddsPart};
@@ -24,12 +24,12 @@ pub enum Side {
     Output,
 }
 
-/// Where a session is held: messages come from it, and go to it.
+/// A channel, over which a session is held: messages come from it, and go to it.
 pub trait Channel {
-    // what happened so far, in order, where the channel tells it
+    // the events so far, in order, if the channel shows them
     ghost log: { Self → Option (List Event) };
 
-    // the bytes that are still to be read, where the channel tells them
+    // the bytes that are still to be read, if the channel shows them
     ghost left: { Self → Option (List ℕ) };
 
     // the side on which a call failed last, if one did

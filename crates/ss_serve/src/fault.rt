@@ -1,13 +1,13 @@
-//! What ends a session before its end.
+//! The faults that end a session before its end.
 use crate::channel::SendFault;
 use ss_messages::{FrameFault, RequestFault};
 use std::alloc::AllocError;
 use thiserror::Error;
 
-/// What ends a session before its end.
+/// A fault that ends a session before its end.
 #[derive(Clone, Copy, Debug, Drop, PartialEq, Eq, Error)]
 pub enum SessionFault {
-    /// What came is no message, or no request.
+    /// The bytes that came are no message, or no request.
     #[error("no request")]
     NoRequest,
     /// The channel can't be read, or ends within a message.

@@ -1,5 +1,5 @@
-//! The session of an editor over a channel: a message is read, and what answers it written whole,
-//! before the next is read.
+//! The session of an editor over a channel: a message is read, and the messages that answer it are
+//! written whole, before the next is read.
 #![tactic(auto)]
 
 mod answerer;

@@ -1,4 +1,4 @@
-//! A channel over memory.
+//! A channel over memory: the messages of a text in, and the entries of the events out.
 ghost use Rattle.std.specs.Prelude.{◌≡◌, ◌⊎◌, ◌+◌, ◌<◌, [], length, min, None, Some, Err, option_map};
 ghost use Rattle.std.specs.Prelude.{IfOk, OnOk, OnErr};
 ghost use Rattle.std.specs.Vec.{vec_capacity};
@@ -13,9 +13,9 @@ use ss_console::{Entry, note_written};
 use ss_messages::{FrameFault, split_message};
 use std::alloc::Global;
 
-/// A channel over memory, which tells what happened. Its messages are those of a text; it takes as
-/// many bytes as it has room for, and then none. A writing fails only where there is no room, or
-/// where what it tells of the call has none and cannot grow.
+/// A channel over memory, which shows its events. Its messages are those of a text. It takes as
+/// many bytes as it has room for, and then none. A writing fails only if there is no room, or if
+/// its entries have none and the memory for entries cannot grow.
 #[derive(Drop)]
 pub struct MemoryChannel<'a> {
     alloc: Global,
@@ -42,7 +42,7 @@ impl<'a> MemoryChannel<'a> {
         }
     }
 
-    /// What happened, in order.
+    /// The entries so far, in order.
     pub fn entries(&self) -> &[Entry<'a>]
         ensures { result.now ≡ self.now.entries.items }
     {

@@ -1,4 +1,4 @@
-//! A session over a channel.
+//! The session itself: the loop of request and answer over a channel.
 ghost use Rattle.std.specs.Prelude.{◌≡◌, ◌<◌, ◌^◌, [], IfOk, IfErr, OnOk};
 ghost use Rattle.ss_serve.specs.Faults.{broken_after};
 ghost use Rattle.ss_serve.specs.Seen.{seen_of};
@@ -12,7 +12,7 @@ use ss_console::Go;
 use ss_messages::{Post, Request, read_request};
 use std::alloc::Global;
 
-/// The most messages that are sent: their numbers are exact where numbers are floats.
+/// The most messages that are sent: up to this, their numbers are exact as floats too.
 const MOST_SENT: u64 = 1 << 53;
 
 /// The next request, for which there are numbers left. `None` at the end of the stream.
@@ -33,7 +33,7 @@ fn next_request<C: Channel>(channel: &mut C, post: &Post) -> Result<Option<Reque
     }
 }
 
-/// Answers a request: all that it is answered with is written.
+/// Answers a request: all messages that answer it are written.
 fn answer_request<A: Answerer, C: Channel>(
     answerer: &mut A,
     channel: &mut C,
@@ -94,8 +94,10 @@ fn answer_all<A: Answerer, C: Channel>(
     Err(SessionFault::Count)
 }
 
-/// Reads messages from a channel and answers them there: each is answered whole before the next is
-/// read, and nothing is written beside. It ends with the request that ends it, or with the stream.
+/// Reads messages from a channel and answers them there.
+///
+/// Each message is answered whole before the next is read, and nothing else is written. The session
+/// ends with the request that ends it, or with the stream.
 pub fn serve<A: Answerer, C: Channel>(
     alloc: Global,
     answerer: &mut A,

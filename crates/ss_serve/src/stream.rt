@@ -1,4 +1,4 @@
-//! A channel over a reader and a writer.
+//! A channel over streams, for a program with standard input and output.
 ghost use Rattle.std.specs.Prelude.{◌≡◌, None, OnOk, OnErr};
 ghost use Rattle.std.specs.Io.KnownBytes.{Appends};
 ghost use Rattle.ss_console.specs.Event.{Adds, write_events};
@@ -10,8 +10,8 @@ use ss_messages::{FrameFault, read_message};
 use std::alloc::Global;
 use std::io::{Read, Write};
 
-/// A channel over a reader and a writer, such as standard input and output. It tells the bytes that
-/// are left where its reader does, and no events.
+/// A channel over a reader and a writer, such as standard input and output. It shows the bytes that
+/// are left if its reader does, and it shows no events.
 #[derive(Drop)]
 pub struct StreamChannel<R: Read + Drop, W: Write + Drop> {
     alloc: Global,
@@ -51,7 +51,7 @@ impl<R: Read + Drop, W: Write + Drop> Channel for StreamChannel<R, W> {
         read
     }
 
-    // The trait's clauses, and what the writer holds.
+    // The trait's clauses, and the contents of the writer.
     fn send(&mut self, bytes: &[u8]) -> Result<(), SendFault>
         ensures ok { OnOk result (Adds None None (write_events bytes.now)) }
         ensures err { OnErr result (AddsPart bytes.now None None) }

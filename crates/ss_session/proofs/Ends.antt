@@ -1,4 +1,4 @@
--- How a session ends, from how its parts end, and what follows from that.
+-- How a session ends, from how its parts end, and the consequences of that.
 use Rattle.std.proofs.Common.{◌≡◌, ℕ, ◌+◌, ◌<◌, ◌↔◌, inl, inr, List, [], refl, sym, ap, subst, arith, ◌∙◌}
 use Rattle.std.proofs.Common.{Option, Result, Ok, Err}
 use Rattle.std.specs.Io.KnownBytes.{Appends}
@@ -26,7 +26,7 @@ use Rattle.ss_session.specs.Private.{fault_of, LineEnds, TurnsEnd, ProgramEnds, 
 use Rattle.ss_session.specs.Transcript.{refusal_line, program_transcript, transcript, end_of, ends_faulted}
 use Rattle.ss_session.specs.Session.{Writes, EndsBy, IsWhole, count_failed, SessionSays}
 
--- a debugger over a machine at its start is where a session begins
+-- a debugger over a machine at its start is in the state in which a session begins
 pub start_is : (h : DebuggerView) → h.machine.steps ≡ [] → h.machine.forgotten ≡ 0 → h.breaks ≡ [] →
     debugger_state_of h ≡ initial_debugger_state
 start_is h none kept unbroken = rw (none, kept, unbroken) refl
@@ -54,7 +54,7 @@ pub check_written : (x : Texts) (old new : Option (List ℕ)) (f g : ℕ) (rule 
 unfolding SessionEnds
 check_written x old new f g rule line o h = ((rule, line, o), (refused_check rule line, o, h.0), h.1)
 
--- how it ends where that line is cut short
+-- how a session ends if that line is cut short
 pub line_cut : (x : Texts) (old new : Option (List ℕ)) (f g : ℕ) (o : Outcome) (k : Cut) → IsOutcome x.model o →
     LineEnds (Err k) (transcript o x) old new f g → SessionEnds (Err (fault_of k)) x old new f g
 unfolding SessionEnds LineEnds
@@ -81,7 +81,7 @@ unfolding SessionEnds ProgramEnds
 program_cut x old new f g t cut.Memory o h = (inr (t, o, h.0), h.1)
 program_cut x old new f g t cut.Write o h = ((accepted t, o, h.0), h.1)
 
--- ---- what follows from how a session ends
+-- ---- consequences of how a session ends
 
 session_written : (r : Result End SessionFault) (x : Texts) (old new : Option (List ℕ)) (f g : ℕ) →
     SessionEnds r x old new f g → Writes r x old new
@@ -169,7 +169,7 @@ accepted_end (Err Check) x old new f g h w b = (λ e. absurd (cc), λ k. absurd 
 accepted_end (Err Memory) x old new f g h w b = absurd w
 accepted_end (Err Write) x old new f g h w b = absurd w
 
--- what every session says, from how it ends
+-- the statements about every session, from how it ends
 pub session_says : (r : Result End SessionFault) (x : Texts) (old new : Option (List ℕ)) (f g : ℕ) →
     SessionEnds r x old new f g →
     SessionSays r x (record { taken = old; failures = f }) (record { taken = new; failures = g })

@@ -36,7 +36,7 @@ value n = expr None (term (named n) no_products) no_sums
 abbrev x : Reference
 x = record { name = codes "X"; subscript = None }
 
--- statements one behind the other
+-- statements, one after the other
 abbrev block_of : List Simple → Block
 block_of [] = no_statements
 block_of (a ∷ rest) = statement (alone (simple a)) (block_of rest)
@@ -54,7 +54,7 @@ the_local i = checked.expr None (checked.term (checked.variable (Local i)) check
 abbrev spot : ℕ → Place → Spot
 spot l p = record { line = l; place = p }
 
--- a program of MAIN alone, on line 1
+-- a program of MAIN only, on line 1
 abbrev of_main : List (List ℕ) → List Spot → ProgramTable
 of_main locals places = record {
   globals = [];

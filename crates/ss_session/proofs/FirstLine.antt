@@ -19,7 +19,7 @@ before_more_at x b true parts = refl
 before_more_at x b false [] = refl
 before_more_at x b false (part ∷ parts) = refl
 
--- what stands before another piece is a line, whatever it is
+-- the part before another piece is a line, whatever it is
 before_more : (x : List ℕ) (p : ℕ → Bool) (more : List ℕ) →
     without_empty_last (x ∷ slice_split p more) ≡ x ∷ without_empty_last (slice_split p more)
 unfolding without_empty_last
@@ -57,7 +57,7 @@ first_line_if false xs w e =
     let d : after_first (separates line_separators) xs ≡ [] = grind (arith, common_steps) in
     rw (slice_split_none (separates line_separators) xs a, b, d, last_line xs w) refl
 
--- the first line, and those behind it
+-- the first line, and the lines after it
 pub lines_first : (rest line more : List ℕ) → is_written rest ≡ true →
     line ≡ before_first (separates line_separators) rest → more ≡ after_first (separates line_separators) rest →
     command_lines rest ≡ line ∷ command_lines more

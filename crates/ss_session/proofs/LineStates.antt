@@ -1,4 +1,4 @@
--- The lines of a session in turn: the state behind them, and what is written of their answers.
+-- The lines of a session in turn: the state after them, and the written part of their answers.
 use Rattle.std.proofs.Common.{◌≡◌, ℕ, ◌+◌, ◌≤◌, Bool, true, false, List, [], ◌∷◌, ◌++◌, length, refl, arith, ◌∙◌}
 use Rattle.std.proofs.Common.{sym, ap, Err, append_assoc, append-nil, Option, length-append}
 use Rattle.std.proofs.Math.Seq.{take-append_seam, take-append-add}
@@ -110,12 +110,12 @@ go_quit : (c : Command) → go.Quit ≡ go_of c → is_quit c ≡ true
 go_quit Quit e = refl
 go_quit _ e = absurd (cc)
 
--- behind a line that is not QUIT the next ones are obeyed
+-- after a line that is not QUIT the next lines are obeyed
 pub obeyed_on : (line : List ℕ) (more : List (List ℕ)) → go.On ≡ go_of (command_of line) →
     obeyed_lines (line ∷ more) ≡ line ∷ obeyed_lines more
 obeyed_on line more e = rw (go_on (command_of line) e) refl
 
--- behind QUIT none
+-- after QUIT no line is obeyed
 pub obeyed_quit : (line : List ℕ) (more : List (List ℕ)) → go.Quit ≡ go_of (command_of line) →
     obeyed_lines (line ∷ more) ≡ line ∷ []
 obeyed_quit line more e = rw (go_quit (command_of line) e) refl

@@ -1,4 +1,4 @@
--- The refusal of a whole program is that of its preamble, or else that of the sections behind it.
+-- The refusal of a whole program is that of its preamble, or else that of the sections after it.
 use Rattle.std.proofs.Common.{◌≡◌, inl, inr, ℕ, zero, suc, ◌+◌, ◌-◌, ◌≤◌, ◌<◌, true, List, [], ◌∷◌, ◌++◌}
 use Rattle.std.proofs.Common.{length, length-append, take, drop, Option, Some, None, Result, Ok, Err, refl, sym, ap}
 use Rattle.std.proofs.Common.{subst, ◌∙◌, append_assoc, arith, le-leb}
@@ -123,7 +123,7 @@ module _ {A : Type 0} (sp : A → List Plain) (ws : List Plain) where
     | greater h ↦ absurd (no_more j k b h a.inside a.reached)
   ]
 
-  -- what is spelled is refused nowhere
+  -- words that are spelled are refused nowhere
   spelled : (k : ℕ) (t : A) → ws ≡ sp t → IsFarthest sp ws k → ⊥
   spelled k t e far = far.no_further t (drop k ws) (sym e ∙ sym (take-append-drop k ws)) refl
 
@@ -150,7 +150,7 @@ no_sections = inl ([], within, [], refl)
       sections = omega arith;
     }
 
--- where no word stands behind the preamble's, the sections' are within the limits
+-- if no word comes after the preamble's words, the words of the sections are within the limits
 none_behind : (k n : ℕ) (us : List Plain) → k ≤ n → sections.InRoom (take (k - n) us)
 none_behind k n us le =
     subst (λ (i : ℕ). sections.InRoom (take i us)) (let h : 0 ≡ k - n = omega (arith, le) in h) no_sections
@@ -268,7 +268,7 @@ module _ (ws : List Plain) (begins : HasPreamble ws) where
         ∙ take_at (spelling.spell items) x (length (spelling.spell items)) refl)),
   )
 
--- what stands behind the words of the preamble is refused as the whole is
+-- the words after the preamble's words are refused as the whole is
 record Behind (ws : List Plain) (n : ℕ) : Type 0 where
   pub inside : n ≤ length ws
   pub head : IsHead ws n
@@ -475,7 +475,7 @@ module _ (ws : List PlainAt) (n : ℕ) (b : Behind (plains ws) n) where
   line_at : (k : ℕ) → line (lines (drop n ws)) k ≡ line (lines ws) (n + k)
   line_at k = line_behind n k ws (let le = b.inside in omega (arith, le, length_of ws))
 
-  -- the words behind the preamble's, as plain words
+  -- the words after the preamble's words, as plain words
   plain : (P : List Plain → Type 0) → P (plains (drop n ws)) → P (drop n us)
   plain P h = subst P (plains_behind n ws) h
 
@@ -543,7 +543,7 @@ module _ (ws : List PlainAt) (n : ℕ) (b : Behind (plains ws) n) where
   in_sections rule.NoPicture l h = absurd h
   in_sections rule.LongPictureLine l h = absurd h
 
-  -- sections within the limits behind it are refused nowhere
+  -- sections within the limits after the preamble are refused nowhere
   module _ (t : Tree) (w : sections.IsWithin t) (e : drop n us ≡ grammar.spell t) where
     nowhere : (k : ℕ) → IsFarthest spell us k → ⊥
     nowhere k far = let (u, is_so) = b.whole t e in spelled spell us k u is_so far

@@ -1,4 +1,4 @@
--- A program has its spelling alone.
+-- A program has only its own spelling.
 use Rattle.std.proofs.Common.{◌≡◌, ◌++◌, Option, Some, None, sym, ap}
 use Rattle.ss_preamble.specs.Tree.{Preamble}
 use Rattle.ss_preamble.specs.Laws.{Program, spell_head}
@@ -13,7 +13,7 @@ use Rattle.ss_session.proofs.Refusals.{none_begins}
 made_of : Option Preamble → Tree → Program Tree
 made_of o s = record { preamble = o; sections = s }
 
--- what begins with PREAMBLE is spelled by no sections
+-- words that begin with PREAMBLE are spelled by no sections
 no_sections : (p : Preamble) (s r : Tree) → grammar.spell s ≡ spell_head (Some p) ++ grammar.spell r → ⊥
 no_sections p s r e = none_begins s (has_preamble (grammar.spell s) p (grammar.spell r) e)
 

@@ -38,7 +38,7 @@ filter_all p every (x ∷ xs) = rw (every x, filter_all p every xs) refl
 all_words : (ws : List PlainAt) → words_from 0 ws ≡ ws
 all_words ws = filter_all _ (λ w. search rules) ws
 
--- where there is no preamble, nothing is declared
+-- if there is no preamble, nothing is declared
 nothing : (ps : List PlainAt) → (HasPreamble (plains ps) → ⊥) → AreDecls no_decls 0 ps
 nothing ps none = inl (none, refl, refl)
 

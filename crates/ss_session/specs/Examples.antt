@@ -35,7 +35,7 @@ overflow = codes "MAIN\nLET X = 9223372036854775807\nADD 1 TO X\nEND\n"
 abbrev pub two_values : List ℕ
 two_values = codes "MAIN\nPRINT 1 LINE WITH X, Y THUS\n*.**\nEND\n"
 
--- a word behind the last END
+-- a word after the last END
 abbrev pub word_behind : List ℕ
 word_behind = codes "MAIN\nEND\nLOOP\n"
 
@@ -80,7 +80,7 @@ OldStepsAreForgotten = HasTranscript five
     ++ codes "HALTED: STATE 3 CLOCK 0 STOPPED IN MAIN LINE 5\n"
     ++ codes "DONE: STATE 1 CLOCK 0 READY IN MAIN LINE 3\nKEPT 0\nX = 5\nREPORT\n")
 
--- a fault stands at its statement and assigns nothing
+-- a fault is at its statement and assigns nothing
 abbrev pub OverflowStands : Type 0
 OverflowStands = HasTranscript overflow (codes "STEP 5\nSHOW VAR X\nBACK 2\nSHOW VAR X\n")
     (codes "HALTED: STATE 2 CLOCK 0 FAULT F1 IN MAIN LINE 3\nX = 9223372036854775807\n"
@@ -94,7 +94,7 @@ WrongPictureIsRefused = AlwaysHasTranscript two_values (codes "MODEL REFUSED C10
 abbrev pub EmptyTextIsRefused : Type 0
 EmptyTextIsRefused = AlwaysHasTranscript (codes "") (codes "MODEL REFUSED C11 LINE 1\n")
 
--- a word that begins no section is refused by P1, behind the last END
+-- a word that begins no section is refused by P1, after the last END
 abbrev pub WordBehindEndIsRefused : Type 0
 WordBehindEndIsRefused = AlwaysHasTranscript word_behind (codes "MODEL REFUSED P1 LINE 3\n")
 

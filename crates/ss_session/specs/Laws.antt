@@ -1,5 +1,5 @@
--- Laws on what models are: each has exactly one outcome, a program has its spelling alone, and is refused in one of its
--- parts.
+-- Laws on models: each model has exactly one outcome. A program has only its own spelling, and is
+-- refused in one of its parts.
 use Rattle.std.specs.Prelude.{◌≡◌, ◌⊎◌, ℕ, List}
 use Rattle.ss_words.specs.declared.fault.TextRule.{TextRule}
 use Rattle.ss_words.specs.Words.{WordAt}
@@ -27,7 +27,7 @@ OutcomeIsUnique = (model : List ℕ) (a b : Outcome) → IsOutcome model a → I
 abbrev pub ProgramSpellingIsUnique : Type 0
 ProgramSpellingIsUnique = (t u : Program Tree) → spell t ≡ spell u → t ≡ u
 
--- plain words are refused in their preamble, or else in the sections behind it
+-- plain words are refused in their preamble, or else in the sections after it
 abbrev pub IsRefusedInPart : TextRule → ℕ → List PlainAt → Type 0
 IsRefusedInPart rule line ws =
     preamble.IsRefused rule line ws

@@ -1,3 +1,4 @@
+-- The modules of a session: a model's outcome, the transcript, the end, and the laws on them.
 pub mod Outlet
 pub mod Exit
 pub mod Refused

@@ -1,4 +1,4 @@
--- What the reading of a model tells where it gives no program.
+-- The fault that the reading of a model reports if it gives no program.
 use Rattle.std.specs.Prelude.{ℕ, List}
 use Rattle.ss_words.specs.declared.fault.TextFault.{TextFault}
 use Rattle.ss_words.specs.declared.fault.TextFault.TheVariants as text
@@ -18,7 +18,7 @@ abbrev pub load_fault_of_check : CheckFault → LoadFault
 load_fault_of_check (check.Broken rule line) = load.Check rule line
 load_fault_of_check check.Memory = load.Memory
 
--- a fault of the reading tells the model's refusal, unless memory was refused
+-- a fault of the reading reports the model's refusal, unless memory was refused
 abbrev pub IsLoadFault : LoadFault → List ℕ → Type 0
 IsLoadFault (load.Text rule line) model = IsOutcome model (refused_text rule line)
 IsLoadFault (load.Check rule line) model = IsOutcome model (refused_check rule line)

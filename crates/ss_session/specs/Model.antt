@@ -1,4 +1,4 @@
--- What a model is: refused by a rule at a line, or a program.
+-- The outcome of a model: refused by a rule at a line, or a program.
 use Rattle.std.specs.Prelude.{◌≡◌, ◌⊎◌, ℕ, List, Some, None, Ok, Err}
 use Rattle.ss_words.specs.declared.fault.TextRule.{TextRule}
 use Rattle.ss_words.specs.declared.fault.TextFault.TheVariants.{Refused}
@@ -22,7 +22,7 @@ pub data Outcome : Type 0 where
   refused_check : CheckRule → ℕ → Outcome
   accepted : ProgramTable → Outcome
 
--- plain words are a preamble or none, which declares this, and these sections behind it
+-- plain words are a preamble or none, which gives these declarations, and then these sections
 abbrev pub AreProgram : Decls → List Section → List PlainAt → Type 0
 AreProgram declarations sections ws =
     (number : ℕ) × AreDecls declarations number ws × AreSections sections (words_from number ws)

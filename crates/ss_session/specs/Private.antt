@@ -27,9 +27,9 @@ pub record IsWrittenSoFar (t : Input) (start : DebuggerState) (lines rest : List
   pub done_lines : List (List ℕ)
   -- the others are still to come
   pub split : lines ≡ done_lines ++ rest
-  -- the debugger is in the state behind them
+  -- the debugger is in the state after them
   pub place : now ≡ debugger_state_after_lines t start done_lines
-  -- their answers are put behind what was written
+  -- their answers are put after the bytes that were written
   pub said : Appends old new (answers t start done_lines)
 
 -- one turn over a program, by how it ends

@@ -1,5 +1,5 @@
--- What a whole program is refused with: by the farthest word of its one spelling, and by the limits of preambles and
--- sections.
+-- The refusal of a whole program: by the farthest word of its one spelling, and by the limits of
+-- preambles and sections.
 use Rattle.std.specs.Prelude.{◌≡◌, ◌<◌, ◌⊎◌, ℕ, ◌+◌, ◌-◌, List, ◌++◌, length, take, drop}
 use Rattle.ss_words.specs.declared.fault.TextRule.{TextRule}
 use Rattle.ss_words.specs.declared.fault.TextRule.TheVariants.{UnexpectedWord, UnexpectedEnd, PastLimit}
@@ -22,20 +22,20 @@ spell = spell_program grammar.spell
 abbrev pub Begins : List Plain → Type 0
 Begins ws = (t : Program Tree) × (x : List Plain) × (spell t ≡ ws ++ x)
 
--- the first n words count to the limits of preambles: none where no preamble begins; those of the preamble; where none
--- is whole, those before its farthest word
+-- the first n words count to the limits of preambles: none if no preamble begins; the words of the
+-- preamble; if none is whole, the words before its farthest word
 abbrev pub IsHead : List Plain → ℕ → Type 0
 IsHead ws n = ((HasPreamble ws → ⊥) × (n ≡ 0)) ⊎ (HasPreamble ws × CountUpTo ws n)
 
--- the words before number k are within the limits: of the preamble, and behind it of the sections
+-- the words before number k are within the limits: of the preamble, and after it of the sections
 pub record InRoom (ws : List Plain) (k : ℕ) : Type 0 where
   -- the words of the preamble
   pub size : ℕ
   -- they are those that count to its limits
   pub head : IsHead ws size
-  -- what they count to
+  -- their roles are within these limits
   pub preamble_within : AreWithin (take k (roles (take size ws)))
-  -- the words behind them
+  -- the words after them
   pub behind : sections.InRoom (take (k - size) (drop size ws))
 
 -- Word k passes a limit: the words before it are within the limits, and with it they begin programs, but aren't.

@@ -1,4 +1,4 @@
--- The texts of a session, and what an outlet tells.
+-- The texts of a session, and the state of an outlet.
 use Rattle.std.specs.Prelude.{ℕ, List, Option}
 use Rattle.ss_program.specs.Program.{ProgramTable}
 use Rattle.ss_state.specs.Run.{Input, input_with}
@@ -22,9 +22,9 @@ input_of texts program = input_with program texts.data_text
 abbrev pub obeyed_commands : Texts → List (List ℕ)
 obeyed_commands texts = obeyed_lines (command_lines texts.commands)
 
--- what an outlet tells
+-- the state of an outlet
 pub record OutletState : Type 0 where
-  -- the bytes that it took, where it tells them
+  -- the bytes that it took, if it shows them
   pub taken : Option (List ℕ)
   -- how many of its calls failed
   pub failures : ℕ

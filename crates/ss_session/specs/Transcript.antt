@@ -1,4 +1,4 @@
--- What a session writes.
+-- The text that a session writes.
 use Rattle.std.specs.Prelude.{ℕ, Bool, List, ◌∷◌, [], ◌++◌, codes, decimal, if◌then◌else◌}
 use Rattle.ss_words.specs.Faults.{text_rule_code}
 use Rattle.ss_check.specs.CheckRules.{check_rule_code}
@@ -24,7 +24,7 @@ unfoldable pub program_transcript : Input → List (List ℕ) → List ℕ
 program_transcript input lines =
     answers input initial_debugger_state lines ++ report_text input (last_position input lines)
 
--- the transcript of a session, by what its model is
+-- the transcript of a session, by the outcome of its model
 abbrev pub transcript : Outcome → Texts → List ℕ
 transcript (refused_text rule line) texts = refusal_line (text_rule_code rule) line
 transcript (refused_check rule line) texts = refusal_line (check_rule_code rule) line

@@ -1,4 +1,4 @@
--- What was written of the answers of a session that was cut short.
+-- The written part of the answers of a session that was cut short.
 use Rattle.std.specs.Prelude.{ℕ, ◌≤◌, List, length, take, Option}
 use Rattle.std.specs.Io.KnownBytes.{Appends}
 use Rattle.ss_state.specs.Run.{Input}
@@ -11,7 +11,7 @@ pub record WritesFirst (t : Input) (start : DebuggerState) (lines : List (List �
   pub count : ℕ
   -- there are as many
   pub within : count ≤ length lines
-  -- their answers are put behind what was written
+  -- their answers are put after the bytes that were written
   pub said : Appends old new (answers t start (take count lines))
 
 -- a prefix of a text
@@ -20,5 +20,5 @@ pub record WritesPart (text : List ℕ) (old new : Option (List ℕ)) : Type 0 w
   pub count : ℕ
   -- the text is as long
   pub within : count ≤ length text
-  -- it is put behind what was written
+  -- it is put after the bytes that were written
   pub said : Appends old new (take count text)

@@ -1,3 +1,4 @@
+//! A session over an accepted program: its commands are obeyed, then the report is written.
 ghost use Rattle.std.specs.Prelude.{◌≡◌, ◌+◌, ◌-◌, ◌^◌, ◌<◌, ◌++◌, [], OnOk, OnErr};
 ghost use Rattle.std.specs.Io.KnownBytes.{Appends};
 ghost use Rattle.ss_debug.specs.CommandLines.{command_lines};

@@ -1,3 +1,4 @@
+//! The ends of a session, and the exit status of each.
 ghost use Rattle.std.specs.Prelude.{◌≡◌};
 ghost use Rattle.ss_session.specs.Exit.{status_of};
 
@@ -43,7 +44,7 @@ pub enum End {
     RunFault,
 }
 
-/// Why a session does not end so.
+/// Why a session does not end with an `End`.
 #[derive(Clone, Copy, Debug, Drop, PartialEq, Eq, Error)]
 pub enum SessionFault {
     /// The model's text is refused, by a rule L or P.
@@ -85,8 +86,8 @@ impl From<Cut> for SessionFault {
     }
 }
 
-/// The program's exit status for the end of a session: 0 done, 2 where the outlet failed, 3 for a
-/// refused model, 4 where the last state is faulted, 5 where memory was refused.
+/// The program's exit status for the end of a session: 0 done, 2 if the outlet failed, 3 for a
+/// refused model, 4 if the last state is faulted, 5 if memory was refused.
 pub fn exit_status(outcome: &Result<End, SessionFault>) -> u8
     ensures { result ≡ status_of outcome.now }
 {

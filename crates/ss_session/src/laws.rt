@@ -9,13 +9,13 @@ pub fn model_has_one_outcome()
     ensures unique { OutcomeIsUnique }
 {}
 
-/// The refusal of a program's plain words, by the farthest word of preamble and sections together,
-/// is that of the preamble, or, where that is read, that of the sections behind it.
+/// The refusal of a program's plain words, by the farthest word of preamble and sections together.
+/// It is the refusal of the preamble, or, if the preamble is read, that of the sections after it.
 pub fn program_is_refused_in_one_part()
     ensures { ProgramIsRefusedInPart }
 {}
 
-/// No two programs have one spelling, whether a preamble stands before their sections or none.
+/// No two programs have one spelling, with or without a preamble before their sections.
 pub fn program_spelling_is_unique()
     ensures { ProgramSpellingIsUnique }
 {}

@@ -1,5 +1,5 @@
-//! What a model is read into is let go by calls, so that a crate that reads one has no ends of its
-//! own of all that is owned there.
+//! Calls that let go the values that a model is read into, so that a crate that reads one has no
+//! ends of its own of all that is owned there.
 use ss_preamble::Decls;
 use ss_words::Words;
 

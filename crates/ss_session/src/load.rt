@@ -1,3 +1,4 @@
+//! Reads a model into a program, or gives the rule and the line by which the model is refused.
 ghost use Rattle.std.specs.Prelude.{IfOk, IfErr};
 ghost use Rattle.ss_session.specs.Model.{accepted, IsOutcome};
 ghost use Rattle.ss_session.specs.Load.{IsLoadFault};

@@ -1,3 +1,4 @@
+//! The destination of a transcript: the trait, an outlet over memory, and the writing of a text.
 ghost use Rattle.std.specs.Prelude.{◌≡◌, ℕ, ◌+◌, ◌-◌, ◌<◌, ◌≤◌, ◌^◌, ◌++◌, List, [], length, take, drop, Option, Some};
 ghost use Rattle.std.specs.Prelude.{None, OnOk, OnErr, IfOk};
 ghost use Rattle.std.specs.Io.KnownBytes.{Appends};
@@ -13,9 +14,9 @@ use thiserror::Error;
 #[error("cannot write")]
 pub struct PutFault;
 
-/// Where a transcript goes: takes bytes in order, and counts the calls that took none.
+/// The destination of a transcript: takes bytes in order, and counts the calls that took none.
 pub trait Outlet {
-    // the bytes taken so far, where the outlet tells them
+    // the bytes taken so far, if the outlet shows them
     ghost taken: { Self → Option (List ℕ) };
 
     // how many calls failed
@@ -32,8 +33,8 @@ pub trait Outlet {
         ensures counts { failures self.new ≡ failures self.old + failure_count result };
 }
 
-/// An outlet over memory, which tells what it took. A call takes its whole piece; where its room is
-/// too small for that and cannot grow, it fails and takes nothing.
+/// An outlet over memory, which shows the bytes that it took. A call takes its whole piece. If its
+/// room is too small for the piece and cannot grow, the call fails and takes nothing.
 #[derive(Drop)]
 pub struct MemoryOutlet {
     bytes: Vec<u8>,
@@ -52,7 +53,7 @@ impl MemoryOutlet {
         }
     }
 
-    /// What was taken so far.
+    /// The bytes that were taken so far.
     pub fn bytes(&self) -> &[u8]
         ensures { result.now ≡ self.now.bytes.items }
     {

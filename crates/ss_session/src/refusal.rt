@@ -1,3 +1,4 @@
+//! The one line that a session writes for a refused model.
 ghost use Rattle.std.specs.Prelude.{◌≡◌, IfOk};
 ghost use Rattle.ss_session.specs.Transcript.{refusal_line};
 

@@ -1,3 +1,4 @@
+//! The turns of a session: each line of the commands is obeyed, and its whole answer written.
 ghost use Rattle.std.specs.Prelude.{◌≡◌, ◌+◌, ◌-◌, ◌^◌, ◌<◌, false};
 ghost use Rattle.ss_debug.specs.CommandLines.{command_lines};
 ghost use Rattle.ss_debug.specs.Turn.{obeyed_lines};

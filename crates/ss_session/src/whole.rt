@@ -1,3 +1,4 @@
+//! Whole sessions, for callers: from a model, its data and the commands to the transcript.
 ghost use Rattle.std.specs.Prelude.{◌≡◌, ◌-◌, ◌^◌, ◌<◌, [], IfOk, IfErr};
 ghost use Rattle.ss_links.specs.Board.{empty_board};
 ghost use Rattle.ss_state.specs.Run.{input_with, run};
@@ -33,8 +34,8 @@ fn refuse<W: Outlet>(alloc: Global, code: &str, line: usize, out: &mut W) -> Res
     Ok(())
 }
 
-/// The machine at the start of a program's run over its data (docs/LANGUAGE.md). Its sets and its
-/// pending notices stand on `sets` and `pending`, boards without heads and seats.
+/// The machine at the start of a program's run over its data (docs/LANGUAGE.md). Its sets are kept
+/// on `sets` and its pending notices on `pending`, boards without heads and seats.
 pub fn machine<S: SetBoard>(
     alloc: Global,
     program: Program,
@@ -120,14 +121,14 @@ fn session_by_cases<S: SetBoard, W: Outlet>(
     }
 }
 
-/// Runs a model over its data under the debugger's commands (docs/DEBUGGER.md), and writes what
-/// they answer, each answer before the next command is obeyed, and the report last. The run keeps
-/// its sets on `sets` and its pending notices on `pending`, boards without heads and seats.
+/// Runs a model over its data under the debugger's commands (docs/DEBUGGER.md), and writes their
+/// answers, each before the next command is obeyed, and the report last. The run keeps its sets on
+/// `sets` and its pending notices on `pending`, boards without heads and seats.
 ///
-/// `Ok` where the model is a program and all was written: `RunFault` where its last state is
-/// faulted, else `Done`. `Text` and `Check` where the model is refused, once its line is written.
-/// `Write` where `out` counted a failure; nothing more is put then. `Memory` where a growth was
-/// refused; what was written are the whole answers of the first lines.
+/// The result is `Ok` if the model is a program and all was written: `RunFault` if its last state
+/// is faulted, else `Done`. It is `Text` or `Check` if the model is refused, once its line is
+/// written. It is `Write` if `out` counted a failure; nothing more is put then. It is `Memory` if a
+/// growth was refused; the written text is then the whole answers of the first lines.
 ///
 /// The memory of the run is not given back: it is for a program that then ends.
 pub fn session_over<S: SetBoard, W: Outlet>(
@@ -150,14 +151,14 @@ pub fn session_over<S: SetBoard, W: Outlet>(
     session_by_cases(alloc, sets, pending, model, data_text, commands, out)
 }
 
-/// Runs a model over its data under the debugger's commands (docs/DEBUGGER.md), and writes what
-/// they answer, each answer before the next command is obeyed, and the report last. Its sets and
-/// its pending notices stand on boards of linked nodes.
+/// Runs a model over its data under the debugger's commands (docs/DEBUGGER.md), and writes their
+/// answers, each before the next command is obeyed, and the report last. Its sets and its pending
+/// notices are kept on boards of linked nodes.
 ///
-/// `Ok` where the model is a program and all was written: `RunFault` where its last state is
-/// faulted, else `Done`. `Text` and `Check` where the model is refused, once its line is written.
-/// `Write` where `out` counted a failure; nothing more is put then. `Memory` where a growth was
-/// refused; what was written are the whole answers of the first lines.
+/// The result is `Ok` if the model is a program and all was written: `RunFault` if its last state
+/// is faulted, else `Done`. It is `Text` or `Check` if the model is refused, once its line is
+/// written. It is `Write` if `out` counted a failure; nothing more is put then. It is `Memory` if a
+/// growth was refused; the written text is then the whole answers of the first lines.
 ///
 /// The memory of the run is not given back: it is for a program that then ends.
 pub fn session<W: Outlet>(

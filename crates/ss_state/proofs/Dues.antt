@@ -130,14 +130,14 @@ time_not_first x y o h = chosen (int_lt x y) (cond (int_lt y x) Greater Equal) h
     chosen true r k = cc
     chosen false r k = refl
 
--- not before what is not before
+-- not before a time that is not before another is not before that one either
 not_before : (x y z : ℤ) → int_lt y x ≡ false → int_lt z y ≡ false → int_lt z x ≡ false
 not_before x y z h k = grind (arith, ints)
 
 same_time : (x : ℤ) → int_lt x x ≡ false
 same_time x = grind (arith, ints)
 
--- what is first of two notices is before neither
+-- no notice is before the least one
 least_from : (rules : List Rule) (n : Pending) (ms : List Pending) →
     (int_lt n.time (least_of rules n ms).time ≡ false) × AreNotBefore (least_of rules n ms).time ms
 least_from rules n [] = (same_time n.time, tt)
@@ -175,7 +175,7 @@ left_not_before time k (e ∷ es) b = chosen (e.notice == k) (left_not_before ti
     chosen true r = r
     chosen false r = (b.0, r)
 
--- what holds of each notice holds of the least
+-- a property of each notice is a property of the least
 pub least_of_each : (P : Pending → Type 0) (rules : List Rule) (n : Pending) (ms : List Pending) → P n → Each P ms →
     P (least_of rules n ms)
 least_of_each P rules n [] h e = h
@@ -199,7 +199,7 @@ least_due p clock st rules (e ∷ es) n h d =
     subst (λ (l : Pending). IsDue p clock st l) f (least_of_each (IsDue p clock st) rules e es d.0
     (each_due p clock st es d.1))
 
--- what holds of each of them holds of the least
+-- a property of each of them is a property of the least
 pub least_each : (P : Pending → Type 0) (rules : List Rule) (es : List Pending) (n : Pending) →
     least rules es ≡ Some n → Each P es → P n
 least_each P rules [] n h e = cc
@@ -208,7 +208,7 @@ least_each P rules (x ∷ es) n h e =
 
 -- ---- the least is pending
 
--- it stands among the notices
+-- it is among the notices
 abbrev Stands : List Pending → Pending → Type 0
 Stands es n = pending_at es n.notice ≡ Some n
 
@@ -289,7 +289,7 @@ told : (o : Option Pending) (n : Pending) (k : ℕ) (x : Slot) → o ≡ Some n 
     ◌≡◌ {A = Option (ℕ × Slot)} (Some (k, x)) (option_map (λ e. (e.notice, slot_of e)) o)
 told o n k x e f g = rw (e, f, g) refl
 
--- the least, as it is told
+-- the least, as the agenda gives it
 pub least_told : (rules : List Rule) (es : List Pending) (k : ℕ) (x : Slot) → IsRising 0 es →
     Some k ≡ option_map (λ e. e.notice) (least rules es) →
     Some x ≡ option_map slot_of (pending_at es k) →

@@ -19,7 +19,7 @@ clash {b} e f = cc
 
 -- ---- pending notices
 
--- what is pending is so with one notice more
+-- a pending notice stays pending with one notice more
 pub pending_more : (k : ℕ) (n : Pending) (es : List Pending) → is_some (pending_at es k) ≡ true →
     is_some (pending_at (with_notice n es) k) ≡ true
 pending_more k n [] h = absurd (none h)
@@ -66,7 +66,7 @@ pending_new n (e ∷ es) = chosen (nat_lt n.notice e.notice) (pending_new n es)
     chosen true r = first (n.notice == n.notice) (eq-eqb n.notice n.notice refl)
     chosen false r = later (e.notice == n.notice) r
 
--- what is pending is so with another notice less
+-- a pending notice stays pending with another notice less
 pub pending_less : (k j : ℕ) (es : List Pending) → (k == j) ≡ false → is_some (pending_at es k) ≡ true →
     is_some (pending_at (without_notice j es) k) ≡ true
 pending_less k j [] n h = h

@@ -5,7 +5,7 @@ use Rattle.std.proofs.Common.{Some, slice_get, get_or}
 use Rattle.std.proofs.lemmas.List.{get_or-reverse, length-reverse}
 use Rattle.std.proofs.lemmas.Option.{slice_get-get_or}
 
--- what stands at a place from the end
+-- the element at a place from the end
 pub from_end : {A : Type 0} (xs : List A) (k : ℕ) → 0 < k → k ≤ length xs →
     slice_get (reverse xs) (k - 1) ≡ slice_get xs (length xs - k)
 from_end [] k h w = absurd (omega arith)
@@ -20,7 +20,7 @@ from_end (x ∷ xs) k h w =
     ∙ ap (λ i. get_or (x ∷ xs) i x) at)
     ∙ sym (slice_get-get_or (x ∷ xs) (length (x ∷ xs) - k) x there)
 
--- what stands below the last frame
+-- the element below the last frame
 pub below_last : {A : Type 0} (x : A) (xs : List A) (k : ℕ) → 0 < k → slice_get (x ∷ xs) k ≡ slice_get xs (k - 1)
 below_last x xs zero h = absurd (omega arith)
 below_last x xs (suc k) h = let same : suc k - 1 ≡ k = omega arith in rw same refl

@@ -100,11 +100,11 @@ module _ (p : ProgramTable) where
     subst (λ (fs : List FrameState). HaveTheirLoops p fs) (sym c) k,
   )
 
-  -- the phrases around the place where the last frame stands
+  -- the phrases around the place of the last frame
   abbrev Around : State → List ℕ
   Around s = phrases_around (Places s.frame.section) s.frame.place
 
-  -- the last frame stands at no phrase, or at one
+  -- whether the place of the last frame is a phrase
   abbrev IsAtPhrase : State → Bool → Type 0
   IsAtPhrase s b = is_at (Places s.frame.section) is_phrase s.frame.place ≡ b
 
@@ -267,7 +267,7 @@ module _ (p : ProgramTable) where
 
   -- ---- the other places
 
-  -- what is said of a place and its ways where the last frame stands
+  -- the nesting of a place with its ways, at the place of the last frame
   abbrev IsNestedHere : State → Ways → Place → Type 0
   IsNestedHere s w x = is_nested (Places s.frame.section) s.frame.place w x ≡ true
 

@@ -43,7 +43,7 @@ earlier_first ps i k (suc j) h = chosen (is_around ps i j) (earlier_first ps i k
 pub around_first : (ps : List Spot) (i : ℕ) → IsNotFirst i (phrases_around ps i)
 around_first ps i = earlier_first ps i i i (omega arith)
 
--- ---- what may be open, by its two cases
+-- ---- the loops that may be open, by the two cases
 
 abbrev pub Enters : List Spot → List ℕ → ℕ → Type 0
 Enters ps js n = (js ≡ phrases_around ps n) ⊎ ((is_at ps is_phrase n ≡ true) × (js ≡ n ∷ phrases_around ps n))

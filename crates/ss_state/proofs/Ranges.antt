@@ -18,7 +18,7 @@ use Rattle.ss_words.specs.Ranges.{in_range}
 use Rattle.ss_values.specs.Values.{quotient_value, remainder_value}
 use Rattle.ss_state.specs.Well.{AreInRange, IsStoreInRange}
 
--- what holds of a value that was got
+-- a property of a value that was read
 abbrev pub Got : {A : Type 0} → (A → Type 0) → Result A RunFault → Type 0
 Got P (Ok x) = P x
 Got P (Err e) = Unit {0}
@@ -32,7 +32,7 @@ pub anything : {A : Type 0} (r : Result A RunFault) → Got (λ (_ : A). Unit {0
 anything (Ok x) = tt
 anything (Err e) = tt
 
--- what comes after a refusal
+-- the result after a test that may refuse
 pub unless_refused : {A : Type 0} (P : A → Type 0) (b : Bool) (f : RunFault) (r : Result A RunFault) → Got P r →
     Got P (refuse_if b f >> r)
 unless_refused P true f r h = tt

@@ -1,4 +1,4 @@
--- what is left of a loop over targets once one of them is assigned
+-- the rest of a loop over targets when one of them is assigned
 use Rattle.std.proofs.Common.{◌≡◌, ℕ, ℤ, pos, ◌+◌, List, ◌∷◌, drop, Result, Ok, Err, refl, ap, sym, subst, ◌∙◌}
 use Rattle.std.specs.Prelude.{slice_index_or}
 use Rattle.ss_words.specs.declared.fault.RunFault.{RunFault}

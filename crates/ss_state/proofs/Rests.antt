@@ -1,4 +1,4 @@
--- What assignments, entities and sets leave as it was.
+-- The parts of a state that assignments, entities and sets leave as they were.
 use Rattle.std.proofs.Common.{◌≡◌, ℕ, ℤ, ◌+◌, List, [], ◌∷◌, Result, Ok, Err, refl, ◌∙◌}
 use Rattle.std.specs.Prelude.{pos, slice_index_or, int_lt}
 use Rattle.ss_words.specs.declared.fault.RunFault.{RunFault}
@@ -43,7 +43,7 @@ use Rattle.ss_state.specs.Statements.Timing.{state_after_scheduling, state_after
 use Rattle.ss_state.specs.Statements.Timing.{state_after_schedule, agenda_without, state_after_cancel}
 use Rattle.ss_state.proofs.Ranges.{Got, after_got, anything}
 
--- the section, the place and the open loops of the last frame, the frames below it, and what is read of the data
+-- the section, place and open loops of the last frame, the frames below it, and the data stay
 pub record LeavesRest (s t : State) : Type 0 where
   pub section : t.frame.section ≡ s.frame.section
   pub place : t.frame.place ≡ s.frame.place
@@ -67,7 +67,7 @@ then_got : (s t : State) (r : Result State RunFault) → LeavesRest s t → Got 
 then_got s t (Ok u) h k = rest_then s t u h k
 then_got s t (Err e) h k = tt
 
--- what comes after a value that was got
+-- the result after a value that was read
 after_value : {A : Type 0} (s : State) (r : Result A RunFault) (f : A → Result State RunFault) →
     ((x : A) → Got (LeavesRest s) (f x)) →
     Got (LeavesRest s) (r >>= f)
@@ -142,7 +142,7 @@ filing_rest t s (Remove e r) =
 agenda_rest : (s : State) (a : Agenda) → LeavesRest s (state_with_agenda s a)
 agenda_rest s a = record { section = refl; place = refl; loops = refl; below = refl; feed = refl }
 
--- what comes after a test that was passed
+-- the result after a test that was passed
 after_test : (s : State) (r : Result (Unit {0}) RunFault) (q : Result State RunFault) → Got (LeavesRest s) q →
     Got (LeavesRest s) (r >> q)
 after_test s (Ok x) q h = h

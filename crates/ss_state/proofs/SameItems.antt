@@ -163,7 +163,7 @@ simulation_items : (p : ProgramTable) (s : State) (next : ℕ) (o : Option Pendi
 simulation_items p s next None = refl
 simulation_items p s next (Some n) = got_items (HasItemsOf s) s _ _ (start_items p s n.notice n.class n.time) (λ r h. h)
 
--- what comes after a load, which takes a name and a time
+-- the result after a load, which takes a name and a time
 arrival_items : (p : ProgramTable) (s : State) (c : ℕ) (time : ℤ) → Got (HasItemsOf s) (state_after_arrival p s c time)
 arrival_items p s c time =
     after_got (λ (_ : Store). Unit {0}) (HasItemsOf s) (refuse_if (int_lt time s.clock) TimeBeforeClock >> with_new

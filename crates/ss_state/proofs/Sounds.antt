@@ -1,4 +1,4 @@
--- what is sound about each place of a program
+-- the soundness of each place of a program
 use Rattle.std.proofs.Common.{◌≡◌, ℕ, zero, suc, ◌+◌, ◌<◌, ◌≤◌, List, [], ◌∷◌, length, true, Option, Some, None}
 use Rattle.std.proofs.Common.{arith, refl, ap, sym, subst, ◌∙◌}
 use Rattle.std.specs.Prelude.{map, slice_get, unwrap_or}
@@ -23,13 +23,13 @@ use Rattle.ss_program.specs.ProgramSound.{IsSoundEvent, IsSoundKind}
 use Rattle.ss_state.specs.State.{FrameState}
 use Rattle.ss_state.specs.ChangeCounts.{call_targets, call_targets_by, yield_count}
 
--- what stands at a place of a list that is long enough
+-- the element at a place of a list that is long enough
 pub there : {A : Type 0} (xs : List A) (i : ℕ) → i < length xs → (x : A) × (slice_get xs i ≡ Some x)
 there [] i h = absurd (omega (arith, h))
 there (x ∷ xs) zero h = (x, refl)
 there (x ∷ xs) (suc i) h = there xs i (omega (arith, h))
 
--- a place at which something stands is in the list
+-- a place that has an element is in the list
 pub within : {A : Type 0} (xs : List A) (i : ℕ) (x : A) → slice_get xs i ≡ Some x → i < length xs
 within [] i x e = cc
 within (y ∷ xs) zero x e = omega arith
@@ -51,7 +51,7 @@ pub ended_some : (ps : List Spot) → IsEnded ps → 0 < length ps
 ended_some [] h = absurd h
 ended_some (p ∷ ps) h = omega arith
 
--- what the places of section number i may name
+-- the tables that the places of section number i may name rows of
 abbrev scope_by : ProgramTable → Option SectionTable → Scope
 scope_by p o = record {
   globals = length p.globals;
@@ -105,7 +105,7 @@ spot_linked_of p i j spot (Some s) h e f =
     subst (λ (n : ℕ). IsLinkedPlace p.sections (length s.places) (ways_of s.places n spot.place) spot.place) z
     (linked_place p.sections s.places s.places 0 j spot (linked_section p.sections p.sections i s h.linked e) f)
 
--- where a place of a program goes on is in its section
+-- the ways on from a place of a program are in its section
 pub spot_linked : (p : ProgramTable) (i j : ℕ) (spot : Spot) → IsSound p → spot_at p i j ≡ Some spot →
     IsLinkedPlace p.sections (length (places_of (slice_get p.sections i)))
     (ways_of (places_of (slice_get p.sections i)) j spot.place) spot.place
@@ -265,7 +265,7 @@ spot_timed_of p i j spot None h e f = cc
 spot_timed_of p i j spot (Some s) h e f =
     timed_place p s s.places j spot (section_sound _ p.sections i s h.sections e).timed f
 
--- what schedules notices and starts events is of the program's classes and in MAIN
+-- scheduled notices are of the program's event classes, and events start in MAIN
 pub spot_timed : (p : ProgramTable) (i j : ℕ) (spot : Spot) → IsSound p → spot_at p i j ≡ Some spot →
     IsTimed p (section_of p i) spot.place
 spot_timed p i j spot h e = spot_timed_of p i j spot (slice_get p.sections i) h refl e
@@ -297,7 +297,7 @@ event_within p c e = found (slice_get p.classes c) refl e
     found None f g = cc
     found (Some t) f g = within p.classes c t f
 
--- what an event class has is sound
+-- the further parts of an event class are sound
 pub event_there : (p : ProgramTable) (c : ℕ) → IsSound p → is_event (class_of p c).kind ≡ true →
     IsSoundEvent p (length (class_of p c).attributes) (event_of p c)
 event_there p c sound e =

@@ -1,4 +1,4 @@
--- what is known where notices are scheduled and events start
+-- the facts known when notices are scheduled and events start
 use Rattle.std.proofs.Common.{◌≡◌, ◌<◌, ℕ, ℤ, suc, pos, List, [], ◌∷◌, length, Bool, true, false}
 use Rattle.std.proofs.Common.{Option, Some, None, Result, Ok, arith, refl, sym, ap, subst, ◌∙◌}
 use Rattle.std.specs.Prelude.{map, is_some, ◌==◌, if◌then◌else◌}
@@ -139,7 +139,7 @@ start_left p s m u w new f k c i v time x xs st a b d e g h j l = rw (e, d, b, a
 
 -- ---- the notice that is the least
 
--- it is what is read
+-- the least notice is the one that is read
 pub least_is : (o : Option Pending) (k : ℕ) (x : Slot) →
     ◌≡◌ {A = Option (ℕ × Slot)} (Some (k, x)) (option_map (λ e. (e.notice, slot_of e)) o) →
     (n : Pending) × (o ≡ Some n) × (k ≡ n.notice) × (x ≡ slot_of n)
@@ -192,7 +192,7 @@ least_positive p s n w h =
 
 -- ---- arrivals
 
--- what the data name is an event class
+-- the class that the data name is an event class
 pub arrival_event : (p : ProgramTable) (o : Option Item) (c : ℕ) → external_class p o ≡ Some c → IsEventClass p c 0
 arrival_event p o c h =
     let e = named_well p o c h in

@@ -1,4 +1,4 @@
--- entities stay where others are made, changed or ended
+-- entities stay when others are made, changed or ended
 use Rattle.std.proofs.Common.{◌≡◌, ◌≢◌, ◌<◌, ◌≤◌, ℕ, ℤ, zero, suc, ◌-◌, arith, refl, ap, ◌∙◌, length-append, List, []}
 use Rattle.std.proofs.Common.{◌∷◌, ◌++◌, Bool, true, false, Option, Some, None, Result, Ok, Err}
 use Rattle.std.specs.Prelude.{length, replicate, slice_get, slice_set, slice_index_or, not, ◌==◌, ◌&&◌, nat_lt, nat_le}
@@ -117,7 +117,7 @@ filed_stays s st o k how =
     (Ok (with_list s st o (filed_in s st how k (members_of s st o))))
     (list_stays s.owner s.list st o (filed_in s st how k (members_of s st o)))))))
 
--- what is left after a REMOVE
+-- the store after a REMOVE
 abbrev pub LeavesThere : Store → ℕ × Store → Type 0
 LeavesThere st r = Stays st r.1
 

@@ -162,7 +162,7 @@ filed_well s st o k how h =
     (Ok (with_list s st o (filed_in s st how k (members_of s st o))))
     (listed_in s st o (filed_in s st how k (members_of s st o)) h)))))
 
--- what is left after a REMOVE
+-- the store after a REMOVE
 abbrev pub LeavesInRange : ℕ × Store → Type 0
 LeavesInRange r = IsStoreInRange r.1
 

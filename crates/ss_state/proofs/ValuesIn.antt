@@ -105,7 +105,7 @@ mutual
   least_in v x (exprs e es) h p =
       after_got IsIn IsIn (value_of v e) _ (value_in v e h) (λ y q. least_in v (int_min x y) es h (min_in x y p q))
 
--- what an assignment assigns
+-- the value that an assignment assigns
 pub assigned_value_in : (v : Readings) (a : Assign) → AreIn v → Got IsIn (assigned_value v a)
 assigned_value_in v (Let b x e) h = value_in v e h
 assigned_value_in v (Add e x) h =

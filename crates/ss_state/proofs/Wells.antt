@@ -55,7 +55,7 @@ use Rattle.ss_state.proofs.Wells.Timing.{cancel_well, schedule_well}
 use Rattle.ss_state.proofs.Wells.Simulating.{started_well}
 use Rattle.ss_state.proofs.Wells.Reading.{went_read}
 
--- what schedules notices and starts events, where the last frame stands
+-- statements that schedule notices and start events, at the place of the last frame
 timed_here : (p : ProgramTable) (s : State) (spot : Spot) (x : Place) → IsSound p →
     spot_at p s.frame.section s.frame.place ≡ Some spot →
     spot.place ≡ x → IsTimed p (section_of p s.frame.section) x

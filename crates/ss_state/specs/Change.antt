@@ -1,4 +1,4 @@
--- What is noted of a change, and how it is taken back.
+-- The note of a change, and how a change is taken back.
 use Rattle.std.specs.Prelude.{ℕ, ℤ, Bool, Option, ◌<◌, ◌≤◌, List, [], ◌∷◌, length, take, drop, slice_set}
 use Rattle.ss_state.specs.declared.entry.Entry as entries
 use Rattle.ss_state.specs.declared.status.Status as statuses
@@ -13,11 +13,12 @@ use Rattle.ss_state.specs.declared.limits.TheConstants.{MOST_BELOW}
 use Rattle.ss_state.specs.State.{State, FrameState}
 use Rattle.ss_state.specs.State as states
 
--- what is noted of a change, enough to take it back: what a global variable or a local of the last frame held, by its
--- number; the place where the last frame stood; the old clock; what takes back a change of the store or of the event
--- list; how many items were taken; the old length of the report; the old entry; the old status; that a loop was opened;
--- the old candidate of the innermost loop; the loop that was closed; that a frame was opened; the frame that was
--- dropped; what FIND answered; what COMPUTE had gathered
+-- the note of a change, enough to take it back: the old value of a global variable or of a local
+-- of the last frame, by its number; the old place of the last frame; the old clock; the note of a
+-- change of the store or of the event list; how many items were taken; the old length of the
+-- report; the old entry; the old status; that a loop was opened; the old candidate of the
+-- innermost loop; the loop that was closed; that a frame was opened; the frame that was dropped;
+-- the old answer of FIND; the old statistics of COMPUTE
 pub data Change : Type 0 where
   Variable Local : ℕ → ℤ → Change
   Place : ℕ → Change
@@ -40,11 +41,11 @@ abbrev pub state_of_caller : List FrameState → State → State
 state_of_caller [] state = state
 state_of_caller (f ∷ fs) state = record state { frame = f; below = fs }
 
--- the same with another last frame
+-- the parts with another last frame
 abbrev pub with_frame : Held → FrameState → Held
 with_frame held frame = with_state held (record held.state { frame = frame })
 
--- what was held before a change
+-- the parts of a run before a change
 abbrev pub unapply : Change → Held → Held
 unapply (Variable number old) held =
     with_state held (record held.state { variables = slice_set held.state.variables number old })
@@ -68,8 +69,8 @@ unapply (FrameDropped dropped) held =
 unapply (Found old) held = with_frame held (record held.state.frame { found = old })
 unapply (Statistics old) held = with_frame held (record held.state.frame { statistics = old })
 
--- what it changed or opened is there, no old length or number is above the present one, and there is room for a frame
--- that it dropped
+-- the changed or opened part exists, no old length or number is above the present one, and there
+-- is room for a frame that the change dropped
 abbrev pub Fits : Change → Held → Type 0
 Fits (Variable number old) held = number < length held.state.variables
 Fits (Local number old) held = number < length held.state.frame.locals

@@ -17,12 +17,12 @@ abbrev pub call_targets : Place → ℕ
 call_targets (places.Call c) = length c.targets
 call_targets other = 0
 
--- the same of the place that stands there, if one does
+-- the count above for an optional place; 0 if there is none
 abbrev pub call_targets_by : Option Spot → ℕ
 call_targets_by (Some spot) = call_targets spot.place
 call_targets_by None = 0
 
--- how many targets the CALL where the last frame stands has
+-- how many targets the CALL at the place of the last frame has
 abbrev pub place_targets : ProgramTable → State → ℕ
 place_targets program state = call_targets_by (spot_at program state.frame.section state.frame.place)
 
@@ -60,7 +60,7 @@ most_changes program state ways (places.Call c) = 1
 most_changes program state ways (places.Timing x) = most_timing_changes x
 most_changes program state ways (places.Read ts) = 2 + length ts
 
--- the same of the place that stands there, if one does
+-- the count above for an optional place; 0 if there is none
 abbrev pub most_changes_by : ProgramTable → State → Option Spot → ℕ
 most_changes_by program state (Some spot) = most_changes program state (ways_here program state spot.place) spot.place
 most_changes_by program state None = 0
@@ -80,7 +80,7 @@ targets_at program state (places.Call c) = length c.targets
 targets_at program state (places.Read ts) = length ts
 targets_at program state other = 0
 
--- the same of the place that stands there, if one does
+-- the count above for an optional place; 0 if there is none
 abbrev pub targets_by : ProgramTable → State → Option Spot → ℕ
 targets_by program state (Some spot) = targets_at program state spot.place
 targets_by program state None = 0

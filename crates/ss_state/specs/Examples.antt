@@ -1,4 +1,4 @@
--- Small programs, and what their runs come to.
+-- Small programs, and the results of their runs.
 use Rattle.std.specs.Prelude.{ℕ, pos, List, [], ◌∷◌, ◌++◌, map, replicate, codes, Bool, true, false}
 use Rattle.std.specs.Prelude.{Some, None}
 use Rattle.ss_words.specs.declared.terms.TermSign.TheVariants.{Plus, Minus}
@@ -50,7 +50,7 @@ use Rattle.ss_state.specs.Run.{Input, input_with, run}
 
 -- ---- expressions and conditions
 
--- a factor alone
+-- an expression of one factor only
 abbrev pub alone : Factor → Expr
 alone factor = expr None (term factor no_products) no_sums
 
@@ -103,7 +103,7 @@ add_to target expression = Assign (Add expression (ToVariable target))
 abbrev pub end_place : Place
 end_place = Control End
 
--- FOR local number i = a TO b, which controls what stands behind it
+-- FOR local number i = a TO b, which controls the next place
 abbrev pub for_bare : ℕ → Expr → Expr → List Qualifier → Place
 for_bare i a b qs =
     Looping (For (record { phrase = Counting Onward (Local i) a b None; qualifiers = qs; has_do = false }))
@@ -162,7 +162,7 @@ main_run text n xs k = run (input_with (program_of 0 (main_of n xs ∷ [])) text
 abbrev pub sum_of_passed : List Qualifier → List Place
 sum_of_passed qs = for_bare 0 (number 1) (number 9) qs ∷ add_to (Local 1) (local 0) ∷ end_place ∷ []
 
--- the first of the numbers from 1 to 5 that passes a qualifier goes to local 1; 100 where there is none
+-- the first number from 1 to 5 that passes a qualifier goes to local 1; 100 if there is none
 abbrev pub first_of_five : Qualifier → List Place
 first_of_five qualifier =
     for_bare 0 (number 1) (number 5) (qualifier ∷ []) ∷ Looping Find ∷ Branch (If WasFound) ∷ let_be (Local 1) (local 0)
@@ -212,7 +212,7 @@ each_of_two =
     ∷ []
     )
 
--- SKIP of so many lines
+-- SKIP of a number of lines
 abbrev pub skip_of : Expr → List Place
 skip_of expression = Output (Skip expression) ∷ end_place ∷ []
 
@@ -248,7 +248,7 @@ abbrev pub for_every_job : Direction → Place
 for_every_job direction =
     Looping (For (record { phrase = Walking direction (Global 0) queue AtTheEnd; qualifiers = []; has_do = false }))
 
--- the member's value written behind the digits of local 0
+-- the member's value written after the digits of local 0
 abbrev pub note_value : Place
 note_value =
     Assign (Let false (ToVariable (Local 0)) (expr None (term (variable (Local 0)) (product (digits 10) no_products))
@@ -346,7 +346,7 @@ cancel_tick = Timing (Cancel 0 false job)
 abbrev pub start_place : Place
 start_place = Timing Start
 
--- the event's value written behind the digits of global 1
+-- the event's value written after the digits of global 1
 abbrev pub note_tick : Place
 note_tick =
     Assign (Let false (ToVariable (Global 1)) (expr None (term (variable (Global 1)) (product (digits 10) no_products))
@@ -361,7 +361,7 @@ abbrev pub two_ticks : List Key → ProgramTable
 two_ticks ties =
     ticks_with ties false (tick_of 2 Now ∷ tick_of 1 Now ∷ start_place ∷ end_place ∷ []) (note_tick ∷ end_place ∷ [])
 
--- the first of two notices gets another value behind its scheduling
+-- the first of two notices gets another value after its scheduling
 abbrev pub tick_changed : ProgramTable
 tick_changed =
     ticks_with by_value false (tick_of 1 Now ∷ Assign (Let false (Attribute 0 0 (implied 0)) (number 9))
@@ -379,7 +379,7 @@ tick_saved =
     ticks_with [] true (tick_of 7 (At (number 3)) ∷ start_place ∷ end_place ∷ [])
     (tick_again (In (number 5)) ∷ end_place ∷ [])
 
--- MAIN's places behind a notice due at 3
+-- MAIN's places after a notice due at 3
 abbrev pub behind_tick : List Place → ProgramTable
 behind_tick xs = ticks_with [] false (tick_of 7 (At (number 3)) ∷ (xs ++ end_place ∷ [])) (end_place ∷ [])
 
@@ -411,7 +411,7 @@ arrivals_with xs ys = record {
   } ∷ [];
 }
 
--- each entry's event reads one value, which it writes behind the digits of global 1
+-- each entry's event reads one value, which it writes after the digits of global 1
 abbrev pub values_of_arrivals : ProgramTable
 values_of_arrivals =
     arrivals_with (start_place ∷ end_place ∷ []) (Read (ToVariable (Local 0) ∷ []) ∷ note_tick ∷ end_place ∷ [])

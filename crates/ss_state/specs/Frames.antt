@@ -1,13 +1,13 @@
--- The frames of a state, by how many others stand on them.
+-- The frames of a state, by the number of frames above each.
 use Rattle.std.specs.Prelude.{ℕ, ℤ, ◌∷◌, slice_get, Option}
 use Rattle.std.specs.Option.{option_map, option_and_then}
 use Rattle.ss_state.specs.State.{State, FrameState}
 
--- the frame on which so many others stand, if there is one; none stands on the last frame
+-- the frame with `depth` others above it, if there is one; the last frame has none above it
 abbrev pub frame_at : State → ℕ → Option FrameState
 frame_at state depth = slice_get (state.frame ∷ state.below) depth
 
--- its section, and the place where it stands
+-- its section, and its place
 abbrev pub frame_place : State → ℕ → Option (ℕ × ℕ)
 frame_place state depth = option_map (λ f. (f.section, f.place)) (frame_at state depth)
 

@@ -1,6 +1,6 @@
--- What is held of a run: its state, and beside it what serves undoing alone. A reader of a public clause may skip what
--- stands beside: `known` of a machine makes `past_of` the states of its run from the earliest kept one to the last one
--- before this, whatever that is.
+-- The parts of a run: its state, and the parts that only undoing uses. A reader of a public clause
+-- may skip the parts for undoing: `known` of a machine makes `past_of` the states of its run from
+-- the earliest kept one to the last one before this, whatever the parts for undoing are.
 use Rattle.std.specs.Prelude.{ℕ, List}
 use Rattle.ss_store.specs.Tables.{Tables}
 use Rattle.ss_store.specs.Value.{Layout, StoreValue}
@@ -8,46 +8,46 @@ use Rattle.ss_events.specs.Rules.{Rule}
 use Rattle.ss_events.specs.State.{AgendaState}
 use Rattle.ss_state.specs.State.{State}
 
--- what stands beside the state for undoing
+-- the parts of a run that only undoing uses
 pub record Beside : Type 0 where
   -- the store's tables
   pub tables : Tables
-  -- what the store keeps
+  -- the layout that the store keeps
   pub kept : Layout
   -- the rules of the classes for notices
   pub rules : List Rule
   -- the notice of each seat
   pub notices : List ℕ
 
--- what is held
+-- the parts of a run
 pub record Held : Type 0 where
   -- the state
   pub state : State
-  -- what stands beside it
+  -- the parts that only undoing uses
   pub beside : Beside
 
--- ---- private: the parts of what is held
+-- ---- private: the store and the agenda among the parts
 
--- what is held of the store
+-- the store's value
 abbrev pub store_of : Held → StoreValue
 store_of held = record { tables = held.beside.tables; state = held.state.store; kept = held.beside.kept }
 
--- and of the agenda
+-- the agenda's value
 abbrev pub agenda_of : Held → AgendaState
 agenda_of held = record { rules = held.beside.rules; agenda = held.state.agenda; notices = held.beside.notices }
 
--- the same with another state
+-- the parts with another state
 abbrev pub with_state : Held → State → Held
 with_state held state = record held { state = state }
 
--- the same with another store
+-- the parts with another store
 abbrev pub with_store : Held → StoreValue → Held
 with_store held store = record {
   state = record held.state { store = store.state };
   beside = record held.beside { tables = store.tables; kept = store.kept };
 }
 
--- the same with another agenda
+-- the parts with another agenda
 abbrev pub with_agenda : Held → AgendaState → Held
 with_agenda held v = record {
   state = record held.state { agenda = v.agenda };

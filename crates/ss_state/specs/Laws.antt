@@ -1,4 +1,4 @@
--- What is said of the definitions, for every checked program.
+-- The laws on the definitions, for every checked program.
 use Rattle.std.specs.Prelude.{◌≡◌, ℕ, List, ◌+◌, ◌*◌, ◌≤◌}
 use Rattle.ss_program.specs.Program.{ProgramTable}
 use Rattle.ss_program.specs.ProgramSound.{IsSound}
@@ -11,11 +11,11 @@ use Rattle.ss_state.specs.ChangeCounts.{change_bound, target_count}
 
 -- the states of a run are well-formed
 pub record StatesAreWell (input : Input) : Type 0 where
-  -- the start is
+  -- the start is well-formed
   pub start : IsWell input.program (start input)
   -- a step keeps every state so
   pub step : (s : State) → IsWell input.program s → IsWell input.program (step input.program s)
-  -- and so all states of the run are
+  -- so all states of the run are well-formed
   pub run : (k : ℕ) → IsWell input.program (run input k)
 
 -- for every program that the checker makes, and all data

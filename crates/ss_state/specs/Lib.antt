@@ -1,3 +1,4 @@
+-- The definition of a run comes from these modules: its state, its step, and the notes for undoing.
 pub mod State
 pub mod Frames
 pub mod Loops

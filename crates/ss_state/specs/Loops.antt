@@ -1,4 +1,4 @@
--- The open loops of a frame, their candidates, and what the qualifiers of a FOR phrase say.
+-- The open loops of a frame, their candidates, and the verdict of a FOR phrase's qualifiers.
 use Rattle.std.specs.Prelude.{ℕ, ◌<◌, ℤ, pos, ◌+ℤ◌, ◌-ℤ◌, int_lt, int_le, nat_eq, Bool, not, if◌then◌else◌, List, []}
 use Rattle.std.specs.Prelude.{◌∷◌, Option, Some, None, Result, Ok, Err}
 use Rattle.ss_words.specs.declared.fault.RunFault.{RunFault}
@@ -25,8 +25,9 @@ use Rattle.ss_values.specs.Conditions.{holds}
 
 -- ---- open loops
 
--- what an open loop goes through: numbers in a direction up to the last one, each a step further than the one before;
--- or the members of the list of a set, by its number, for the owner that a value names
+-- the range of an open loop: numbers in a direction up to the last one, each a step further than
+-- the one before; or the members of the list of a set, by its number, for the owner that a value
+-- names
 pub data Walk : Type 0 where
   Numbers : Direction → ℤ → ℤ → Walk
   Members : Direction → ℕ → ℤ → Walk
@@ -37,7 +38,7 @@ pub record OpenLoop : Type 0 where
   pub phrase : ℕ
   -- the candidate that comes next, if one is left
   pub candidate : Option ℤ
-  -- what it goes through
+  -- its range
   pub walk : Walk
 
 -- the innermost one
@@ -67,7 +68,7 @@ abbrev pub number_behind : Direction → ℤ → ℤ → ℤ
 number_behind Onward step x = x +ℤ step
 number_behind Backward step x = x -ℤ step
 
--- the number behind another one; past the integers' end there is none
+-- the number after another one; past the integers' end there is none
 abbrev pub next_number : Direction → ℤ → ℤ → ℤ → Option ℤ
 next_number direction last step x =
     if in_range (number_behind direction step x) then candidate_within direction last (number_behind direction step x)
@@ -75,12 +76,12 @@ next_number direction last step x =
 
 -- ---- members
 
--- the member at the end where a walk in this direction begins, or none; the set by its number, the owner by a value
+-- the first member of a walk in a direction, or none; the set by its number, the owner by a value
 abbrev pub end_member : Readings → Direction → ℕ → ℤ → Result (Option ℕ) RunFault
 end_member readings Onward s o = walk_first (set_of readings.tables s) readings.store (number_of o)
 end_member readings Backward s o = walk_last (set_of readings.tables s) readings.store (number_of o)
 
--- the member behind another one in this direction, or none
+-- the member after another one in this direction, or none
 abbrev pub member_behind : Readings → Direction → ℕ → ℤ → ℤ → Result (Option ℕ) RunFault
 member_behind readings Onward s o x = walk_next (set_of readings.tables s) readings.store (number_of o) (number_of x)
 member_behind readings Backward s o x = walk_prev (set_of readings.tables s) readings.store (number_of o) (number_of x)
@@ -90,7 +91,7 @@ abbrev pub as_candidate : Option ℕ → Result (Option ℤ) RunFault
 as_candidate None = Ok None
 as_candidate (Some k) = number_value k >>= λ x. Ok (Some x)
 
--- F14 where a member is no longer in its list
+-- F14 if a member is no longer in its list
 abbrev pub unless_left : Result (Option ℕ) RunFault → Result (Option ℤ) RunFault
 unless_left (Ok k) = as_candidate k
 unless_left (Err f) = Err MemberLeft
@@ -100,23 +101,23 @@ abbrev pub IsSoundWalk : ℕ → Walk → Type 0
 IsSoundWalk n (Numbers d last step) = Unit {0}
 IsSoundWalk n (Members d s o) = s < n
 
--- so are those of open loops
+-- the walks of open loops are sound
 abbrev pub AreSoundWalks : ℕ → List OpenLoop → Type 0
 AreSoundWalks n [] = Unit {0}
 AreSoundWalks n (l ∷ ls) = IsSoundWalk n l.walk × AreSoundWalks n ls
 
--- the candidate behind another one, or none; F14 where that one is no longer in the list
+-- the candidate after another one, or none; F14 if that one is no longer in the list
 abbrev pub next_candidate : Readings → Walk → ℤ → Result (Option ℤ) RunFault
 next_candidate readings (Numbers d last step) x = Ok (next_number d last step x)
 next_candidate readings (Members d s o) x =
     unless_left (member_behind readings d s o x)
 
--- the value of BY, 1 where it is not written
+-- the value of BY, 1 if it is not written
 abbrev pub step_value : Readings → Option Expr → Result ℤ RunFault
 step_value readings None = Ok (pos 1)
 step_value readings (Some e) = value_of readings e
 
--- a loop over numbers, or F15 where its step is below 1
+-- a loop over numbers, or F15 if its step is below 1
 abbrev pub number_loop : ℕ → Direction → ℤ → ℤ → ℤ → Result OpenLoop RunFault
 number_loop place direction first last step =
     refuse_if (int_lt step (pos 1)) StepBelowOne
@@ -126,7 +127,7 @@ number_loop place direction first last step =
       walk = Numbers direction last step;
     })
 
--- F5 where the member that FROM or AFTER names is not in the list
+-- F5 if the member that FROM or AFTER names is not in the list
 abbrev pub member_named : Readings → ℕ → ℤ → ℤ → Result ℤ RunFault
 member_named readings s o y =
     is_in (set_of readings.tables s) readings.store (number_of o) (number_of y)
@@ -145,8 +146,9 @@ candidate_at_begin readings direction s o (After e) =
 abbrev pub list_loop : ℕ → Direction → ℕ → ℤ → Option ℤ → OpenLoop
 list_loop place direction s o c = record { phrase = place; candidate = c; walk = Members direction s o }
 
--- what the entry of the phrase at a place opens: its bounds and its step are got once; EACH goes from 1 up to N.c by 1;
--- a walk goes through the list of an owner that is got once
+-- the loop that the entry of the phrase at a place opens: its bounds and its step are evaluated
+-- once; EACH goes from 1 up to N.c by 1; a walk goes through the list of an owner that is evaluated
+-- once
 abbrev pub loop_at_entry : Readings → ℕ → Phrase → Result OpenLoop RunFault
 loop_at_entry readings place (Counting d x first last step) =
     value_of readings first >>= λ a. value_of readings last >>= λ b. step_value readings step
@@ -165,7 +167,7 @@ loop_variable (Walking d x r begin) = x
 
 -- ---- qualifiers
 
--- what qualifiers say of a candidate: the next place follows, the candidate is passed over, the loop closes
+-- the verdict on a candidate: the next place follows, the candidate is passed over, the loop closes
 pub data Verdict : Type 0 where
   Runs Passes Closes : Verdict
 
@@ -177,7 +179,7 @@ verdict_by Unless b rest = if b then Ok Passes else rest
 verdict_by While b rest = if b then rest else Ok Closes
 verdict_by Until b rest = if b then Ok Closes else rest
 
--- what the qualifiers say, in written order
+-- the verdict of the qualifiers, in written order
 abbrev pub verdict_of : Readings → List Qualifier → Result Verdict RunFault
 verdict_of readings [] = Ok Runs
 verdict_of readings (q ∷ qs) = holds readings q.condition >>= λ b. verdict_by q.word b (verdict_of readings qs)

@@ -1,4 +1,4 @@
--- What values are read from in a state.
+-- The parts of a state that values are read from.
 use Rattle.std.specs.Prelude.{ℤ, pos, ◌<◌, length, slice_index_or}
 use Rattle.ss_program.specs.declared.variable.Variable.{Variable}
 use Rattle.ss_program.specs.declared.variable.Variable.TheVariants.{Global, Local, Clock}
@@ -6,7 +6,7 @@ use Rattle.ss_store.specs.Tables.{Tables}
 use Rattle.ss_values.specs.Values.{Readings}
 use Rattle.ss_state.specs.State.{State}
 
--- what an expression reads of a state
+-- the parts of a state that an expression reads
 abbrev pub readings : Tables → State → Readings
 readings tables state = record {
   tables = tables;
@@ -16,7 +16,7 @@ readings tables state = record {
   clock = state.clock;
 }
 
--- what a variable holds in a state
+-- the value of a variable in a state
 abbrev pub variable_in : State → Variable → ℤ
 variable_in state (Global i) = slice_index_or state.variables i (pos 0)
 variable_in state (Local i) = slice_index_or state.frame.locals i (pos 0)

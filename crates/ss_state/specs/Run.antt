@@ -10,7 +10,7 @@ use Rattle.ss_state.specs.declared.status.Status.TheVariants.{Ready}
 use Rattle.ss_state.specs.State.{State, is_ready, new_frame}
 use Rattle.ss_state.specs.Step.{step}
 
--- what a run is of
+-- the input of a run
 pub record Input : Type 0 where
   -- a program
   pub program : ProgramTable
@@ -36,7 +36,7 @@ start input = record {
   entry = Absent;
 }
 
--- the state behind another one; one that isn't ready stays
+-- the state after another one; one that isn't ready stays
 abbrev pub next : ProgramTable → State → State
 next program state = if is_ready state.status then step program state else state
 

@@ -11,7 +11,7 @@ use Rattle.ss_state.specs.declared.status.Status.{Status}
 use Rattle.ss_state.specs.declared.status.Status.TheVariants.{Ready, Stopped, Finished, Faulted}
 use Rattle.ss_state.specs.Loops.{OpenLoop}
 
--- what COMPUTE has gathered; all 0 over no case
+-- the statistics that COMPUTE has gathered; all 0 if there was no case
 pub record Statistics : Type 0 where
   -- how many values there were
   pub number : ℤ
@@ -26,7 +26,7 @@ pub record Statistics : Type 0 where
 pub record FrameState : Type 0 where
   -- its section
   pub section : ℕ
-  -- the place where it stands
+  -- its place
   pub place : ℕ
   -- the values of its locals, in the order of the section's table
   pub locals : List ℤ
@@ -34,7 +34,7 @@ pub record FrameState : Type 0 where
   pub loops : List OpenLoop
   -- whether the last FIND found a case
   pub found : Bool
-  -- what COMPUTE has gathered
+  -- the statistics of COMPUTE
   pub statistics : Statistics
 
 -- the state of a run

@@ -1,4 +1,4 @@
--- What statements share: values first, from the left; a fault changes the status alone.
+-- The parts that statements share: values first, from the left; a fault changes only the status.
 pub mod Assigning
 pub mod Printing
 pub mod Reading
@@ -28,12 +28,12 @@ use Rattle.ss_values.specs.Faults.{◌>>=◌, ◌>>◌, refuse_if}
 use Rattle.ss_values.specs.Values.{subscript_value}
 use Rattle.ss_state.specs.Readings.{readings}
 
--- the state that follows from what was got; a fault changes the status alone
+-- the state that follows from a result; a fault changes only the status
 abbrev pub state_after_result : {A : Type 0} → State → Result A RunFault → (A → State) → State
 state_after_result state (Ok x) f = f x
 state_after_result state (Err e) f = record state { status = Faulted e }
 
--- the state whose last frame stands at a place
+-- the state whose last frame is at a place
 abbrev pub state_at_place : ℕ → State → State
 state_at_place place state = record state { frame = record state.frame { place = place } }
 
@@ -45,7 +45,7 @@ state_after_assignment state (Local i) x =
 -- never met: no statement assigns to the clock
 state_after_assignment state Clock x = state
 
--- where the place of the last frame goes on, counted in its section
+-- the ways on from the place of the last frame, counted in its section
 abbrev pub ways_here : ProgramTable → State → Place → Ways
 ways_here program state place =
     ways_of (places_of (slice_get program.sections state.frame.section)) state.frame.place place
@@ -54,14 +54,14 @@ ways_here program state place =
 abbrev pub state_with_store : State → Store → State
 state_with_store state store = record state { store = store }
 
--- the state in which a target has a new value; F3 where the attribute's entity does not exist
+-- the state in which a target has a new value; F3 if the attribute's entity does not exist
 abbrev pub state_with_value : Tables → State → Target → ℤ → Result State RunFault
 state_with_value tables state (targets.Variable x) z = Ok (state_after_assignment state x z)
 state_with_value tables state (targets.Attribute c a i) z =
     subscript_value (readings tables state) i >>= λ x.
     with_attribute state.store c a (number_of x) z >>= λ st. Ok (state_with_store state st)
 
--- the state in which so many items are taken
+-- the state in which n items are taken
 abbrev pub state_with_taken : State → ℕ → State
 state_with_taken state n = record state { feed = with_taken state.feed n }
 

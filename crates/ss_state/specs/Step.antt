@@ -31,12 +31,12 @@ step_at program state ways (places.Call c) = step_call program state c
 step_at program state ways (places.Timing x) = step_timing program state ways.next x
 step_at program state ways (places.Read ts) = step_read program state ways.next ts
 
--- one step of the place that stands there, if one does
+-- one step of an optional place
 abbrev pub step_by : ProgramTable → State → Option Spot → State
 step_by program state (Some spot) = step_at program state (ways_here program state spot.place) spot.place
--- never met: each frame stands at a place
+-- never met: each frame is at a place
 step_by program state None = state
 
--- one step of a ready state: that of the place where the last frame stands
+-- one step of a ready state: that of the place of the last frame
 abbrev pub step : ProgramTable → State → State
 step program state = step_by program state (spot_at program state.frame.section state.frame.place)

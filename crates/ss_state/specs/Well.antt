@@ -83,20 +83,20 @@ pub record IsStoreInRange (store : Store) : Type 0 where
 pub record IsWellFrame (program : ProgramTable) (frame : FrameState) : Type 0 where
   -- its section is one of the program's
   pub section : frame.section < length program.sections
-  -- it stands at a place of that section
+  -- it is at a place of that section
   pub place : frame.place < length (places_of (slice_get program.sections frame.section))
   -- it has the locals of that section
   pub locals : length frame.locals ≡ length (locals_of (slice_get program.sections frame.section))
   -- their values are in range
   pub values : AreInRange frame.locals
-  -- and so are the candidates of its open loops
+  -- the candidates of its open loops are in range, too
   pub loops : AreLoopsInRange frame.loops
-  -- the loops over sets walk sets that there are
+  -- the loops over sets walk sets that exist
   pub walks : AreSoundWalks (length program.sets) frame.loops
-  -- what COMPUTE has gathered is in range
+  -- the statistics of COMPUTE are in range
   pub statistics : AreStatisticsInRange frame.statistics
 
--- so do all frames
+-- all frames are well-formed
 abbrev pub AreWellFrames : ProgramTable → List FrameState → Type 0
 AreWellFrames program [] = Unit {0}
 AreWellFrames program (f ∷ fs) = IsWellFrame program f × AreWellFrames program fs
@@ -106,7 +106,7 @@ abbrev pub Calls : ℕ → Place → Type 0
 Calls section (Call c) = c.section ≡ section
 Calls section other = ⊥
 
--- the same of the place that stands there
+-- an optional place exists and has the property above
 abbrev pub CallsAt : ℕ → Option Spot → Type 0
 CallsAt section None = ⊥
 CallsAt section (Some spot) = Calls section spot.place
@@ -116,20 +116,20 @@ abbrev pub Starts : Place → Type 0
 Starts (Timing Start) = Unit {0}
 Starts other = ⊥
 
--- the same of the place that stands there
+-- an optional place exists and has the property above
 abbrev pub StartsAt : Option Spot → Type 0
 StartsAt None = ⊥
 StartsAt (Some spot) = Starts spot.place
 
--- a frame of this kind of section stands on another one: a routine's on a CALL of it, an event's on MAIN at START
--- SIMULATION
+-- the frame below a frame of this kind of section: a routine's is at a CALL of it, an event's is
+-- MAIN's at START SIMULATION; MAIN's has none
 abbrev pub StandsOn : ProgramTable → SectionKind → ℕ → FrameState → Type 0
 StandsOn program Main section frame = ⊥
 StandsOn program Routine section frame = CallsAt section (spot_at program frame.section frame.place)
 StandsOn program Event section frame =
     (is_main (section_of program frame.section) ≡ true) × StartsAt (spot_at program frame.section frame.place)
 
--- the first frame is MAIN's, and each other stands on the one below it
+-- the first frame is MAIN's, and each other has the right one below it
 abbrev pub IsStack : ProgramTable → ℕ → List FrameState → Type 0
 IsStack program section [] = is_main (section_of program section) ≡ true
 IsStack program section (f ∷ fs) =
@@ -145,10 +145,10 @@ pub record IsDue (program : ProgramTable) (clock : ℤ) (store : Store) (notice 
   pub time : in_range notice.time ≡ true
   -- and not before the clock
   pub due : int_lt notice.time clock ≡ false
-  -- so are the keys by which it goes among those due at that time
+  -- the keys that order it among those due at that time are in range
   pub keys : AreInRange notice.keys
 
--- so do all pending notices
+-- all pending notices are due
 abbrev pub AreDue : ProgramTable → ℤ → Store → List Pending → Type 0
 AreDue program clock store [] = Unit {0}
 AreDue program clock store (e ∷ es) = IsDue program clock store e × AreDue program clock store es
@@ -180,17 +180,17 @@ pub record IsInBounds (program : ProgramTable) (state : State) : Type 0 where
   pub values : AreInRange state.variables
   -- the last frame is well-formed
   pub frame : IsWellFrame program state.frame
-  -- so are those below it
+  -- those below it are well-formed, too
   pub below : AreWellFrames program state.below
-  -- the first is MAIN's, and each other stands on the one below it
+  -- the first is MAIN's, and each other has the right one below it
   pub stack : IsStack program state.frame.section state.below
   -- there are at most 200
   pub few : length state.below ≤ MOST_BELOW
   -- the clock is in range
   pub clock : in_range state.clock ≡ true
-  -- so are the attributes of all entities
+  -- the attributes of all entities are in range
   pub store : IsStoreInRange state.store
-  -- so are the numbers of the data
+  -- the numbers of the data are in range
   pub items : AreItemsInRange state.feed.items
   -- no more items are taken than there are
   pub taken : state.feed.taken ≤ length state.feed.items
@@ -211,7 +211,7 @@ abbrev pub HasItsLoops : ProgramTable → FrameState → Type 0
 HasItsLoops program frame =
     may_be_open (places_of (slice_get program.sections frame.section)) (phrases_of frame.loops) frame.place ≡ true
 
--- so do all frames
+-- all frames have their loops
 abbrev pub HaveTheirLoops : ProgramTable → List FrameState → Type 0
 HaveTheirLoops program [] = Unit {0}
 HaveTheirLoops program (f ∷ fs) = HasItsLoops program f × HaveTheirLoops program fs

@@ -1,3 +1,4 @@
+//! The state of the entry of the data that an external event comes from.
 /// The entry of the data that makes an external event.
 #[derive(Clone, Copy, PartialEq, Eq)]
 pub enum Entry {

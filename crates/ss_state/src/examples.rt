@@ -1,4 +1,4 @@
-//! What the definitions give on small programs: each function is a law, proved by computing.
+//! The results of the definitions on small programs: each function is a law, proved by computing.
 
 ghost use Rattle.std.specs.Prelude.{◌≡◌, [], ◌∷◌, pos, neg_ℤ, length, codes, Ok, Err, true, false};
 ghost use Rattle.ss_words.specs.declared.fault.RunFault.TheVariants.{OutOfRange, ZeroDivisor, CountOutOfRange};

@@ -1,8 +1,8 @@
-//! What the language says of a run: its state, one step, and the one run of a program over data.
+//! The definition of a run: its state, one step, and the one run of a program over data.
 //!
-//! Nearly all of it is definitions, in specs/. Beside them are the few values that the definitions
-//! and the code share: the status of a run, the entry of an external event, what a step did, and
-//! the limits; and the laws on the definitions.
+//! Nearly all of it is definitions, in specs/. The code has the few values that the definitions
+//! and the code share: the status of a run, the entry of an external event, the result of a step,
+//! and the limits; and the laws on the definitions.
 #![tactic(auto)]
 
 mod entry;

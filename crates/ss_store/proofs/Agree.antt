@@ -1,4 +1,4 @@
--- What the state says, and what the rows and the board say.
+-- The state agrees with the rows and the board.
 use Rattle.std.proofs.lemmas.Bool.Decides.{nat_tests}
 use Rattle.std.proofs.Common.{◌≡◌, ◌⊎◌, inl, inr, ℕ, ℤ, zero, suc, ◌+◌, ◌<◌, ◌≤◌, ◌==◌, ◌||◌, List, [], ◌∷◌, ◌++◌}
 use Rattle.std.proofs.Common.{length, map, refl, ap, sym, subst, ◌∙◌, arith, slice_get, slice_index_or, Option, Some}
@@ -72,7 +72,7 @@ some_here g c i r v s ec w (inr is) er ev =
     (subst (λ z. cond (r.class == z) (Some (entity_by g r v)) None ≡ Some (entity_by g r v)) ec
     (let same : (r.class == r.class) ≡ true = grind (arith, nat_tests) in rw same refl))
 
--- the row of an entity says what it is
+-- an entity that has a row is in the state, as its row gives it
 pub entity_some : (g : StoreParts) (c k : ℕ) (r : Row) → IsStore g → (l : Found g.rows c k r)
     → entity (state_of g) c k ≡ Some (entity_by g r l.value)
 entity_some g c k r s l = subst (λ z. entity (state_of g) c z ≡ Some (entity_by g r l.value)) (sym l.number)
@@ -136,7 +136,7 @@ or_none : {A : Type 0} (a b : Option A) → option_or a b ≡ None → (a ≡ No
 or_none None b e = (refl, e)
 or_none (Some x) b e = cc
 
--- and what is none there is none here
+-- an entity that has no row is not in the state
 pub entity_none : (g : StoreParts) (c k : ℕ) → IsStore g → row_of g.rows c k ≡ None → entity (state_of g) c k ≡ None
 entity_none g c zero s e = refl
 entity_none g c (suc i) s e =
@@ -177,7 +177,7 @@ owned_get at f (suc n) zero lt = let z : f ≡ f + 0 = omega arith in ap at z
 owned_get at f (suc n) (suc k) lt = let z : suc f + k ≡ f + suc k = omega arith in
     owned_get at (suc f) n k (omega (arith, lt)) ∙ ap at z
 
--- the list of an owner is what the board says of its head
+-- the list of an owner is the list of its head on the board
 pub list_look : (g : StoreParts) (w : Owner) (p : SetShape) (o h : ℕ) → IsStore g → p.list < owned_by w g.tables
     → head_by w g.rows p o ≡ Some h → list_by w p.list (state_of g) o ≡ Some (numbers_under g.board g.numbers h)
 list_look g System p o h s lt e = let z : 0 + p.list ≡ p.list = omega arith in
@@ -365,7 +365,7 @@ pub apart : (g : StoreParts) (p : SetShape) (o h t x : ℕ) → IsStore g → Is
     → seat_at g.rows p x ≡ Some t → Apart (number_at g.numbers) (list_at g.board.lists h) t
 apart g p o h t x s is eh et u f e = one_seat g p o h t u x s is eh et f (e ∙ seat_number g p x t s is et)
 
--- a member stands in an owner's list where its seat stands in the list of the owner's head
+-- a member is in an owner's list if its seat is in the list of the owner's head
 pub stands_is : (g : StoreParts) (p : SetShape) (o h t x : ℕ) → IsStore g → IsSet g.tables.sets p
     → head_at g.rows p o ≡ Some h → seat_at g.rows p x ≡ Some t
     → has (numbers_under g.board g.numbers h) x ≡ has (list_at g.board.lists h) t
@@ -373,7 +373,7 @@ stands_is g p o h t x s is eh et =
     ap (has (numbers_under g.board g.numbers h)) (sym (seat_number g p x t s is et))
     ∙ has-map (number_at g.numbers) (list_at g.board.lists h) t (apart g p o h t x s is eh et)
 
--- a member is in a list of the set where its seat stands in a list
+-- a member is in a list of the set if its seat is in a list
 pub is_filed_is : (g : StoreParts) (p : SetShape) (t x : ℕ) → IsStore g → IsSet g.tables.sets p → seat_at g.rows p x
     ≡ Some t
     → is_filed p (state_of g) x ≡ is_some (head_of g.board.lists t)

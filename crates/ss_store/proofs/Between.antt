@@ -1,4 +1,4 @@
--- Where FILE puts a member, and which lists stay.
+-- The place at which FILE puts a member, and the lists that stay.
 use Rattle.std.proofs.Common.{◌≡◌, ◌≢◌, inl, inr, ℕ, zero, suc, ◌==◌, ◌||◌, List, [], ◌∷◌, ◌++◌, refl, ap, sym}
 use Rattle.std.proofs.Common.{subst}
 use Rattle.std.proofs.Common.{◌∙◌, slice_get, slice_set, slice_index_or, Option, Some, None, Bool, true, false, cond}

@@ -1,4 +1,4 @@
--- What each call of a board does to one list, and what that is in numbers.
+-- The effect of each call of a board on one list, in seats and in numbers.
 use Rattle.std.proofs.lemmas.Bool.Decides.{nat_tests}
 use Rattle.std.proofs.Common.{◌≡◌, ◌≢◌, ℕ, zero, suc, ◌<◌, ◌==◌, ◌||◌, List, [], ◌∷◌, ◌++◌, length, map, refl, ap, sym}
 use Rattle.std.proofs.Common.{subst, ◌∙◌, arith, Some, true, false, cond, set, length-set, inl, inr}
@@ -39,7 +39,7 @@ absent b h j at s e far =
       | false ↦ λ w. refl
     ]) refl
 
--- a change of the one list in which a seat stands
+-- a change of the one list that holds a seat
 pub relisted_map : (b new : Board) (f : List ℕ → List ℕ) (h at : ℕ) → f [] ≡ []
     → ((l : List ℕ) → has l at ≡ false → f l ≡ l) → IsSound b → head_of b.lists at ≡ Some h
     → new ≡ record b { lists = map f b.lists } → IsSound new → Relisted b new h (f (list_at b.lists h))
@@ -52,7 +52,7 @@ relisted_map b new f h at z same s e is w = record {
   sound = w;
 }
 
--- numbers of seats, where a list's seats have numbers of their own
+-- numbers of seats, if each seat of a list has its own number
 abbrev pub Apart : (ℕ → ℕ) → List ℕ → ℕ → Type 0
 Apart f l at = (u : ℕ) → has l u ≡ true → f u ≡ f at → u ≡ at
 

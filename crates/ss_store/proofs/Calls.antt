@@ -1,4 +1,4 @@
--- What FILE answers.
+-- The results of FILE.
 use Rattle.std.proofs.Common.{◌≡◌, ℕ, ◌<◌, ◌^◌, List, length, map, refl, ap, sym, subst, ◌∙◌, arith, slice_get}
 use Rattle.std.proofs.Common.{slice_index_or, Option, Some, None}
 use Rattle.std.specs.Prelude.{Result, Ok, Err, is_some, unwrap_or}
@@ -61,7 +61,7 @@ pub seat_small : (g : StoreParts) (v : StoreValue) (set : ℕ) (rule : SetShape)
     → n < 2 ^ 32 → (x t : ℕ) → seat_at g.rows rule x ≡ Some t → t < 2 ^ 32
 seat_small g v set rule n k e lt x t w = let b = seat_below g rule x t k.store k.is_set w in omega (arith, b, e, lt)
 
--- what is read of the state and the set is what the caller sees
+-- a value that is read from the state and the set is the value that the caller sees
 pub over : {A : Type 0} (g : StoreParts) (v : StoreValue) (set : ℕ) (rule : SetShape) (f : SetShape → Store → A) (r : A)
     → Case g v set rule → f rule (state_of g) ≡ r → f (set_of v.tables set) v.state ≡ r
 over g v set rule f r k e = ap (λ z. f z v.state) k.at ∙ ap (λ (z : StoreValue). f rule z.state) (sym k.is) ∙ e
@@ -184,7 +184,7 @@ pub file_store : (g : StoreParts) (v : StoreValue) (new : Board) (set : ℕ) (ru
 file_store g v new set rule o x h t p how sp k e f w free q is sound =
     put_store g new rule o x h t _ p (puts g v new set rule o x h t p how sp k e f w free q is sound)
 
--- the kept part stays where one list is another
+-- the kept part stays if one list is replaced
 pub kept_same : (g : StoreParts) (new : Board) → length new.lists ≡ length g.board.lists → new.seats ≡ g.board.seats
     → layout_of (record g { board = new }) ≡ layout_of g
 kept_same g new e f = λ i. record {

@@ -56,7 +56,7 @@ length_keys : (ks : List Key) (v : List ℤ) → length (key_values ks v) ≡ le
 length_keys [] v = refl
 length_keys (k ∷ ks) v = let w = length_keys ks v in omega (arith, w)
 
--- a test of two seats that has an order: what is not behind a seat is not behind what is not before it
+-- a test of two seats that has an order: if x is not after y and y is not after z, x is not after z
 pub record IsRanking (behind : ℕ → ℕ → Bool) : Type 0 where
   pub transitive : (x y z : ℕ) → behind x y ≡ false → behind y z ≡ false → behind x z ≡ false
   pub asymmetric : (x y : ℕ) → behind x y ≡ true → behind y x ≡ false
@@ -83,7 +83,7 @@ greater_back R o x y h = ap is_gt (o.antisymm y x)
       | Greater ↦ λ w. refl
     ]) h
 
--- the order of what has attributes, by their key values
+-- the order of lists of attributes, by their key values
 abbrev by_values : List Key → List ℤ → List ℤ → Ordering
 by_values ks = on (λ v. weights ks (key_values ks v)) (slice_cmp int_cmp)
 
@@ -153,7 +153,7 @@ has_placed test x y (z ∷ l) h =
       ]
     ]) h
 
--- placed before the first that is behind
+-- a seat that is placed before the first one that ranks after it
 pub climbs_placed : (p : ℕ → ℕ → Bool) (x : ℕ) (l : List ℕ) → IsRanking p → Climbs p l
     → Climbs p (placed_before (λ y. p y x) x l)
 climbs_placed p x [] r c = (λ y h. cc, tt)
@@ -176,7 +176,7 @@ climbs_placed p x (z ∷ l) r c =
       )
     ]) refl
 
--- ---- a search that begins behind a seat of the list
+-- ---- a search that begins after a seat of the list
 
 -- a list that has a seat, at that seat
 record Split (l : List ℕ) (t : ℕ) : Type 0 where
@@ -199,7 +199,7 @@ split_at (y ∷ l) t h = elim (is_or_not y t) [
       }
 ]
 
--- what stands before a seat is passed by a test that the seat passes
+-- a test that fails at a seat also fails at the seats before it
 rank_behind : (p : ℕ → ℕ → Bool) (test : ℕ → Bool) (a m : List ℕ) (t : ℕ) (b : Option ℕ)
     → ((x y : ℕ) → p x y ≡ false → test y ≡ false → test x ≡ false) → Climbs p (a ++ t ∷ m) → test t ≡ false
     → rank_before test b (a ++ t ∷ m) ≡ rank_before test (Some t) m
@@ -257,7 +257,7 @@ looked b h t p test next i n r c f =
     let there = head_of-found b.lists t h (is_at_eq (head_of b.lists t) h i) in
     among_from p test (list_at b.lists h) t next r c there.1 f (n ∙ ap (λ l. next_in l t) there.2)
 
--- a walk that passed no seat behind one that stands later
+-- a walk that passed no seat that ranks after a later one
 pub record Walks (p : ℕ → ℕ → Bool) (l : List ℕ) (before at : Option ℕ) : Type 0 where
   pub among : Among l (λ _. false) before at
   pub climbs : Climbs p among.passed

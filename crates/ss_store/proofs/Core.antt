@@ -137,7 +137,7 @@ pub seat_number : (g : StoreParts) (s : SetShape) (x t : ℕ) → IsStore g → 
     → number_at g.numbers t ≡ x
 seat_number g s x t k is e = ap (λ ns. number_at ns t) k.numbers ∙ number_map g.members t _ (seat_entry g s x t k is e)
 
--- whoever stands in the list of a set and an owner is a member of that set
+-- each member of the list of a set and an owner is a member of that set
 pub record Member (g : StoreParts) (s : SetShape) (t : ℕ) : Type 0 where
   pub number : ℕ
   pub seat : seat_at g.rows s number ≡ Some t
@@ -162,7 +162,7 @@ one_seat g s o h t u x k is eh et f e =
     let m = member_of g s o h u k is eh f in
     some_eq (sym m.seat ∙ ap (seat_at g.rows s) (sym m.is ∙ e) ∙ et)
 
--- a seat that stands somewhere stands in the list of an owner of its set
+-- a seat that is in a list is in the list of an owner of its set
 pub owner_of_seat : (g : StoreParts) (s : SetShape) (h t x : ℕ) → IsStore g → IsSet g.tables.sets s
     → seat_at g.rows s x ≡ Some t → has (list_at g.board.lists h) t ≡ true → (o : ℕ) × (head_at g.rows s o ≡ Some h)
 owner_of_seat g s h t x k is e f =

@@ -227,7 +227,7 @@ are_tables p s =
           omega (arith, d, few);
     }
 
--- ---- what is held at first
+-- ---- the parts at first
 
 abbrev pub system_heads : ℕ → ℕ → List HeadEntry
 system_heads i zero = []
@@ -332,7 +332,7 @@ begun_value t = let n = length t.classes in λ i. record {
   };
 }
 
--- what the call holds
+-- the values that the call holds
 pub record Begins (t : Tables) (es : EntityTable) (ns : List ℕ) (b : Board) : Type 0 where
   pub rows : es ≡ nothing_made (length t.classes)
   pub numbers : ns ≡ []

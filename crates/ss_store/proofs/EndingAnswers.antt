@@ -1,4 +1,4 @@
--- What ending an entity answers, and bringing it back.
+-- The results of the calls that end an entity and bring it back.
 use Rattle.std.proofs.Common.{◌≡◌, ℕ, ℤ, suc, ◌+◌, ◌-◌, ◌<◌, ◌==◌, ◌&&◌, List, length}
 use Rattle.std.proofs.Common.{refl, ap, sym, subst, ◌∙◌, arith, slice_get, Option, Some}
 use Rattle.std.proofs.Common.{None}
@@ -37,7 +37,7 @@ use Rattle.ss_store.proofs.ReferenceEnds.{put, put_state, is_back, Ends, ended_s
 use Rattle.ss_store.proofs.ReferenceEnds.{members_are}
 use Rattle.ss_store.proofs.ReferenceEnds.{owns_is}
 
--- an entity with a reference, where it lies
+-- an entity with a reference, and its row and values
 pub record Lives (g : StoreParts) (c k : ℕ) (r : Row) : Type 0 where
   pub index : ℕ
   pub number : k ≡ suc index
@@ -62,7 +62,7 @@ lives g v c k shape r a given e =
       class = l.class;
     }
 
--- ---- what the calls require
+-- ---- the requirements of the calls
 
 pub seats_below : (g : StoreParts) (v : StoreValue) (c k : ℕ) (shape : ClassShape) (r : Row) (sets : List SetShape)
     → At g v c shape
@@ -89,7 +89,7 @@ index_below g c k n r l e =
 
 -- ---- faults
 
--- what is said of the state that is held is said of the value
+-- a result that holds for the parts holds for the value
 abbrev pub Says : StoreValue → ℕ → ℕ → Result Store RunFault → Type 0
 Says v c k r = without_entity v.tables v.state c k ≡ r
 
@@ -102,7 +102,7 @@ pub none_ends : (g : StoreParts) (v : StoreValue) (c k : ℕ) → value_of g ≡
 none_ends g v c k is s e = subst (λ (z : StoreValue). Says z c k (Err NoEntity)) is
     (let no : exists (state_of g) c k ≡ false = entity_is g c k s ∙ ap is_some e in rw no refl)
 
--- what the first loop looks for
+-- the test of the first loop
 abbrev pub stands : StoreParts → ℕ → Row → SetShape → Bool
 stands g c r p = (p.member == c) && is_some (head_of g.board.lists (r.seat + p.slot))
 
@@ -139,7 +139,7 @@ owner_stays g v c k r shape a b sets at e es ea f eb t =
 
 -- ---- ended
 
--- what the two loops found, and what is held then
+-- the results of the two loops, and the parts after them
 pub record Found_out (g : StoreParts) (v : StoreValue) (c k : ℕ) (shape : ClassShape) (r : Row) : Type 0 where
   pub at : At g v c shape
   pub not_permanent : (class_of v.tables c).permanent ≡ false
@@ -173,7 +173,7 @@ ends g v c k shape r d l = record {
       unfilled (list_at g.board.lists) r.head shape.owned d.none j (subst (λ n. j < n) owned lt);
 }
 
--- what is held once the values were taken out
+-- the parts once the values were taken out
 put_is : (g : StoreParts) (c k n : ℕ) (r : Row) (u : Option (List ℤ)) (es : EntityTable) → n ≡ k - 1 → (i : ℕ) → k
     ≡ suc i
     → es ≡ with_table (with_values n u) g.rows None → record g { rows = es } ≡ put g i u
@@ -297,7 +297,7 @@ taken_out f o q x e h = e ∙ ap (λ z. Some (option_map f z)) h
 
 -- ---- brought back
 
--- a reference that has ended, where it lies
+-- a reference that has ended, and its row
 pub record Lay (g : StoreParts) (c k : ℕ) : Type 0 where
   pub index : ℕ
   pub number : k ≡ suc index

@@ -33,19 +33,19 @@ use Rattle.ss_store.proofs.Boards.{relisted_back}
 use Rattle.ss_store.proofs.Agree.{member_is, members_look, apart, stands_is}
 use Rattle.ss_store.proofs.RankPlaces.{rank_in, ranked_put, ranked_numbers, ranked_is}
 
--- a seat put into a list, and whoever stood there before
+-- a seat put into a list, and the seats that were in it before
 put_other : (l : List ℕ) (p : Option ℕ) (t u : ℕ) → has (put_at l p t) u ≡ true → (u ≡ t) ⊎ (has l u ≡ true)
 put_other l p t u e = elim (is_or_not u t) [
   | inl is ↦ inl is
   | inr far ↦ inr (sym (has-put_at_other l p t u (grind (arith, nat_tests))) ∙ e)
 ]
 
--- a seat that stands nowhere is not in a list
+-- a seat that is in no list is not in this one
 pub free_list : (b : Board) (h t : ℕ) → head_of b.lists t ≡ None → has (list_at b.lists h) t ≡ false
 free_list b h t e = has-from_times_in (list_at b.lists h) t (let z = times-free b.lists t e in
     let y = times-list_at b.lists h t in omega (arith, z, y))
 
--- a seat put behind another in the list of a head, or first
+-- a seat put after another in the list of a head, or first
 pub record Puts (g : StoreParts) (new : Board) (rule : SetShape) (o x h t : ℕ) (m : List ℕ)
     (p : Option ℕ) : Type 0 where
   pub store : IsStore g
@@ -117,7 +117,7 @@ put_stands g new rule o x h t m p d =
     ∙ has-map (number_at g.numbers) m t (apart_put g new rule o x h t m p d)
     ∙ ap (λ l. has l t) d.put ∙ has-put_at (list_at g.board.lists h) p t d.before
 
--- ---- what FILE answers
+-- ---- the results of FILE
 
 pub filed_ok : (rule : SetShape) (st : Store) (o x : ℕ) (how : How) (l : List ℕ) → is_owner rule st o ≡ true
     → exists st rule.member x ≡ true → names_entity rule st how ≡ true → is_filed rule st x ≡ false
@@ -202,7 +202,7 @@ has_map_seat f (z ∷ l) y e =
           (d.0, grind (arith, nat_tests, t), d.2)
     ]) refl e
 
--- a member that stands in the list, by its seat
+-- a member that is in the list, by its seat
 pub stands_there : (g : StoreParts) (rule : SetShape) (o h at y : ℕ) → IsStore g → IsSet g.tables.sets rule
     → head_at g.rows rule o ≡ Some h → seat_at g.rows rule y ≡ Some at → head_of g.board.lists at ≡ Some h
     → has (members_of rule (state_of g) o) y ≡ true
@@ -215,7 +215,7 @@ pub stands_not : (g : StoreParts) (rule : SetShape) (o h at y : ℕ) → IsStore
 stands_not g rule o h at y s is eh ey e = ap (λ l. has l y) (members_look g rule o h s is eh)
     ∙ stands_is g rule o h at y s is eh ey ∙ not_at g h at s e
 
--- what a fault of `standing` says
+-- the facts that a fault of `standing` gives
 pub standing_err : (g : StoreParts) (rule : SetShape) (o h y : ℕ) (q : Option ℕ) (e : RunFault) → IsStore g
     → IsSet g.tables.sets rule → head_at g.rows rule o ≡ Some h → seat_at g.rows rule y ≡ q
     → seat_in_list g.board.lists h q ≡ Err e
@@ -229,7 +229,7 @@ standing_err g rule o h y (Some t) e s is eh eq f =
 
 -- ---- the place at which a member is filed
 
--- a place for a member: what it makes of the list
+-- a place for a member: the list that it makes
 pub record Placed (g : StoreParts) (rule : SetShape) (o x h t : ℕ) (p : Option ℕ) (how : How) : Type 0 where
   pub named : names_entity rule (state_of g) how ≡ true
   pub there : names_member how (members_of rule (state_of g) o) ≡ true
@@ -246,7 +246,7 @@ last_before l = (elim (last_of l) as (λ q. last_of l ≡ q → ForSome q (λ at
   | Some at ↦ λ e z w. subst (λ u. has l u ≡ true) (some_eq w) (has-last_of l at e)
 ]) refl
 
--- a call on a set of a store, where the owner's head and the member's seat are these
+-- a call on a set of a store, with the owner's head and the member's seat
 pub record Spots (g : StoreParts) (rule : SetShape) (o x h t : ℕ) : Type 0 where
   pub store : IsStore g
   pub is_set : IsSet g.tables.sets rule
@@ -283,7 +283,7 @@ placed_rule g rule o x h t (Ranked keys) d =
     ∙ ap (λ p. map (number_at g.numbers) (put_at l p t))
     (sym (ranked_is g rule o x h t keys d.store d.is_set d.head d.seat))
 
--- the seat before the first that ranks behind is one of the list
+-- the seat before the first that ranks after is one of the list
 ranked_before : (b : ℕ → Bool) (l : List ℕ) → ForSome (rank_before b None l) (λ at. has l at ≡ true)
 ranked_before b l z e = elim (rank_in b None l z e) [ inl f ↦ cc | inr f ↦ f ]
 
@@ -296,7 +296,7 @@ rule_before g c x l (Ranked keys) = ranked_before _ l
 pub spot_eq : {a b : Spot} → ◌≡◌ {A = Result Spot RunFault} (Ok a) (Ok b) → a ≡ b
 spot_eq e = cc
 
--- what BEFORE and AFTER name
+-- the seats that BEFORE and AFTER name
 before_spot : (q : Option ℕ) (sp : Spot) → spot_before q ≡ Ok sp → (t : ℕ) × (q ≡ Some t) × (spot.Before t ≡ sp)
 before_spot None sp e = cc
 before_spot (Some t) sp e = (t, refl, spot_eq e)

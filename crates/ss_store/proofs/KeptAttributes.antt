@@ -48,7 +48,7 @@ finds_none test (l ∷ ls) e =
       | false ↦ λ w f. rw w (finds_none test ls f)
     ]) refl e
 
--- the list that holds a member is that in which its seat stands
+-- the list that holds a member is the list that holds its seat
 pub holding_is : (g : StoreParts) (rule : SetShape) (t x : ℕ) → IsStore g → IsSet g.tables.sets rule
     → seat_at g.rows rule x ≡ Some t → list_holding rule (state_of g) x
     ≡ map (number_at g.numbers) (list_of g.board.lists t)

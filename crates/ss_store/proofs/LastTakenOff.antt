@@ -1,4 +1,4 @@
--- The last entity taken off: what is held was the rest, grown by it.
+-- The last entity taken off: the parts were the rest and that entity.
 use Rattle.std.proofs.lemmas.Bool.Decides.{nat_tests}
 use Rattle.std.proofs.Common.{◌≡◌, ◌⊎◌, inl, inr, ℕ, ℤ, zero, suc, ◌+◌, ◌-◌, ◌<◌, ◌≤◌, List, [], ◌∷◌, ◌++◌}
 use Rattle.std.proofs.Common.{length, map, take, replicate, refl, ap, sym, subst, ◌∙◌, arith, slice_get}
@@ -30,7 +30,7 @@ use Rattle.ss_store.proofs.OneMoreEntity.{seats_of_one, seat_numbers, map_both, 
 use Rattle.ss_store.proofs.OneMoreEntity.{value_kept}
 use Rattle.ss_store.proofs.OneMoreEntity.{row_was, value_was, refound}
 
--- ---- what was there before an entity was made is a store
+-- ---- the parts before an entity was made are a store
 
 -- a row of class c is in its numbering
 which_table : (g : StoreParts) (w : Option ℕ) (c : ℕ) (shape : ClassShape) (v : List ℤ)

@@ -45,7 +45,7 @@ use Rattle.ss_store.proofs.RankPlaces.{ranked_put, values_some, values_there}
 use Rattle.ss_store.proofs.OneListChanges.{Relisted, is_or_not}
 use Rattle.ss_store.proofs.ValueWrites.{Lies, get_other, get_set}
 
--- ---- what is known
+-- ---- the lists that are known to be in order
 
 pub none_known : (g : StoreParts) (fs : List Bool) → ((h : ℕ) → known_at fs h ≡ false) → AreInOrder g fs
 none_known g fs f = record { each = λ h s o known is own. absurd (let bad = sym (f h) ∙ known in cc) }
@@ -69,7 +69,7 @@ noted_other (f ∷ fs) (suc h) (suc k) b far e = noted_other fs h k b (λ w. far
 
 -- ---- lists
 
--- the list of a head is another, which is in order where that is noted
+-- the list of a head is another, which is in order if that is noted
 relisted_order : (g : StoreParts) (fs : List Bool) (new : Board) (h : ℕ) (m : List ℕ) (b : Bool)
     → Relisted g.board new h m → AreInOrder g fs
     → ((s : SetShape) (o : ℕ) → b ≡ true → IsSet g.tables.sets s
@@ -143,20 +143,20 @@ filed_order g v fs new n rule o x h t p how sp b k e f w free q is sound a by_ru
     subst (λ z. InOrder g.rows g.numbers z (put_at (list_at g.board.lists h) p t)) (sym same)
     (placed_order g rule x h t p k.store k.is_set f (order bt) place))
 
--- what is known of a list is known of its set
+-- an order that is known for a list is the order of its set
 pub known_order : (g : StoreParts) (fs : List Bool) (rule : SetShape) (o h : ℕ) → IsStore g → AreInOrder g fs
     → IsSet g.tables.sets rule → head_at g.rows rule o ≡ Some h → known_at fs h ≡ true
     → InOrder g.rows g.numbers rule (list_at g.board.lists h)
 known_order g fs rule o h s a is e known = a.each h rule _ known is (head_entry g rule o h s is e)
 
--- a search begins somewhere in a list that is in order alone
+-- a search begins after the front only in a list that is in order
 pub started : (b : Bool) (o : Option ℕ) (t : ℕ) → (b ≡ false → o ≡ None) → o ≡ Some t → b ≡ true
 started true o t f e = refl
 started false o t f e = absurd (let bad : None ≡ Some t = sym (f refl) ∙ e in cc)
 
 -- ---- rows
 
--- whoever stands in the list of a head is a member of its set
+-- each member of the list of a head is a member of its set
 member_under : (g : StoreParts) (s : SetShape) (o h t : ℕ) → IsStore g → IsSet g.tables.sets s
     → slice_get g.owners h ≡ Some (record { owner = s.owner; list = s.list; number = o })
     → has (list_at g.board.lists h) t ≡ true → Member g s t
@@ -294,7 +294,7 @@ some_values : (g : StoreParts) (w : Option ℕ) (i : ℕ) (u : Option ℕ) (j : 
     → u ≡ w → j ≡ i → ◌≡◌ {A = Option (List ℤ)} (Some x) (Some y)
 some_values g w i u j x y ex ey a b = some_eq (sym ex ∙ (λ n. slice_get (rows_in g.rows (a n)).values (b n)) ∙ ey)
 
--- what the second loop looks for
+-- the test of the second loop
 abbrev pub ranks : StoreParts → ℕ → ℕ → Row → SetShape → Bool
 ranks g c a r s = (s.member == c) && is_key s a && is_some (head_of g.board.lists (r.seat + s.slot))
 

@@ -1,4 +1,4 @@
--- What making an entity answers.
+-- The results of the calls that make an entity.
 use Rattle.std.proofs.lemmas.Bool.Decides.{nat_tests}
 use Rattle.std.proofs.Common.{◌≡◌, ◌⊎◌, inl, inr, ℕ, ℤ, pos, zero, suc, ◌+◌, ◌-◌, ◌*◌, ◌<◌, ◌≤◌, ◌==◌, ◌||◌, ◌&&◌}
 use Rattle.std.proofs.Common.{◌^◌, List, [], ◌∷◌, ◌++◌, length, map, replicate, refl, ap, sym, subst, ◌∙◌, arith}
@@ -265,7 +265,7 @@ new_fits g w c shape v s t k =
 
 -- ---- the call
 
--- what is held once it was made
+-- the parts once the entity was made
 pub record Adds (g : StoreParts) (c : ℕ) (shape : ClassShape) (row : Row) (es : EntityTable) (ns : List ℕ)
     (b : Board) : Type 0 where
   pub row_is : row ≡ record { class = c; head = length g.board.lists; seat = g.board.seats }

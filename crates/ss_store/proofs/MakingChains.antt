@@ -128,7 +128,7 @@ room_for c i old now perm none m lt =
     ∙ ap (λ b. cond b MOST_ENTITIES MOST_REFERENCES) perm in
     omega (arith, was, rows, below, n, lt, limit)
 
--- ---- what `create` and `create_all` answer
+-- ---- the results of `create` and `create_all`
 
 set_once : {A : Type 0} (xs : List (List A)) (c : ℕ) (ys : List A) → slice_index_or xs c [] ≡ []
     → change_at (λ es. es ++ ys) xs c ≡ slice_set xs c ys

@@ -1,4 +1,4 @@
--- Lists with something behind them, and numberings changed.
+-- Lists with items added at the end, and numberings changed.
 use Rattle.std.proofs.Common.{◌≡◌, ◌≢◌, ◌⊎◌, inl, inr, ℕ, ℤ, zero, suc, ◌+◌, ◌<◌, List, [], ◌∷◌, ◌++◌, length}
 use Rattle.std.proofs.Common.{map, take, replicate, refl, ap, sym, subst, ◌∙◌, arith, slice_get, slice_index_or, Option}
 use Rattle.std.proofs.Common.{Some, None, length-append}
@@ -44,11 +44,11 @@ more_get (z ∷ xs) y (suc i) x e = elim (more_get xs y i x e) [ inl f ↦ inl f
 pub length_more : {A : Type 0} (xs : List A) (y : A) → length (xs ++ y ∷ []) ≡ suc (length xs)
 length_more xs y = let e = length-append xs (y ∷ []) in omega (arith, e)
 
--- what stands before two equal ends is equal
+-- the parts before two equal ends are equal
 pub same_fronts : {A : Type 0} (xs ys zs : List A) → length xs ≡ length ys → xs ++ zs ≡ ys ++ zs → xs ≡ ys
 same_fronts xs ys zs l e = sym (take-append_seam xs zs) ∙ (λ i. take (l i) (e i)) ∙ take-append_seam ys zs
 
--- a list is its front and these behind it
+-- a list is its front and then these items
 pub tail_is : {A : Type 0} (xs ys : List A) (h : ℕ) → length xs ≡ h + length ys
     → ((k : ℕ) (y : A) → slice_get ys k ≡ Some y → slice_get xs (h + k) ≡ Some y) → xs ≡ take h xs ++ ys
 tail_is [] [] zero l s = refl

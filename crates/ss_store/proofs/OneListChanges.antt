@@ -160,14 +160,14 @@ index_of (y ∷ xs) (suc i) x d e = index_of xs i x d e
 
 -- ---- lists of an owner
 
--- where none of its heads changed
+-- if none of its heads changed
 pub owned_same : (at new : ℕ → List ℕ) (f n : ℕ) → ((j : ℕ) → f ≤ j → j < f + n → new j ≡ at j)
     → owned_from new f n ≡ owned_from at f n
 owned_same at new f zero s = refl
 owned_same at new f (suc n) s = λ i. s f (omega arith) (omega arith) i ∷ owned_same at new (suc f) n
     (λ j a b. s j (omega (arith, a)) (omega (arith, b))) i
 
--- and where one did
+-- and if one of them changed
 owned_one : (at new : ℕ → List ℕ) (f n k : ℕ) (l : List ℕ) → k < n → new (f + k) ≡ l
     → ((j : ℕ) → j ≢ f + k → new j ≡ at j) → owned_from new f n ≡ set (owned_from at f n) k l
 owned_one at new f zero k l lt e s = absurd (omega (arith, lt))
@@ -219,7 +219,7 @@ made_one : (cs : List ClassShape) (at new : ℕ → List ℕ) (r : Row) (v : Opt
 made_one cs at new r None k l lt e s = entity_one cs at new r [] k l lt e s
 made_one cs at new r (Some v) k l lt e s = entity_one cs at new r v k l lt e s
 
--- what a head of a row is of
+-- the list to which a head of a row belongs
 pub row_entry : (g : StoreParts) (w : Option ℕ) (i : ℕ) (r : Row) (j : ℕ) → IsStore g
     → slice_get (rows_in g.rows w).rows i ≡ Some r → r.head ≤ j → j < r.head + (class_of g.tables r.class).owned
     → (k : ℕ) × (slice_get g.owners j ≡ Some (record { owner = OwnedBy r.class; list = k; number = suc i }))
@@ -246,7 +246,7 @@ reference_other change c None far = refl
 reference_other change c (Some e) far = let other : (e.class == c) ≡ false =
     (let f = far e refl in grind (arith, nat_tests, f)) in rw other refl
 
--- what the board says of heads, where one of them has another list
+-- the lists of heads on the board, if one of the heads has another list
 record Change (g : StoreParts) (new : Board) (r : Row) (k : ℕ) (l : List ℕ) : Type 0 where
   pub below : k < (class_of g.tables r.class).owned
   pub here : numbers_under new g.numbers (r.head + k) ≡ l

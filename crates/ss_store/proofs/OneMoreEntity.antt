@@ -1,4 +1,4 @@
--- An entity made: what is held is a store still, and the state has one entity more.
+-- An entity made: the parts are a store still, and the state has one entity more.
 use Rattle.std.proofs.lemmas.Bool.Decides.{nat_tests}
 use Rattle.std.proofs.Common.{◌≡◌, ◌⊎◌, inl, inr, ℕ, ℤ, zero, suc, ◌+◌, ◌<◌, ◌≤◌, ◌==◌, List, [], ◌∷◌, ◌++◌}
 use Rattle.std.proofs.Common.{length, map, replicate, refl, ap, sym, subst, ◌∙◌, arith, slice_get}
@@ -86,7 +86,7 @@ pub map_both : {A B : Type 0} (f : A → B) (xs ys : List A) → map f (xs ++ ys
 map_both f [] ys = refl
 map_both f (x ∷ xs) ys = ap (λ z. f x ∷ z) (map_both f xs ys)
 
--- empty lists behind change no list
+-- empty lists at the end change no list
 list_rep : (n j : ℕ) → list_at (replicate n []) j ≡ []
 list_rep zero j = refl
 list_rep (suc n) zero = refl

@@ -45,7 +45,7 @@ rank_in b p (t ∷ l) z e =
       ])
     ]) e
 
--- put behind that seat, it is placed before the first that passes the test
+-- a seat put after that seat is before the first that passes the test
 pub ranked_put : (b : ℕ → Bool) (l : List ℕ) (t : ℕ) → ((y : ℕ) → times_in l y ≤ 1)
     → put_at l (rank_before b None l) t ≡ placed_before b t l
 ranked_put b [] t once = refl
@@ -134,7 +134,7 @@ keys_are g keys c k r s e =
     ∙ sym (ap (λ o. unwrap_or (option_map (λ (z : Entity). key_values keys z.attributes) o) [])
     (entity_some g c k r s l))
 
--- the seat before the first that ranks behind, by the attributes as they are now
+-- the seat before the first that ranks after, by the attributes as they are now
 pub ranked_is : (g : StoreParts) (rule : SetShape) (o x h t : ℕ) (keys : List Key) → IsStore g
     → IsSet g.tables.sets rule
     → head_at g.rows rule o ≡ Some h → seat_at g.rows rule x ≡ Some t

@@ -1,4 +1,4 @@
--- What reading calls answer.
+-- The results of the reading calls.
 use Rattle.std.proofs.lemmas.Bool.Decides.{nat_tests}
 use Rattle.std.proofs.Common.{◌≡◌, ◌⊎◌, inl, inr, ℕ, ◌<◌, ◌==◌, List, [], ◌∷◌, length, map, refl, ap, sym, ◌∙◌, arith}
 use Rattle.std.proofs.Common.{Option, Some, None, Bool, true, false, cond}
@@ -247,7 +247,7 @@ is_in_true g v set rule o x t k e =
       stands_there g rule o d.h t x k.store k.is_set d.head d.seat d.at,
     ) refl))
 
--- what is read at a member
+-- the value that is read at a member
 at_fault : {A : Type 0} (g : StoreParts) (rule : SetShape) (o x : ℕ) (f : RunFault) (a : A) → IsStore g
     → seat_in g.rows g.board.lists rule o x ≡ Err f → at_member rule (state_of g) o x a ≡ Err f
 at_fault g rule o x f a s e =

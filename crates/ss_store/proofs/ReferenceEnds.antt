@@ -1,4 +1,5 @@
--- A reference ended, and brought back: what is held is a store still, and the state has another reference.
+-- A reference ended, and brought back: the parts are a store still, and the state has another
+-- reference.
 use Rattle.std.proofs.lemmas.Bool.Decides.{nat_tests}
 use Rattle.std.proofs.Common.{◌≡◌, ◌≢◌, inl, inr, ℕ, ℤ, zero, suc, ◌+◌, ◌<◌, ◌==◌, ◌||◌, ◌&&◌}
 use Rattle.std.proofs.Common.{List, [], ◌∷◌, length, map, replicate, refl, ap, sym, subst, ◌∙◌, arith, slice_get}
@@ -31,7 +32,7 @@ use Rattle.ss_store.proofs.OneMoreEntity.{refound}
 use Rattle.ss_store.proofs.TakingOffAnswers.{not_member}
 use Rattle.ss_store.proofs.ValueWrites.{get_other}
 
--- what is held with other values of a reference, or none
+-- the parts with other values of a reference, or none
 abbrev pub put : StoreParts → ℕ → Option (List ℤ) → StoreParts
 put g i u = record g { rows = with_table (with_values i u) g.rows None }
 
@@ -314,7 +315,7 @@ ended_empty g i r s d k lt =
           (ap (λ (z : HeadEntry). z.owner) both) (ap (λ (z : HeadEntry). z.number) both))
     ]) refl
 
--- ---- what the call looks for
+-- ---- the tests of the call
 
 -- whether it is a member, as its seats say
 pub members_are : (g : StoreParts) (c k : ℕ) (r : Row) (sets : List SetShape) → IsStore g → row_of g.rows c k ≡ Some r
@@ -389,7 +390,7 @@ filled_here at f (suc n) (suc k) lt e =
     rw (filled_here at (suc f) n k (omega (arith, lt)) (ap (λ j. is_filled (at j)) (sym z) ∙ e))
     (elim (is_filled (at f)) as (λ b. (b || true) ≡ true) [ true ↦ refl | false ↦ refl ])
 
--- a list is filled where it has a first
+-- a list is filled if it has a first
 pub filled_first : (l : List ℕ) → is_filled l ≡ is_some (first_of l)
 filled_first [] = refl
 filled_first (x ∷ l) = refl

@@ -77,7 +77,7 @@ cut_members : (g : StoreParts) (new : Board) (rule : SetShape) (o x h t : ℕ) �
 cut_members g new rule o x h t d = members_look (record g { board = new }) rule o h (cut_store g new rule o x h t d)
     d.is_set d.head ∙ ap (map (number_at g.numbers)) (cut_relisted g new rule o x h t d).here
 
--- where its place was
+-- the place of the removed seat
 pub cut_before : (g : StoreParts) (h t : ℕ) → head_of g.board.lists t ≡ Some h
     → prev_in (list_of g.board.lists t) t ≡ prev_in (list_at g.board.lists h) t
 cut_before g h t e = ap (λ l. prev_in l t) (head_of-found g.board.lists t h e).2
@@ -172,7 +172,7 @@ none_of : (o : Option ℕ) → is_some o ≡ false → o ≡ None
 none_of None e = refl
 none_of (Some x) e = cc
 
--- a member of the list stands there with its seat
+-- a member of the list is in it with its seat
 pub record Stands (g : StoreParts) (rule : SetShape) (o h x : ℕ) : Type 0 where
   pub at : ℕ
   pub seat : seat_at g.rows rule x ≡ Some at
@@ -199,7 +199,7 @@ pub undo_head : (g : StoreParts) (rule : SetShape) (o : ℕ) → IsStore g → i
     → (h : ℕ) × (head_at g.rows rule o ≡ Some h)
 undo_head g rule o s e = is_some_of (head_at g.rows rule o) (sym (owner_is g rule o s) ∙ e)
 
--- a filing that fits, as it stands on the board
+-- a filing that fits, on the board
 pub record Unfiles (g : StoreParts) (rule : SetShape) (o x : ℕ) : Type 0 where
   pub h : ℕ
   pub t : ℕ
@@ -259,7 +259,7 @@ unfile_store g new rule o x t s u e b f =
     cut_store g new rule o x u.h u.t (unfiles_cuts g new rule o x u s (b
     ∙ ap (after_unlink g.board) (sym (unfile_seat g rule o x t u e))) f)
 
--- what `unapply` says of a list of this set
+-- the effect of `unapply` on a list of this set
 unapply_list : (v : StoreValue) (set : ℕ) (rule : SetShape) (w : Owner) (n o : ℕ) (f : List ℕ → List ℕ)
     → set_of v.tables set ≡ rule → w ≡ (set_of v.tables set).owner → n ≡ (set_of v.tables set).list
     → with_list rule v.state o (f (members_of rule v.state o))
@@ -288,7 +288,7 @@ unfile_left g v new set rule w n o x t d f e b sound =
       kept = (kept_same g new r.heads r.seats ∙ ap (λ (z : StoreValue). z.kept) d.is) i;
     }
 
--- a removal that fits, as it stands on the board
+-- a removal that fits, on the board
 pub record Refiles (g : StoreParts) (rule : SetShape) (o x : ℕ) (b : Option ℕ) : Type 0 where
   pub h : ℕ
   pub t : ℕ

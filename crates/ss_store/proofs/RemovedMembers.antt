@@ -113,7 +113,7 @@ unnamed g rule o h e (which.Member y) s is eh w =
     unnamed_member rule (state_of g) (members_of rule (state_of g) o) y e
     (standing_err g rule o h (number_of y) (seat_at g.rows rule (number_of y)) e s is eh refl w)
 
--- ---- what REMOVE answers
+-- ---- the results of REMOVE
 
 faulted : (s : Result (ℕ × Store) RunFault) (e : RunFault) (v : StoreValue) → s ≡ Err e → IsRemoval (Err e) s v v
 faulted s e v w = rw w (refl, refl)

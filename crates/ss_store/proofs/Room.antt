@@ -45,7 +45,7 @@ pub free_above : (b new : Board) (n t : ℕ) → IsSound b → new.lists ≡ b.l
     → head_of new.lists t ≡ None
 free_above b new n t s e f le = ap (λ z. head_of z t) e ∙ head_of-above b t s (omega (arith, f, le))
 
--- nor where there are more empty lists
+-- nor if there are more empty lists
 pub free_grown : (b new : Board) (h s n t : ℕ) → IsSound b → new ≡ with_places h s b → n ≡ b.seats → n ≤ t
     → head_of new.lists t ≡ None
 free_grown b new h s n t w e f le =
@@ -74,7 +74,7 @@ pub heads_empty : (ls new : List (List ℕ)) (h n i : ℕ) → new ≡ ls ++ rep
 heads_empty ls new h n i e f le =
     ap (λ z. list_at z i) e ∙ list_more ls h i ∙ list_past ls i (omega (arith, f, le))
 
--- what was added behind a list is taken off
+-- items added at the end of a list are taken off
 pub front_back : {A : Type 0} (xs ys mid new : List A) (n : ℕ) → mid ≡ xs ++ ys → n ≡ length xs → new ≡ take n mid
     → new ≡ xs
 front_back xs ys mid new n e f k = k ∙ (λ i. take (f i) (e i)) ∙ take-append_seam xs ys

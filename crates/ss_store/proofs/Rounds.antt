@@ -6,7 +6,7 @@ use Rattle.std.proofs.Common.{refl, ap, sym, ◌∙◌, arith, replicate, slice_
 use Rattle.std.specs.Prelude.{slice_set}
 use Rattle.ss_store.specs.Order.{known_at, known_in, AreRounds}
 
--- known is what was found in this round
+-- a list is known if it was found to be in order in this round
 pub known_is : (rs : List ℕ) (r h : ℕ) → 0 < r → known_at (known_in rs r) h ≡ (slice_index_or rs h 0 == r)
 known_is [] r h lt = sym (let e : (0 == r) ≡ false = grind (arith, nat_tests, lt) in e)
 known_is (x ∷ rs) r zero lt = refl

@@ -1,4 +1,4 @@
--- Where the search for a place among the members of a list stands.
+-- The state of the search for a place among the members of a list.
 use Rattle.std.proofs.lemmas.Bool.Decides.{nat_tests}
 use Rattle.std.proofs.Common.{◌≡◌, ℕ, ◌<◌, ◌≤◌, ◌==◌, ◌||◌, List, [], ◌∷◌, ◌++◌, length, refl, ap, sym, subst, ◌∙◌}
 use Rattle.std.proofs.Common.{arith, Option, Some, None, Bool, true, false, cond, nat_lt}
@@ -23,7 +23,7 @@ pub left_none : (l : List ℕ) → first_of l ≡ None → l ≡ []
 left_none [] e = refl
 left_none (y ∷ l) e = cc
 
--- the seat at which it stands
+-- the seat at which the search is
 left_some : (l : List ℕ) (t : ℕ) → first_of l ≡ Some t → (m : List ℕ) × (l ≡ t ∷ m)
 left_some [] t e = cc
 left_some (y ∷ m) t e = (m, ap (λ z. z ∷ m) (some_eq e))
@@ -37,7 +37,7 @@ has_between [] m t = grind (arith, nat_tests)
 has_between (y ∷ a) m t = let w = has_between a m t in
     rw w (elim (y == t) as (λ k. (k || true) ≡ true) [ true ↦ refl | false ↦ refl ])
 
--- from a seat on, where it stands once
+-- the list from a seat on, if the seat is in it once
 rest_between : (a m : List ℕ) (t : ℕ) → ((y : ℕ) → times_in (a ++ t ∷ m) y ≤ 1)
     → rest_from (a ++ t ∷ m) (Some t) ≡ t ∷ m
 rest_between [] m t once = let same : (t == t) ≡ true = grind (arith, nat_tests) in rw same refl
@@ -52,7 +52,7 @@ rest_behind a [] t once = refl
 rest_behind a (u ∷ m) t once = ap (λ z. rest_from z (Some u)) (sym (append_one a t (u ∷ m)))
     ∙ rest_between (a ++ t ∷ []) m u (λ y. subst (λ z. times_in z y ≤ 1) (sym (append_one a t (u ∷ m))) (once y))
 
--- no seat stands twice
+-- no seat is in a list twice
 apart_left : (a m : List ℕ) (t : ℕ) → ((y : ℕ) → times_in (a ++ t ∷ m) y ≤ 1) → has a t ≡ false
 apart_left a m t once =
     (elim (has a t) as (λ k. has a t ≡ k → k ≡ false) [
@@ -88,7 +88,7 @@ pub among_passed : (l : List ℕ) (test : ℕ → Bool) (before : Option ℕ) (t
 unfolding among_goes_on
 among_passed l test before t next once a e n = refl
 
--- the seat at which it stands is in the list
+-- the seat at which the search is, is in the list
 pub among_has : (l : List ℕ) (test : ℕ → Bool) (before : Option ℕ) (t : ℕ) → Among l test before (Some t)
     → has l t ≡ true
 among_has l test before t a =

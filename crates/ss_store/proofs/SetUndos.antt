@@ -16,13 +16,13 @@ undoes g v set rule k = record { is = k.is; store = k.store; is_set = k.is_set; 
 pub is_there : (o : Option ℕ) (t : ℕ) → o ≡ Some t → IsSome o
 is_there o t e = rw e refl
 
--- the seat of what was filed
+-- the seat of the member that was filed
 pub filed_seat : (g : StoreParts) (v : StoreValue) (set : ℕ) (rule : SetShape) (w : Owner) (n o x : ℕ) (q : Option ℕ)
     → Case g v set rule → FitsFiled v set w n o x → q ≡ seat_at g.rows rule x → IsSome q
 filed_seat g v set rule w n o x q k f e = let u = unfiles g v set rule w n o x (undoes g v set rule k) f in
     is_there q u.t (e ∙ u.seat)
 
--- the head and the seat of what was removed
+-- the head and the seat of the member that was removed
 pub removed_head : (g : StoreParts) (v : StoreValue) (set : ℕ) (rule : SetShape) (w : Owner) (n o x : ℕ)
     (b q : Option ℕ)
     → Case g v set rule → FitsRemoved v set w n o x b → q ≡ head_at g.rows rule o → IsSome q

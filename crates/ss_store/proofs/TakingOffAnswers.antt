@@ -1,4 +1,4 @@
--- What taking the last entity off answers.
+-- The results of the calls that take the last entity off.
 use Rattle.std.proofs.lemmas.Bool.Decides.{nat_tests}
 use Rattle.std.proofs.Common.{◌≡◌, inl, inr, ℕ, ℤ, zero, suc, ◌+◌, ◌-◌, ◌<◌, ◌≤◌, ◌==◌, ◌||◌, ◌&&◌, List, []}
 use Rattle.std.proofs.Common.{◌∷◌, length, map, take, refl, ap, sym, subst, ◌∙◌, arith, slice_get, Option, Some, None}
@@ -66,7 +66,7 @@ pub map_empty : (f : ℕ → ℕ) (l : List ℕ) → map f l ≡ [] → l ≡ []
 map_empty f [] e = refl
 map_empty f (x ∷ l) e = cc
 
--- the entity, the count behind it, and its values
+-- the entity, the count of those before it, and its values
 pub record Newest (g : StoreParts) (w : Option ℕ) (c : ℕ) (shape : ClassShape) (h t : ℕ) : Type 0 where
   pub before : ℕ
   pub values : List ℤ
@@ -205,7 +205,7 @@ pub shrinks : (g : StoreParts) (w : Option ℕ) (c : ℕ) (shape : ClassShape) (
 shrinks g w c shape h t s d r e = subst (λ (z : Row). CanShrink g.board z.head z.seat)
     (some_eq (sym (last_row g w c shape h t d) ∙ e)) (can_shrink g w c shape h t s d)
 
--- what is held then
+-- the parts after the call
 pub record Takes (g : StoreParts) (w : Option ℕ) (h t : ℕ) (es : EntityTable) (ns : List ℕ) (b : Board) : Type 0 where
   pub rows : es ≡ with_table without_last_row g.rows w
   pub numbers : ns ≡ take t g.numbers
@@ -274,7 +274,7 @@ pub taken_pair : (g : StoreParts) (w : Option ℕ) (c : ℕ) (shape : ClassShape
 taken_pair g w c shape h t es ns b s n d =
     (take h g.owners, take t g.members, taken_store g w c shape h t es ns b s n d)
 
--- what the call ensures is of the last row
+-- the ensures of the call are about the last row
 pub takes : (g : StoreParts) (w : Option ℕ) (c : ℕ) (shape : ClassShape) (h t : ℕ) (es : EntityTable) (ns : List ℕ)
     (b : Board) → Newest g w c shape h t → es ≡ with_table without_last_row g.rows w
     → ((r : Row) → slice_get (rows_in g.rows w).rows (length (rows_in g.rows w).rows - 1) ≡ Some r

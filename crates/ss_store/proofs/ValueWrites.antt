@@ -1,4 +1,4 @@
--- Values written: what is held is a store still, and the state has the entity changed.
+-- Values written: the parts are a store still, and the state has the entity changed.
 use Rattle.std.proofs.lemmas.Bool.Decides.{nat_tests}
 use Rattle.std.proofs.Common.{Bool, negsuc, ◌^◌, ◌≡◌, ◌≢◌, ◌⊎◌, inl, inr, ℕ, ℤ, pos, zero, suc, ◌+◌, ◌-◌, ◌<◌, ◌==◌}
 use Rattle.std.proofs.Common.{List, []}
@@ -104,7 +104,7 @@ value_now g w c i r before v k u j x e = elim (table_case (with_values i (Some v
   | inr a ↦ inr (ap (λ (z : RowTable). slice_get z.values j) (sym a.1) ∙ e)
 ]
 
--- and what has values has values still
+-- and an entity that has values has values still
 value_stays : (g : StoreParts) (w : Option ℕ) (i : ℕ) (v : List ℤ) → IsTable g.rows w
     → (u : Option ℕ) (j : ℕ) (x : List ℤ)
     → slice_get (rows_in g.rows u).values j ≡ Some (Some x)
@@ -357,7 +357,7 @@ wrote_back g w c i r before a x s which k =
 
 -- ---- the calls
 
--- an entity that exists, where it lies
+-- an entity that exists, and its row and values
 pub record Lies (g : StoreParts) (c k : ℕ) (shape : ClassShape) : Type 0 where
   pub index : ℕ
   pub number : k ≡ suc index
@@ -424,7 +424,7 @@ writes g c k a x shape s e l = record {
   values_in_range = set_ranged l.value a x (s.values_in_range (numbering_by shape.permanent c) l.index l.value l.was) e;
 }
 
--- what is held then
+-- the parts after the call
 wrote_is : (g : StoreParts) (c k n a : ℕ) (x : ℤ) (shape : ClassShape) (es : EntityTable) (l : Lies g c k shape) → n
     ≡ k - 1
     → es ≡ with_table (with_values n (Some (set l.value a x))) g.rows (numbering_by shape.permanent c)

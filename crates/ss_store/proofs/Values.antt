@@ -18,7 +18,7 @@ abbrev attribute_if : ℕ → Option (List ℤ) → Result ℤ RunFault
 attribute_if a None = Err NoEntity
 attribute_if a (Some v) = Ok (slice_index_or v a (pos 0))
 
--- what `values_of` finds is what the state says
+-- the values that `values_of` finds are those of the state
 pub values_are : (g : StoreParts) (c k a : ℕ) → IsStore g
     → attribute_of (state_of g) c a k ≡ attribute_if a (values_of g.rows c k)
 values_are g c k a s =

@@ -1,4 +1,4 @@
--- What is held is a well-formed store.
+-- The state of the parts is a well-formed store.
 use Rattle.std.proofs.lemmas.Bool.Decides.{nat_tests}
 use Rattle.std.proofs.Common.{◌≡◌, ℕ, ℤ, zero, suc, ◌+◌, ◌<◌, ◌≤◌, ◌==◌, ◌||◌, List, [], ◌∷◌, ◌++◌}
 use Rattle.std.proofs.Common.{length, map, refl, ap, sym, subst, ◌∙◌, arith, slice_get, Option, Some, None, true}
@@ -157,7 +157,7 @@ times_map f (y ∷ l) t a =
           ]) refl
     ]) refl
 
--- in one list a number stands once
+-- a number is in one list at most once
 list_once : (g : StoreParts) (p : SetShape) (o h k : ℕ) → IsStore g → IsSet g.tables.sets p → head_at g.rows p o
     ≡ Some h
     → times_in (numbers_under g.board g.numbers h) k ≤ 1
@@ -176,7 +176,7 @@ list_once g p o h k s is e =
       | false ↦ λ w. let none = times_in-absent (numbers_under g.board g.numbers h) k w in omega (arith, none)
     ]) refl
 
--- and in one of them alone
+-- and in only one of them
 one_owner : (g : StoreParts) (p : SetShape) (a b h j k : ℕ) → IsStore g → IsSet g.tables.sets p → head_at g.rows p a
     ≡ Some h
     → head_at g.rows p b ≡ Some j → has (numbers_under g.board g.numbers h) k ≡ true
@@ -224,7 +224,7 @@ times_once (l ∷ ls) k a =
 
 -- ---- owners
 
--- an owner that exists has a head, and its list is what the board says
+-- an owner that exists has a head, and its list is the list of that head on the board
 owner_head : (g : StoreParts) (c k : ℕ) (e : Entity) (p : SetShape) → IsStore g → p.list < owned_by (OwnedBy c) g.tables
     → entity (state_of g) c k ≡ Some e
     → (h : ℕ) × (head_by (OwnedBy c) g.rows p k ≡ Some h)

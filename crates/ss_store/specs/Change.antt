@@ -1,4 +1,4 @@
--- What is noted of a change, and how it is taken back.
+-- The record of a change, and how it is taken back.
 use Rattle.std.specs.Prelude.{◌≡◌, ℕ, ℤ, ◌-◌, ◌<◌, true, false, List, [], length, slice_get, Option, Some, None}
 use Rattle.std.specs.Prelude.{option_map, Result}
 use Rattle.std.specs.Option.{ForSome}
@@ -26,7 +26,7 @@ unapply_state (ClassCreated c n heads seats) store = with_made store c []
 unapply_state (AttributeSet c a k old) store = with_changed (with_value a old) store c k
 unapply_state (Ended c k owned values) store = with_back store k (entity_back c owned values.items)
 
--- what is kept, before a change
+-- the kept part, before a change
 abbrev pub unapply_layout : StoreChange → Layout → Layout
 unapply_layout (Filed set w n o k) kept = kept
 unapply_layout (Removed set w n o k before) kept = kept
@@ -40,7 +40,7 @@ abbrev pub unapply_store : StoreChange → StoreValue → StoreValue
 unapply_store change store =
     record store { state = unapply_state change store.state; kept = unapply_layout change store.kept }
 
--- what was filed stands in the list
+-- the member that was filed is in the list
 pub record FitsFiled (store : StoreValue) (set : ℕ) (w : Owner) (n o k : ℕ) : Type 0 where
   -- there is such a set
   pub is_set : set < length store.tables.sets
@@ -53,7 +53,7 @@ pub record FitsFiled (store : StoreValue) (set : ℕ) (w : Owner) (n o k : ℕ) 
   -- the member is in the list
   pub stands : has (members_of (set_of store.tables set) store.state o) k ≡ true
 
--- what was removed exists and stands in no list of its set, and the member before it stands in the list
+-- the member removed exists and is in no list of its set; the member before it is in the list
 pub record FitsRemoved (store : StoreValue) (set : ℕ) (w : Owner) (n o k : ℕ) (b : Option ℕ) : Type 0 where
   -- there is such a set
   pub is_set : set < length store.tables.sets
@@ -77,7 +77,7 @@ pub record FitsCreated (store : StoreValue) (c k heads seats : ℕ) : Type 0 whe
   -- the reference is the last
   pub newest : FitsLast c k heads seats store
 
--- the class's entities can be taken off, last first, and what is left then is the store before
+-- the entities of the class can be taken off, last first; the store before is left then
 pub record FitsClassCreated (store : StoreValue) (c n heads seats : ℕ) : Type 0 where
   -- the class is permanent
   pub permanent : (class_of store.tables c).permanent ≡ true
@@ -91,7 +91,7 @@ pub record FitsSet (store : StoreValue) (c k : ℕ) : Type 0 where
   -- the entity exists
   pub there : exists store.state c k ≡ true
 
--- the reference stands for nothing, and what is kept of it is of the class, with so many lists and attributes
+-- the reference has ended; its kept row has this class, this number of lists and of attributes
 pub record FitsEnded (store : StoreValue) (c k n : ℕ) (xs : List ℤ) : Type 0 where
   -- there is such a class
   pub is_class : c < length store.tables.classes
@@ -103,7 +103,7 @@ pub record FitsEnded (store : StoreValue) (c k n : ℕ) (xs : List ℤ) : Type 0
   pub gone : slice_get store.state.references (k - 1) ≡ Some None
   -- its row is of the class
   pub row : option_map (λ (r : Row). r.class) (slice_get store.kept.references (k - 1)) ≡ Some c
-  -- the class owns so many sets
+  -- the class owns this number of sets
   pub owned_sets : n ≡ (class_of store.tables c).owned
   -- a value for each attribute of the class
   pub values : length xs ≡ (class_of store.tables c).attributes

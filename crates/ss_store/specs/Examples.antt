@@ -38,7 +38,7 @@ set_by discipline = record { discipline = discipline; owner = System; list = 0; 
 abbrev pub high_size_low_age : Discipline
 high_size_low_age = Ranked (record { rank = High; attribute = 0 } ∷ record { rank = Low; attribute = 1 } ∷ [])
 
--- the list once these were filed, each where it says, or the fault
+-- the list once these were filed, each at its place, or the fault
 abbrev pub list_after : SetShape → Result Store RunFault → Result (List ℕ) RunFault
 list_after shape (Ok st) = Ok (members_of shape st 0)
 list_after shape (Err f) = Err f
@@ -72,11 +72,11 @@ FifoFilesLast = all_filed (set_by Fifo) ≡ Ok (1 ∷ 2 ∷ 3 ∷ 4 ∷ [])
 abbrev pub LifoFilesFirst : Type 0
 LifoFilesFirst = all_filed (set_by Lifo) ≡ Ok (4 ∷ 3 ∷ 2 ∷ 1 ∷ [])
 
--- HIGH size, then LOW age; 3 ties with 1 and is filed behind it
+-- HIGH size, then LOW age; 3 ties with 1 and is filed after it
 abbrev pub RankedByTwoKeys : Type 0
 RankedByTwoKeys = all_filed (set_by high_size_low_age) ≡ Ok (1 ∷ 3 ∷ 2 ∷ 4 ∷ [])
 
--- 2 grows to size 5 once it is filed: it stays where it is, and 3 is filed by the sizes as they are then
+-- 2 grows to size 5 once it is filed: it stays in place; 3 is filed by the sizes at that moment
 abbrev pub RankedByPresentKeys : Type 0
 RankedByPresentKeys =
     list_after (set_by high_size_low_age)
@@ -143,7 +143,7 @@ abbrev pub next_reference : Result Store RunFault → Result ℕ RunFault
 next_reference (Ok st) = Ok (last_reference st)
 next_reference (Err f) = Err f
 
--- what was ended is gone; the next entity gets another reference
+-- an entity that was ended is gone; the next entity gets another reference
 abbrev pub EndedIsGone : Type 0
 EndedIsGone =
     (without_entity job_tables free_jobs 0 2 ≡ Ok one_job)

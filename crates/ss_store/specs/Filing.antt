@@ -1,4 +1,4 @@
--- Where a member is filed in a list, and which is removed.
+-- The place at which a member is filed in a list, and the member that is removed.
 use Rattle.std.specs.Prelude.{◌≡◌, ℕ, Bool, true, not, ℤ, List, [], ◌∷◌, ◌++◌, length, Option, Some, None, unwrap_or}
 use Rattle.std.specs.Prelude.{option_map, Result, Ok, Err}
 use Rattle.std.specs.Ordering.{is_gt}
@@ -25,11 +25,11 @@ use Rattle.ss_store.specs.Store.{with_list}
 abbrev pub keys_now : List Key → Store → ℕ → ℕ → List ℤ
 keys_now keys store c k = unwrap_or (option_map (λ e. key_values keys e.attributes) (entity store c k)) []
 
--- whether entity number j ranks strictly behind k
+-- whether entity number j ranks strictly after k
 abbrev pub ranks_behind : List Key → Store → ℕ → ℕ → ℕ → Bool
 ranks_behind keys store c k j = is_gt (by_keys keys (keys_now keys store c j) (keys_now keys store c k))
 
--- k of class c filed by a discipline; ranked before the first member that ranks strictly behind it
+-- k of class c filed by a discipline; ranked: before the first member that ranks strictly after it
 abbrev pub filed_by : Discipline → Store → ℕ → ℕ → List ℕ → List ℕ
 filed_by Fifo store c k ks = ks ++ k ∷ []
 filed_by Lifo store c k ks = k ∷ ks
@@ -55,7 +55,7 @@ names_member (Before y) ks = has ks (number_of y)
 names_member (After y) ks = has ks (number_of y)
 names_member _ ks = true
 
--- FILE k in the list of o: F3; F4 where k is in a list of the set; F5 where the member named is not in this one
+-- FILE k in the list of o: F3; F4 if a list of the set holds k; F5 if o's lacks the member named
 abbrev pub after_filing : SetShape → Store → ℕ → ℕ → How → Result Store RunFault
 after_filing shape store o k how =
     unless NoEntity (is_owner shape store o)
@@ -67,7 +67,7 @@ after_filing shape store o k how =
 
 -- ---- removing
 
--- a member, or a fault where there is none
+-- a member, or a fault if there is none
 abbrev pub or_fault : RunFault → Option ℕ → Result ℕ RunFault
 or_fault fault None = Err fault
 or_fault fault (Some k) = Ok k
@@ -85,7 +85,7 @@ abbrev pub without_member : SetShape → Store → ℕ → Result ℕ RunFault �
 without_member shape store o (Ok k) = Ok (k, with_list shape store o (list_without (members_of shape store o) k))
 without_member shape store o (Err f) = Err f
 
--- REMOVE from the list of o: F3; F5 where the member named is not in it, F6 where it is empty
+-- REMOVE from the list of o: F3; F5 if the member named is not in it, F6 if it is empty
 abbrev pub after_removing : SetShape → Store → ℕ → Which → Result (ℕ × Store) RunFault
 after_removing shape store o which = unless NoEntity (is_owner shape store o)
     (without_member shape store o (member_named shape store (members_of shape store o) which))
@@ -110,13 +110,13 @@ walk_first shape store o = unless NoEntity (is_owner shape store o) (Ok (first_o
 abbrev pub walk_last : SetShape → Store → ℕ → Result (Option ℕ) RunFault
 walk_last shape store o = unless NoEntity (is_owner shape store o) (Ok (last_of (members_of shape store o)))
 
--- what is read at member k of the list of o: F3, F14 where k isn't in it
+-- the value read at member k of the list of o: F3, F14 if k isn't in it
 abbrev pub at_member : {A : Type 0} → SetShape → Store → ℕ → ℕ → A → Result A RunFault
 at_member shape store o k a =
     unless NoEntity (is_owner shape store o)
     (unless NoEntity (exists store shape.member k) (unless MemberLeft (has (members_of shape store o) k) (Ok a)))
 
--- the member directly behind k in the list of o, or F3, F14
+-- the member directly after k in the list of o, or F3, F14
 abbrev pub walk_next : SetShape → Store → ℕ → ℕ → Result (Option ℕ) RunFault
 walk_next shape store o k = at_member shape store o k (next_in (members_of shape store o) k)
 
@@ -130,7 +130,7 @@ walk_prev shape store o k = at_member shape store o k (prev_in (members_of shape
 abbrev pub predecessor : SetShape → Store → ℕ → Result (Option ℕ) RunFault
 predecessor shape store k = unless NoEntity (exists store shape.member k) (Ok (prev_in (list_holding shape store k) k))
 
--- S.s: the member directly behind k in the list that holds it, or F3
+-- S.s: the member directly after k in the list that holds it, or F3
 abbrev pub successor : SetShape → Store → ℕ → Result (Option ℕ) RunFault
 successor shape store k = unless NoEntity (exists store shape.member k) (Ok (next_in (list_holding shape store k) k))
 
@@ -138,7 +138,7 @@ successor shape store k = unless NoEntity (exists store shape.member k) (Ok (nex
 abbrev pub membership : SetShape → Store → ℕ → Result Bool RunFault
 membership shape store k = unless NoEntity (exists store shape.member k) (Ok (is_filed shape store k))
 
--- what was read of k at once is P.s, S.s and M.s of it, or the fault that each of them is
+-- the three values read of k at once are its P.s, S.s and M.s, or the fault that each of them is
 abbrev pub AreNeighbours : SetShape → Store → ℕ → Result Neighbours RunFault → Type 0
 AreNeighbours shape store k (Ok n) =
     (predecessor shape store k ≡ Ok n.before) × (successor shape store k ≡ Ok n.behind)

@@ -1,4 +1,4 @@
--- Private: what the calls of a store find on the board: the seat of a member, and the place at which one is filed.
+-- Private: the seat of a member on the board, and the place at which a member is filed.
 use Rattle.std.specs.Prelude.{ℕ, ℤ, ◌<◌, ◌==◌, if◌then◌else◌, Bool, false, List, [], ◌∷◌, Option, Some, None, unwrap_or}
 use Rattle.std.specs.Prelude.{Result, Ok, Err, ◌≡◌, ◌++◌}
 use Rattle.std.specs.Ordering.{is_gt}
@@ -22,22 +22,22 @@ use Rattle.ss_store.specs.Filing.{or_fault}
 use Rattle.ss_store.specs.Rows.{EntityTable, values_of}
 use Rattle.ss_store.specs.Parts.{number_at, head_at, seat_at}
 
--- a seat where it stands in the list of a head
+-- whether a seat is in the list of this head, by the head that holds it
 abbrev pub is_at : Option ℕ → ℕ → Bool
 is_at None h = false
 is_at (Some k) h = k == h
 
--- the seat, or F3 where there is none and F5 where it isn't in the list of the head
+-- the seat, or F3 if there is none and F5 if it isn't in the list of the head
 abbrev pub seat_in_list : List (List ℕ) → ℕ → Option ℕ → Result ℕ RunFault
 seat_in_list ls h None = Err NoEntity
 seat_in_list ls h (Some t) = if is_at (head_of ls t) h then Ok t else Err NotInList
 
--- the place before the seat of a member, or F3 where the member does not exist
+-- the place before the seat of a member, or F3 if the member does not exist
 abbrev pub spot_before : Option ℕ → Result Spot RunFault
 spot_before None = Err NoEntity
 spot_before (Some t) = Ok (spot.Before t)
 
--- the place behind the seat of a member, or F3
+-- the place after the seat of a member, or F3
 abbrev pub spot_after : Option ℕ → Result Spot RunFault
 spot_after None = Err NoEntity
 spot_after (Some t) = Ok (spot.After t)
@@ -54,17 +54,17 @@ spot_by es shape (After y) = spot_after (seat_at es shape (number_of y))
 abbrev pub keys_in : EntityTable → List Key → ℕ → ℕ → List ℤ
 keys_in es keys c k = key_values keys (unwrap_or (values_of es c k) [])
 
--- whether the member whose seat it is ranks strictly behind entity number k
+-- whether the member whose seat it is ranks strictly after entity number k
 abbrev pub seat_behind_in : EntityTable → List ℕ → List Key → ℕ → ℕ → ℕ → Bool
 seat_behind_in es ns keys c k t = is_gt (by_keys keys (keys_in es keys c (number_at ns t)) (keys_in es keys c k))
 
--- the seat before the first that passes the test, p standing before them all
+-- the seat before the first that passes the test; p comes before them all
 abbrev pub rank_before : (ℕ → Bool) → Option ℕ → List ℕ → Option ℕ
 rank_before test p [] = p
 rank_before test p (t ∷ ts) = if test t then p else rank_before test (Some t) ts
 
--- a search among the seats of a list: those that were passed, the last of which stands before, and those that are left,
--- the first of which is looked at; from there the search finds what it finds from the front
+-- a search among the seats of a list: the seats that were passed, and those that are left. The last
+-- passed is before; the first left is looked at. The result is that of a search from the front.
 pub record Among (l : List ℕ) (test : ℕ → Bool) (before at : Option ℕ) : Type 0 where
   -- those that were passed
   pub passed : List ℕ
@@ -74,17 +74,17 @@ pub record Among (l : List ℕ) (test : ℕ → Bool) (before at : Option ℕ) :
   pub all : l ≡ passed ++ left
   -- the first that is left
   pub begins : first_of left ≡ at
-  -- what is found
+  -- the seat that is found
   pub result : rank_before test before left ≡ rank_before test None l
 
--- the seat behind which a discipline files entity number k
+-- the seat after which a discipline files entity number k
 abbrev pub rule_place : EntityTable → List ℕ → ℕ → ℕ → List ℕ → Discipline → Option ℕ
 rule_place es ns c k l Fifo = last_of l
 rule_place es ns c k l Lifo = None
 rule_place es ns c k l (Ranked keys) = rank_before (seat_behind_in es ns keys c k) None l
 
--- the seat behind which it is filed, or none where it is filed first; F5 where the member named isn't in the list of
--- the head
+-- the seat after which it is filed, or none if it is filed first; F5 if the member named isn't in
+-- the list of the head
 abbrev pub place_by : EntityTable → List ℕ → List (List ℕ) → SetShape → ℕ → ℕ → Spot → Result (Option ℕ) RunFault
 place_by es ns ls shape h k spot.First = Ok None
 place_by es ns ls shape h k spot.Last = Ok (last_of (list_at ls h))
@@ -107,16 +107,16 @@ SpotBelow spot.First n = Unit {0}
 SpotBelow spot.Last n = Unit {0}
 SpotBelow spot.ByRule n = Unit {0}
 
--- the seat of a member, where it is in the list of the head; F3 where the member does not exist
+-- the seat of a member, if it is in the list of the head; F3 if the member does not exist
 abbrev pub seat_among : List (List ℕ) → ℕ → Option ℕ → Result (Option ℕ) RunFault
 seat_among ls h None = Err NoEntity
 seat_among ls h (Some t) = Ok (if is_at (head_of ls t) h then Some t else None)
 
--- the same, and F3 where the owner does not exist, who has no head
+-- the seat by the owner's head; F3 if the owner does not exist, and so has no head
 abbrev pub seat_under : List (List ℕ) → Option ℕ → Option ℕ → Result (Option ℕ) RunFault
 seat_under ls None q = Err NoEntity
 seat_under ls (Some h) q = seat_among ls h q
 
--- the seat of member k, where it is in the list of owner o; F3 where one of them does not exist
+-- the seat of member k, if it is in the list of owner o; F3 if one of them does not exist
 abbrev pub seat_in : EntityTable → List (List ℕ) → SetShape → ℕ → ℕ → Result (Option ℕ) RunFault
 seat_in es ls shape o k = seat_under ls (head_at es shape o) (seat_at es shape k)

@@ -54,11 +54,11 @@ used_made count cs (t ∷ ts) = used_of count cs t.rows + used_made count cs ts
 abbrev pub used_in : (ClassShape → ℕ) → List ClassShape → EntityTable → ℕ
 used_in count cs es = used_made count cs es.made + used_of count cs es.references.rows
 
--- the entities, the heads and the seats fit one another, and whoever stands in a list is a member of its set
+-- the entities, the heads and the seats fit; each member of a list is a member of the list's set
 pub record IsStore (parts : StoreParts) : Type 0 where
   -- the tables are a program's
   pub tables : AreTables parts.tables
-  -- no seat stands twice
+  -- no seat is in the lists twice
   pub sound : IsSound parts.board
   -- each head is of something
   pub heads : length parts.owners ≡ length parts.board.lists
@@ -66,7 +66,7 @@ pub record IsStore (parts : StoreParts) : Type 0 where
   pub seats : length parts.members ≡ parts.board.seats
   -- the number of each seat's member is its
   pub numbers : parts.numbers ≡ map (λ (m : SeatEntry). m.number) parts.members
-  -- each class has a numbering of its own, which is empty where it is not permanent
+  -- each class has its own numbering, which is empty if the class is not permanent
   pub classes : length parts.rows.made ≡ length parts.tables.classes
   -- each row has values, or has ended
   pub rows : (w : Option ℕ) → length (rows_in parts.rows w).rows ≡ length (rows_in parts.rows w).values
@@ -79,7 +79,7 @@ pub record IsStore (parts : StoreParts) : Type 0 where
   -- which are in range
   pub values_in_range : (w : Option ℕ) (i : ℕ) (v : List ℤ) → slice_get (rows_in parts.rows w).values i ≡ Some (Some v)
       → AreInRange v
-  -- what is in the numbering of a class is of that class, which is permanent
+  -- each row in the numbering of a class is of that class, which is permanent
   pub made : (c i : ℕ) (r : Row) → slice_get (rows_in parts.rows (Some c)).rows i ≡ Some r
       → (r.class ≡ c) × ((class_of parts.tables c).permanent ≡ true)
   -- no entity of a permanent class ends
@@ -90,7 +90,7 @@ pub record IsStore (parts : StoreParts) : Type 0 where
   -- the first heads are those of the system
   pub system : (k : ℕ) → k < parts.tables.system
       → slice_get parts.owners k ≡ Some (record { owner = System; list = k; number = 0 })
-  -- whoever stands in a list is there as a member of its set
+  -- each seat of a list is there as a member of the list's set
   pub are_members : (h t : ℕ) → has (list_at parts.board.lists h) t ≡ true → Joins parts h t
   -- a permanent class has few entities
   pub few_made : (c : ℕ) → length (rows_in parts.rows (Some c)).rows ≤ MOST_ENTITIES

@@ -1,3 +1,4 @@
+-- The files of this crate's definitions: the store, its value, its private parts and its laws.
 pub mod Tables
 pub mod Lists
 pub mod Store

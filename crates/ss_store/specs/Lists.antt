@@ -1,4 +1,4 @@
--- Lists of the numbers of entities, beside those of ss_links' Seats.
+-- Lists of the numbers of entities, in addition to those of ss_links' Seats.
 use Rattle.std.specs.Prelude.{ℕ, zero, suc, Bool, if◌then◌else◌, List, [], ◌∷◌}
 
 -- a list with one item changed

@@ -1,4 +1,4 @@
--- An entity more, and the last one less: what a making adds, and its undoing takes off.
+-- An entity more, and the last one less: the parts that a making adds, and its undoing takes off.
 use Rattle.std.specs.Prelude.{◌≡◌, ℕ, ℤ, zero, suc, ◌-◌, ◌+◌, ◌<◌, ◌≤◌, Bool, true, false, if◌then◌else◌, List, []}
 use Rattle.std.specs.Prelude.{◌∷◌, ◌++◌, length, take, replicate, slice_get, slice_index_or, Option, Some, None}
 use Rattle.ss_links.specs.Board.{Board, list_at, head_of}
@@ -19,7 +19,7 @@ use Rattle.ss_store.specs.Value.{Layout, StoreValue}
 abbrev pub numbering_by : Bool → ℕ → Option ℕ
 numbering_by permanent c = if permanent then Some c else None
 
--- the same by what is kept of the class
+-- the numbering of the entities of class c, by the shape of the class
 abbrev pub numbering : ClassShape → ℕ → Option ℕ
 numbering shape c = numbering_by shape.permanent c
 
@@ -39,25 +39,25 @@ abbrev pub without_last_row : RowTable → RowTable
 without_last_row rows =
     record { rows = take (length rows.rows - 1) rows.rows; values = take (length rows.rows - 1) rows.values }
 
--- what n heads of entity number k of class c are of, from its list number i on
+-- the entries of n heads of entity number k of class c, from its list number i on
 abbrev pub heads_for : ℕ → ℕ → ℕ → ℕ → List HeadEntry
 heads_for c k i zero = []
 heads_for c k i (suc n) = record { owner = OwnedBy c; list = i; number = k } ∷ heads_for c k (suc i) n
 
--- what n seats of entity number k of class c are of, from its set number i on
+-- the entries of n seats of entity number k of class c, from its set number i on
 abbrev pub seats_for : ℕ → ℕ → ℕ → ℕ → List SeatEntry
 seats_for c k i zero = []
 seats_for c k i (suc n) = record { member = c; slot = i; number = k } ∷ seats_for c k (suc i) n
 
--- a board with so many heads more, whose lists are empty
+-- a board with n heads more, whose lists are empty
 abbrev pub with_heads : ℕ → Board → Board
 with_heads n board = record { lists = board.lists ++ replicate n []; seats = board.seats }
 
--- a board with so many seats more, which are in no list
+-- a board with n seats more, which are in no list
 abbrev pub with_seats : ℕ → Board → Board
 with_seats n board = record { lists = board.lists; seats = board.seats + n }
 
--- a board with so many heads and seats more
+-- a board with these numbers of heads and seats more
 abbrev pub with_places : ℕ → ℕ → Board → Board
 with_places heads seats board = with_seats seats (with_heads heads board)
 
@@ -69,7 +69,7 @@ next_number parts w = suc (length (rows_in parts.rows w).rows)
 abbrev pub next_row : StoreParts → ℕ → Row
 next_row parts c = record { class = c; head = length parts.board.lists; seat = parts.board.seats }
 
--- what is held once an entity of class c with these attributes is made
+-- the parts once an entity of class c with these attributes is made
 abbrev pub with_next_entity : StoreParts → Option ℕ → ℕ → ClassShape → List ℤ → StoreParts
 with_next_entity parts w c shape v = record parts {
   rows = with_table (with_row (next_row parts c) v) parts.rows w;
@@ -79,7 +79,7 @@ with_next_entity parts w c shape v = record parts {
   board = with_places shape.owned shape.joined parts.board;
 }
 
--- what is held without the last entity of a numbering, whose heads and seats are these and those behind them
+-- the parts without the last entity of a numbering, whose heads and seats begin with these
 abbrev pub without_last_entity : StoreParts → Option ℕ → ℕ → ℕ → StoreParts
 without_last_entity parts w head seat = record parts {
   rows = with_table without_last_row parts.rows w;
@@ -102,7 +102,7 @@ pub record CanShrink (board : Board) (head seat : ℕ) : Type 0 where
 
 -- ---- the store
 
--- no more entities in a numbering than these
+-- the greatest number of entities in a numbering
 abbrev pub numbering_limit : ClassShape → ℕ
 numbering_limit shape = if shape.permanent then MOST_ENTITIES else MOST_REFERENCES
 
@@ -120,7 +120,7 @@ abbrev pub rows_of_numbering : Layout → Option ℕ → List Row
 rows_of_numbering layout None = layout.references
 rows_of_numbering layout (Some c) = slice_index_or layout.made c []
 
--- what is kept, with the rows of a numbering changed, and so many heads and seats
+-- the kept part with the rows of a numbering changed, and these counts of heads and seats
 abbrev pub layout_with : (List Row → List Row) → Layout → Option ℕ → ℕ → ℕ → Layout
 layout_with change layout None heads seats =
     record layout { references = change layout.references; heads = heads; seats = seats }
@@ -145,7 +145,7 @@ abbrev pub without_last : Option ℕ → Store → Store
 without_last None store = record store { references = but_last store.references }
 without_last (Some c) store = record store { made = change_at but_last store.made c }
 
--- the store without it, where these were the counts of heads and seats before it was made
+-- the store without the last entity; these were the counts of heads and seats before it was made
 abbrev pub one_less : ℕ → ℕ → ℕ → StoreValue → StoreValue
 one_less c heads seats store = record store {
   state = without_last (numbering (class_of store.tables c) c) store.state;
@@ -188,17 +188,17 @@ pub record Makes (c : ℕ) (old new : StoreValue) : Type 0 where
   -- without it, the store is as before
   pub back : one_less c old.kept.heads old.kept.seats new ≡ old
 
--- so many entities of class c can be taken off, last first, and this store is what is left
+-- n entities of class c can be taken off, last first, and this store is left
 abbrev pub TakesOff : ℕ → ℕ → StoreValue → StoreValue → Type 0
 TakesOff c zero store rest = store ≡ rest
 TakesOff c (suc n) store rest = (k heads seats : ℕ) × FitsLast c k heads seats store
     × TakesOff c n (one_less c heads seats store) rest
 
--- so many entities of permanent class c were made, and can be taken off again
+-- n entities of permanent class c were made, and can be taken off again
 pub record MakesAll (c n : ℕ) (old new : StoreValue) : Type 0 where
   -- the tables are the same
   pub tables : new.tables ≡ old.tables
-  -- the class has so many more
+  -- the class has n more entities
   pub state : new.state ≡ record old.state {
     made = change_at (λ es. es ++ replicate n (fresh c (class_of old.tables c))) old.state.made c;
   }

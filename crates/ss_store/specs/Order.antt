@@ -15,12 +15,12 @@ use Rattle.ss_store.specs.Tables.{IsSet}
 use Rattle.ss_store.specs.Finding.{keys_in}
 use Rattle.ss_store.specs.Parts.{StoreParts, number_at}
 
--- no seat of a list is behind one that stands later
+-- no seat of a list ranks after a later one
 abbrev pub Climbs : (ℕ → ℕ → Bool) → List ℕ → Type 0
 Climbs behind [] = Unit {0}
 Climbs behind (x ∷ l) = ((y : ℕ) → has l y ≡ true → behind x y ≡ false) × Climbs behind l
 
--- whether the member at one seat ranks strictly behind that at another, as the attributes are now
+-- whether the member at one seat ranks strictly after that at another, as the attributes are now
 abbrev pub seat_after : EntityTable → List ℕ → List Key → ℕ → ℕ → ℕ → Bool
 seat_after es ns keys c x y =
     is_gt (by_keys keys (keys_in es keys c (number_at ns x)) (keys_in es keys c (number_at ns y)))

@@ -1,4 +1,4 @@
--- Private: what a store holds, the value that it stands for, and where a list and a member are on the board.
+-- Private: the parts of a store, the value that they represent, and the heads and seats of lists.
 use Rattle.std.specs.Prelude.{ℕ, ℤ, zero, suc, ◌+◌, List, [], ◌∷◌, length, map, slice_index_or, Option, Some, None}
 use Rattle.std.specs.Prelude.{option_map}
 use Rattle.ss_links.specs.Board.{Board, list_at}
@@ -12,7 +12,7 @@ use Rattle.ss_store.specs.Store.{Entity, Store}
 use Rattle.ss_store.specs.Rows.{RowTable, EntityTable, row_of}
 use Rattle.ss_store.specs.Value.{Layout, StoreValue}
 
--- what a head is of: an owner's list
+-- the list that a head belongs to: an owner's list
 pub record HeadEntry : Type 0 where
   -- the system, or a class
   pub owner : Owner
@@ -21,7 +21,7 @@ pub record HeadEntry : Type 0 where
   -- the owner's number in its class; the system's is 0
   pub number : ℕ
 
--- what a seat is of: a member in one of its sets
+-- the member and the set that a seat belongs to: a member in one of its sets
 pub record SeatEntry : Type 0 where
   -- the member's class
   pub member : ℕ
@@ -30,17 +30,17 @@ pub record SeatEntry : Type 0 where
   -- the member's number in its class
   pub number : ℕ
 
--- all that a store holds, and what each head and each seat is of
+-- all parts of a store, and the entry of each head and each seat
 pub record StoreParts : Type 0 where
-  -- what is kept of the program
+  -- the tables of the program
   pub tables : Tables
   -- the rows of all entities, and the values of their attributes
   pub rows : EntityTable
   -- the number of each seat's member
   pub numbers : List ℕ
-  -- what each head is of
+  -- the entry of each head
   pub owners : List HeadEntry
-  -- what each seat is of
+  -- the entry of each seat
   pub members : List SeatEntry
   -- the lists of the heads, and the count of seats
   pub board : Board
@@ -65,7 +65,7 @@ abbrev pub entity_with : List ClassShape → (ℕ → List ℕ) → Row → List
 entity_with cs at row v =
     record { class = row.class; attributes = v; owned = owned_from at row.head (class_in cs row.class).owned }
 
--- what a reference stands for
+-- the entity that a reference names
 abbrev pub reference_with : List ClassShape → (ℕ → List ℕ) → Row → Option (List ℤ) → Option Entity
 reference_with cs at row None = None
 reference_with cs at row (Some v) = Some (entity_with cs at row v)
@@ -81,11 +81,11 @@ zip_rows f [] vs = []
 zip_rows f (r ∷ rs) [] = []
 zip_rows f (r ∷ rs) (v ∷ vs) = f r v ∷ zip_rows f rs vs
 
--- the same of a numbering
+-- the rows and values of a numbering taken together
 abbrev pub zip_table : {A : Type 0} → (Row → Option (List ℤ) → A) → RowTable → List A
 zip_table f rows = zip_rows f rows.rows rows.values
 
--- the state of rows, where the lists of heads are these
+-- the state of rows, with these lists of heads
 abbrev pub state_at : Tables → (ℕ → List ℕ) → EntityTable → Store
 state_at tables at es = record {
   made = map (zip_table (made_with tables.classes at)) es.made;
@@ -93,11 +93,11 @@ state_at tables at es = record {
   system = owned_from at 0 tables.system;
 }
 
--- the state of what is held
+-- the state of the parts
 abbrev pub state_of : StoreParts → Store
 state_of parts = state_at parts.tables (numbers_under parts.board parts.numbers) parts.rows
 
--- what is kept of it
+-- the kept part of the value
 abbrev pub layout_of : StoreParts → Layout
 layout_of parts = record {
   made = map (λ t. t.rows) parts.rows.made;
@@ -110,18 +110,18 @@ layout_of parts = record {
 abbrev pub value_of : StoreParts → StoreValue
 value_of parts = record { tables = parts.tables; state = state_of parts; kept = layout_of parts }
 
--- ---- where a list and a member are on the board
+-- ---- the head of a list and the seat of a member on the board
 
--- the head of a set's list, by its owner's number, where the owner exists
+-- the head of a set's list, by its owner's number, if the owner exists
 abbrev pub head_by : Owner → EntityTable → SetShape → ℕ → Option ℕ
 head_by System es shape o = Some shape.list
 head_by (OwnedBy c) es shape o = option_map (λ r. r.head + shape.list) (row_of es c o)
 
--- the same of the set's own owner
+-- the head of a set's list, by the number of the set's own owner
 abbrev pub head_at : EntityTable → SetShape → ℕ → Option ℕ
 head_at es shape o = head_by shape.owner es shape o
 
--- the seat of a member in a set, where the member exists
+-- the seat of a member in a set, if the member exists
 abbrev pub seat_at : EntityTable → SetShape → ℕ → Option ℕ
 seat_at es shape k = option_map (λ r. r.seat + shape.slot) (row_of es shape.member k)
 

@@ -1,4 +1,4 @@
--- Where FILE puts a member, on every list, and which lists stay. Cited by laws alone.
+-- The place at which FILE puts a member, in any list, and the lists that stay. Cited only by laws.
 use Rattle.std.specs.Prelude.{◌≡◌, ℕ, Bool, true, false, List, [], ◌∷◌, ◌++◌, Some}
 use Rattle.ss_links.specs.Seats.{first_of, last_of}
 use Rattle.ss_program.specs.declared.kinds.Discipline.{Discipline}
@@ -21,15 +21,15 @@ abbrev pub FirstPasses : (ℕ → Bool) → List ℕ → Type 0
 FirstPasses test [] = Unit {0}
 FirstPasses test (k ∷ ks) = test k ≡ true
 
--- what a discipline says of those before k and of those behind it; ranked: none of the former ranks strictly behind k,
--- and the first of the latter does
+-- the rule of a discipline on the members before k and those after it; ranked: none of those before
+-- ranks strictly after k, and the first of those after does
 abbrev pub IsRulePlace : Discipline → Store → ℕ → ℕ → List ℕ → List ℕ → Type 0
 IsRulePlace Fifo store c k front rest = rest ≡ []
 IsRulePlace Lifo store c k front rest = front ≡ []
 IsRulePlace (Ranked keys) store c k front rest =
     NonePasses (ranks_behind keys store c k) front × FirstPasses (ranks_behind keys store c k) rest
 
--- what FILE says of them
+-- the rule of FILE on them
 abbrev pub IsPlace : SetShape → Store → How → ℕ → List ℕ → List ℕ → Type 0
 IsPlace shape store ByRule k front rest = IsRulePlace shape.discipline store shape.member k front rest
 IsPlace shape store First k front rest = front ≡ []
@@ -41,13 +41,13 @@ IsPlace shape store (After y) k front rest = last_of front ≡ Some (number_of y
 pub record IsBetween (shape : SetShape) (store : Store) (how : How) (k : ℕ) (ks : List ℕ) : Type 0 where
   -- those before it
   pub front : List ℕ
-  -- those behind it
+  -- those after it
   pub rest : List ℕ
   -- they were the list
   pub was : ks ≡ front ++ rest
   -- it is between them
   pub is : filed_in shape store how k ks ≡ front ++ k ∷ rest
-  -- they are those that FILE says
+  -- they satisfy the rule of FILE
   pub place : IsPlace shape store how k front rest
 
 -- each way of filing, on every list
@@ -61,7 +61,7 @@ IsOther System n o System m u = n ≡ m → ⊥
 IsOther (OwnedBy c) n o (OwnedBy d) m u = c ≡ d → n ≡ m → o ≡ u → ⊥
 IsOther _ n o _ m u = Unit {0}
 
--- where one list is changed, each other stays
+-- if one list is changed, each other stays
 abbrev pub OtherListsStay : Type 0
 OtherListsStay = (w v : Owner) (n o m u : ℕ) (st : Store) (ks : List ℕ) → IsOther w n o v m u
     → list_by v m (with_list_by w n st o ks) u ≡ list_by v m st u

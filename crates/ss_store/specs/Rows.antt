@@ -1,17 +1,17 @@
--- Where entities lie on a board. Cited by the store's view and invariant alone.
+-- The place of each entity on a board. Cited only by the store's view and invariant.
 use Rattle.std.specs.Prelude.{ℕ, ℤ, zero, suc, ◌==◌, if◌then◌else◌, max, List, [], length, slice_get, slice_index_or}
 use Rattle.std.specs.Prelude.{Option, Some, None}
 use Rattle.std.specs.Option.{option_or}
 use Rattle.ss_store.specs.declared.rows.Row.{Row}
 
--- the rows of entities 1, 2, .. of one numbering, and the values of their attributes, none where one has ended
+-- the rows of entities 1, 2, .. of one numbering, and the values of each; none if it has ended
 pub record RowTable : Type 0 where
-  -- where each lies on the board
+  -- the place of each on the board
   pub rows : List Row
   -- the values of each one's attributes
   pub values : List (Option (List ℤ))
 
--- those of each permanent class, and those with references
+-- the entities of each permanent class, and those with references
 pub record EntityTable : Type 0 where
   -- by the numbers of their classes
   pub made : List RowTable
@@ -27,7 +27,7 @@ abbrev pub rows_in : EntityTable → Option ℕ → RowTable
 rows_in es None = es.references
 rows_in es (Some c) = slice_index_or es.made c no_rows
 
--- how many rows the greater one of two numberings has: that of class c, and that of the references
+-- how many rows the longer of two numberings has: that of class c, and that of the references
 abbrev pub greatest_number : EntityTable → ℕ → ℕ
 greatest_number es c = max (length (rows_in es (Some c)).rows) (length es.references.rows)
 

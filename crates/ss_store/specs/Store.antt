@@ -1,4 +1,4 @@
--- What the store holds: entities and the lists of their sets. How they are made, changed and ended.
+-- Entities and the lists of their sets, which a store holds. How they are made, changed and ended.
 use Rattle.std.specs.Prelude.{◌≡◌, ℕ, zero, suc, ◌-◌, ◌==◌, max, Bool, true, false, ◌&&◌, not, nat_lt, nat_le}
 use Rattle.std.specs.Prelude.{if◌then◌else◌, ℤ}
 use Rattle.std.specs.Prelude.{pos, negsuc, List, [], ◌∷◌, ◌++◌, length, map, replicate, filter_map, find, slice_get}
@@ -30,12 +30,12 @@ pub record Entity : Type 0 where
   -- the members of each of its lists, by their numbers
   pub owned : List (List ℕ)
 
--- for each class the entities 1, 2, .. of it, where it is permanent and made; the entities with references 1, 2, ..,
--- None where one has ended; the lists of the system's sets, in order of declaration
+-- for each class its entities 1, 2, .., if it is permanent and made; the entities with references
+-- 1, 2, .., None if one has ended; the lists of the system's sets, in order of declaration
 pub record Store : Type 0 where
   -- the entities of each class, if it is permanent
   pub made : List (List Entity)
-  -- what each reference stands for
+  -- the entity that each reference names
   pub references : List (Option Entity)
   -- the members of each list of the system, by their numbers
   pub system : List (List ℕ)
@@ -45,7 +45,7 @@ abbrev pub number_of : ℤ → ℕ
 number_of (pos n) = n
 number_of (negsuc n) = 0
 
--- a result where the test is true, and else a fault
+-- a result if the test is true, and else a fault
 abbrev pub unless : {A : Type 0} → RunFault → Bool → Result A RunFault → Result A RunFault
 unless fault true r = r
 unless fault false r = Err fault
@@ -65,7 +65,7 @@ of_class c (Some e) = if e.class == c then Some e else None
 abbrev pub made_of : Store → ℕ → List Entity
 made_of store c = slice_index_or store.made c []
 
--- entity number k of class c: of a permanent class one that was made, else one that has a reference
+-- entity number k of class c: if the class is permanent, one that was made, else one by reference
 abbrev pub entity : Store → ℕ → ℕ → Option Entity
 entity store c zero = None
 entity store c (suc k) =
@@ -90,7 +90,7 @@ abbrev pub AreInRange : List ℤ → Type 0
 AreInRange [] = Unit {0}
 AreInRange (x ∷ xs) = (in_range x ≡ true) × AreInRange xs
 
--- attribute number a of an entity, or F3 where there is none
+-- attribute number a of an entity, or F3 if there is none
 abbrev pub attribute_in : ℕ → Option Entity → Result ℤ RunFault
 attribute_in a None = Err NoEntity
 attribute_in a (Some e) = Ok (slice_index_or e.attributes a (pos 0))
@@ -119,7 +119,7 @@ lists_by (OwnedBy c) n store = map (λ e. list_number e.owned n) (entities store
 abbrev pub is_owner : SetShape → Store → ℕ → Bool
 is_owner shape store k = is_some (list_by shape.owner shape.list store k)
 
--- the members of a set's list for owner number k, none where that does not exist
+-- the members of a set's list for owner number k, none if the owner does not exist
 abbrev pub members_by : Owner → ℕ → Store → ℕ → List ℕ
 members_by owner n store k = unwrap_or (list_by owner n store k) []
 
@@ -171,7 +171,7 @@ abbrev pub with_list_by : Owner → ℕ → Store → ℕ → List ℕ → Store
 with_list_by System n store k ks = record store { system = slice_set store.system n ks }
 with_list_by (OwnedBy c) n store k ks = with_changed (with_owned n ks) store c k
 
--- the same of this set
+-- the store with the list of this set for owner number k changed
 abbrev pub with_list : SetShape → Store → ℕ → List ℕ → Store
 with_list shape store k ks = with_list_by shape.owner shape.list store k ks
 
@@ -190,7 +190,7 @@ empty_store tables =
 abbrev pub with_reference : Store → Entity → Store
 with_reference store entity = record store { references = store.references ++ Some entity ∷ [] }
 
--- the store with one more entity of class c, which has the last reference; F20 where there are too many
+-- the store with one more entity of class c, with the last reference; F20 if there are too many
 abbrev pub with_new : Store → ℕ → ClassShape → Result Store RunFault
 with_new store c shape =
     unless TooManyReferences (nat_lt (length store.references) MOST_REFERENCES)
@@ -204,7 +204,7 @@ last_reference store = length store.references
 abbrev pub with_made : Store → ℕ → List Entity → Store
 with_made store c es = record store { made = slice_set store.made c es }
 
--- the store with n entities of permanent class c; F12 where it was made, F13 where n isn't 1 to 10,000
+-- the store with n entities of permanent class c; F12 if it was made, F13 if n isn't 1 to 10,000
 abbrev pub with_class : Store → ℕ → ClassShape → ℤ → Result Store RunFault
 with_class store c shape n =
     unless AlreadyCreated (length (made_of store c) == 0)
@@ -231,15 +231,15 @@ owns_members (Some e) = list_any is_filled e.owned
 abbrev pub without_reference : Store → ℕ → Store
 without_reference store k = record store { references = slice_set store.references (k - 1) None }
 
--- the store in which reference number k stands for this entity again
+-- the store in which reference number k names this entity again
 abbrev pub with_back : Store → ℕ → Entity → Store
 with_back store k entity = record store { references = slice_set store.references (k - 1) (Some entity) }
 
--- the entity of class c that comes back: it has these attributes, and so many lists, which are empty
+-- the entity of class c that comes back: it has these attributes, and n empty lists
 abbrev pub entity_back : ℕ → ℕ → List ℤ → Entity
 entity_back c owned values = record { class = c; attributes = values; owned = replicate owned [] }
 
--- the store without entity number k of class c; F3; F7 where it is a member, F8 where it owns members
+-- the store without entity number k of class c; F3; F7 if it is a member, F8 if it owns members
 abbrev pub without_entity : Tables → Store → ℕ → ℕ → Result Store RunFault
 without_entity tables store c k =
     unless NoEntity (exists store c k)

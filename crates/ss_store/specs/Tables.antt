@@ -1,4 +1,4 @@
--- What a store needs of a program: its classes and its sets, in order of declaration.
+-- The tables of a program that a store needs: its classes and its sets, in order of declaration.
 use Rattle.std.specs.Prelude.{◌≡◌, ◌<◌, ◌≤◌, ℕ, ◌==◌, Bool, true, false, List, length, take, map, count_by, slice_get}
 use Rattle.std.specs.Prelude.{unwrap_or, Some}
 use Rattle.std.specs.List.{range_with_len}
@@ -15,9 +15,9 @@ use Rattle.ss_store.specs.declared.shape.SetShape.{SetShape}
 
 -- the classes, the sets, and how many sets the system owns
 pub record Tables : Type 0 where
-  -- what is kept of each class
+  -- the shape of each class
   pub classes : List ClassShape
-  -- what is kept of each set
+  -- the shape of each set
   pub sets : List SetShape
   -- how many sets the system owns
   pub system : ℕ
@@ -28,11 +28,11 @@ pub record Tables : Type 0 where
 abbrev pub class_in : List ClassShape → ℕ → ClassShape
 class_in cs c = unwrap_or (slice_get cs c) (record { attributes = 0; owned = 0; joined = 0; permanent = false })
 
--- the same of the tables
+-- class number c of the tables
 abbrev pub class_of : Tables → ℕ → ClassShape
 class_of tables c = class_in tables.classes c
 
--- what stands where there is no such set
+-- the shape that is used if there is no such set
 abbrev pub no_set : SetShape
 no_set = record { discipline = Fifo; owner = System; list = 0; member = 0; slot = 0 }
 
@@ -51,7 +51,7 @@ is_permanent _ = false
 abbrev pub joined_among : ℕ → List SetTable → ℕ
 joined_among c sets = count_by (λ t. c == t.member) sets
 
--- what is kept of class c
+-- the shape of class c
 abbrev pub class_shape : ProgramTable → ℕ → ClassShape
 class_shape p c = record {
   attributes = length (program.class_of p c).attributes;
@@ -60,7 +60,7 @@ class_shape p c = record {
   permanent = is_permanent (program.class_of p c).kind;
 }
 
--- what is kept of set s
+-- the shape of set s
 abbrev pub set_shape : ProgramTable → ℕ → SetShape
 set_shape p s = record {
   discipline = (program.set_of p s).discipline;
@@ -70,7 +70,7 @@ set_shape p s = record {
   slot = joined_among (program.set_of p s).member (take s p.sets);
 }
 
--- what a store needs of a program
+-- the tables of a program that a store needs
 abbrev pub tables_of : ProgramTable → Tables
 tables_of program = record {
   classes = map (class_shape program) (range_with_len 0 (length program.classes));
@@ -78,7 +78,7 @@ tables_of program = record {
   system = owned_among System program.sets;
 }
 
--- ---- tables that a store can stand on
+-- ---- tables that a store can have
 
 -- a set of the program
 abbrev pub IsSet : List SetShape → SetShape → Type 0

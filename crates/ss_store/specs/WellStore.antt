@@ -1,4 +1,4 @@
--- A well-formed store: what holds of its entities and lists after any calls.
+-- A well-formed store: the facts that hold of its entities and lists after any calls.
 use Rattle.std.specs.Prelude.{◌≡◌, ◌<◌, ◌≤◌, ℕ, true, false, List, [], ◌∷◌, length, Option, Some, None}
 use Rattle.ss_links.specs.Board.{times}
 use Rattle.ss_store.specs.declared.shape.SetShape.{SetShape}
@@ -8,7 +8,7 @@ use Rattle.ss_store.specs.Store.{Entity, Store, AreInRange, made_of, exists, lis
 use Rattle.ss_store.specs.declared.limits.TheConstants.{MOST_ENTITIES}
 use Rattle.ss_words.specs.declared.limits.TheConstants.{MOST_REFERENCES}
 
--- each item of a list is one of which this is said
+-- each item of a list has this property
 abbrev pub Each : {A : Type 0} → (A → Type 0) → List A → Type 0
 Each P [] = Unit {0}
 Each P (x ∷ xs) = P x × Each P xs
@@ -24,7 +24,7 @@ pub record IsEntity (tables : Tables) (c : ℕ) (entity : Entity) : Type 0 where
   -- it has a list for each set that the class owns
   pub owned : length entity.owned ≡ (class_of tables c).owned
 
--- what a reference stands for: nothing, or an entity of a class that is not permanent
+-- the value of a reference: nothing, or an entity of a class that is not permanent
 abbrev pub IsReference : Tables → Option Entity → Type 0
 IsReference tables None = Unit {0}
 IsReference tables (Some e) =
@@ -37,17 +37,17 @@ pub record AreMembers (store : Store) (shape : SetShape) : Type 0 where
   -- each is in one list of the set, and there once
   pub once : (k : ℕ) → times (lists_by shape.owner shape.list store) k ≤ 1
 
--- what holds of a store of these tables
+-- the facts that hold of a store of these tables
 pub record IsWellStore (tables : Tables) (store : Store) : Type 0 where
   -- each class has a numbering
   pub classes : length store.made ≡ length tables.classes
-  -- what is made of a class are entities of it
+  -- the entities made of a class are entities of it
   pub made : (c : ℕ) → Each (IsEntity tables c) (made_of store c)
   -- none is made of a class that is not permanent
   pub permanent : (c : ℕ) → (class_of tables c).permanent ≡ false → made_of store c ≡ []
   -- of each no more than 10,000
   pub few_made : (c : ℕ) → length (made_of store c) ≤ MOST_ENTITIES
-  -- what the references stand for
+  -- the values of the references
   pub references : Each (IsReference tables) store.references
   -- no more than 1,000,000 were given
   pub few_references : length store.references ≤ MOST_REFERENCES

@@ -1,4 +1,4 @@
--- The values of an entity's attributes written, taken out and put back. Cited by private functions of the store alone.
+-- Attribute values written, taken out and put back. Cited only by private functions of the store.
 use Rattle.std.specs.Prelude.{ℕ, ℤ, List, slice_set, Option}
 use Rattle.ss_store.specs.Rows.{RowTable}
 

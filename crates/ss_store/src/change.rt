@@ -1,6 +1,8 @@
+//! The changes that the calls of a store give, by which each call can be undone.
+
 use ss_program::Owner;
 
-/// What one call of a [`Store`](crate::Store) changed, enough to take it back.
+/// The change that one call of a [`Store`](crate::Store) made, enough to take it back.
 #[derive(Drop)]
 pub enum StoreChange {
     /// The member was filed in the list of this set for this owner; `owner` and `list` are the
@@ -12,7 +14,7 @@ pub enum StoreChange {
         number: usize,
         member: usize,
     },
-    /// The member was removed from the list, where it stood directly behind `before`, or first.
+    /// The member was removed from the list. It was directly after `before`, or first.
     Removed {
         set: usize,
         owner: Owner,
@@ -21,16 +23,16 @@ pub enum StoreChange {
         member: usize,
         before: Option<u32>,
     },
-    /// An entity of a temporary or event class was made, with the last reference; before it the
-    /// board had so many heads and seats.
+    /// An entity of a temporary or event class was made, with the last reference; `heads` and
+    /// `seats` are the board's counts before it.
     Created {
         class: usize,
         number: usize,
         heads: u32,
         seats: u32,
     },
-    /// The entities of a permanent class were made; before them the board had so many heads and
-    /// seats.
+    /// The entities of a permanent class were made; `heads` and `seats` are the board's counts
+    /// before them.
     ClassCreated {
         class: usize,
         count: usize,
@@ -44,8 +46,8 @@ pub enum StoreChange {
         number: usize,
         old: i64,
     },
-    /// An entity of a temporary or event class ended, which owned so many empty lists and had these
-    /// values of its attributes.
+    /// An entity of a temporary or event class ended. It owned this number of empty lists and had
+    /// these values of its attributes.
     Ended {
         class: usize,
         number: usize,

@@ -1,4 +1,4 @@
-//! Entities ended, and what brings them back.
+//! Entities ended, and the calls that bring them back.
 ghost use Rattle.std.specs.Prelude.{◌≡◌, ◌<◌, ◌+◌, ◌==◌, ◌&&◌, ℕ, length, false, is_some};
 ghost use Rattle.std.specs.List.{list_any};
 ghost use Rattle.ss_links.specs.Board.{head_of, list_at};
@@ -34,7 +34,7 @@ fn stands_anywhere<S: SetBoard>(board: &S, sets: &[SetShape], class: usize, seat
     false
 }
 
-/// Whether one of so many lists, from that of this head on, has members.
+/// Whether one of `lists` lists, from that of this head on, has members.
 fn has_members<S: SetBoard>(board: &S, head: u32, lists: u32) -> bool
     requires { (k : ℕ) → k < lists → head + k < length (S.board board.now).lists }
     ensures { result
@@ -52,8 +52,8 @@ fn has_members<S: SetBoard>(board: &S, head: u32, lists: u32) -> bool
 impl<S: SetBoard> Store<S> {
     /// Ends an entity of a temporary or event class. Its reference is never given again.
     ///
-    /// Faults, which change nothing: F3 where it does not exist; F7 where it is in a list of a set;
-    /// F8 where a set that it owns has members.
+    /// Faults, which change nothing: F3 if it does not exist; F7 if it is in a list of a set; F8 if
+    /// a set that it owns has members.
     pub fn destroy(&mut self, class: usize, entity: i64) -> Result<StoreChange, RunFault>
         requires class { class < length self.old.tables.classes }
         requires kind { (class_of self.old.tables class).permanent ≡ false }

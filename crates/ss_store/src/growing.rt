@@ -13,7 +13,7 @@ use crate::shape::ClassShape;
 use ss_links::SetBoard;
 use std::alloc::{AllocError, Global};
 
-/// Takes the last heads off, until so many are left. Their lists are empty.
+/// Takes the last heads off, until `left` are left. Their lists are empty.
 pub(crate) fn take_heads<S: SetBoard>(board: &mut S, left: u32)
     requires there { left ≤ length (S.board board.old).lists }
     requires empty { (h : ℕ) → left ≤ h → list_at (S.board board.old).lists h ≡ [] }
@@ -29,7 +29,7 @@ pub(crate) fn take_heads<S: SetBoard>(board: &mut S, left: u32)
     }
 }
 
-/// Takes the last seats off, until so many are left. They are in no list.
+/// Takes the last seats off, until `left` are left. They are in no list.
 pub(crate) fn take_seats<S: SetBoard>(board: &mut S, left: u32)
     requires there { left ≤ (S.board board.old).seats }
     requires free { (t : ℕ) → left ≤ t → head_of (S.board board.old).lists t ≡ None }
@@ -41,7 +41,7 @@ pub(crate) fn take_seats<S: SetBoard>(board: &mut S, left: u32)
     }
 }
 
-/// Makes so many heads, or none where memory is refused.
+/// Makes `count` heads, or none if memory is refused.
 pub(crate) fn add_heads<S: SetBoard>(board: &mut S, count: u32) -> Result<(), AllocError>
     requires { length (S.board board.old).lists + count < 2 ^ 32 }
     ensures ok { IfOk result (λ _. S.board board.new ≡ with_heads count (S.board board.old)) }
@@ -58,7 +58,7 @@ pub(crate) fn add_heads<S: SetBoard>(board: &mut S, count: u32) -> Result<(), Al
     Ok(())
 }
 
-/// Makes so many seats, or none where memory is refused.
+/// Makes `count` seats, or none if memory is refused.
 fn add_seats<S: SetBoard>(board: &mut S, count: u32) -> Result<(), AllocError>
     requires { (S.board board.old).seats + count < 2 ^ 32 }
     ensures ok { IfOk result (λ _. S.board board.new ≡ with_seats count (S.board board.old)) }
@@ -75,7 +75,7 @@ fn add_seats<S: SetBoard>(board: &mut S, count: u32) -> Result<(), AllocError>
     Ok(())
 }
 
-/// Makes so many heads and seats, or none where memory is refused.
+/// Makes these numbers of heads and seats, or none if memory is refused.
 pub(crate) fn add_places<S: SetBoard>(
     board: &mut S,
     heads: u32,
@@ -97,14 +97,14 @@ pub(crate) fn add_places<S: SetBoard>(
     Ok(())
 }
 
-/// So many zeros.
+/// A vector of `count` zeros.
 pub(crate) fn zeros(alloc: Global, count: usize) -> Result<Vec<i64>, AllocError>
     ensures { IfOk result (λ values. values.items ≡ replicate count (pos 0)) }
 {
     vec![in alloc; 0; count]
 }
 
-/// Adds the number of a member, once for each of its seats, or not at all where memory is refused.
+/// Adds the number of a member, once for each of its seats, or not at all if memory is refused.
 pub(crate) fn add_numbers(numbers: &mut Vec<u32>, number: u32, count: u32) -> Result<(), AllocError>
     ensures ok { IfOk result
         (λ _. numbers.new.items ≡ numbers.old.items ++ replicate count number) }
@@ -118,7 +118,7 @@ pub(crate) fn add_numbers(numbers: &mut Vec<u32>, number: u32, count: u32) -> Re
 }
 
 /// Makes an entity of a class, whose attributes are 0, with its heads, its seats and their numbers,
-/// and gives its row; nothing where memory is refused.
+/// and gives its row; nothing if memory is refused.
 pub(crate) fn grow<S: SetBoard>(
     alloc: Global,
     entities: &mut Entities,

@@ -14,8 +14,8 @@ pub fn lifo_files_first()
     ensures { LifoFilesFirst }
 {}
 
-/// A set ranked by HIGH and then by LOW files before the first member that ranks strictly behind,
-/// and so behind those with which it ties.
+/// A set ranked by HIGH and then by LOW files before the first member that ranks strictly after,
+/// and so after those with which it ties.
 pub fn ranked_by_two_keys()
     ensures { RankedByTwoKeys }
 {}
@@ -35,18 +35,18 @@ pub fn removed_anywhere()
     ensures { RemovedAnywhere }
 {}
 
-/// Where two faults apply, the one with the lower number is told.
+/// If two faults apply, the one with the lower number is reported.
 pub fn lowest_fault_first()
     ensures { LowestFaultFirst }
 {}
 
-/// FILE puts a member between two parts of the list, and each discipline and each place that it
-/// names says which.
+/// FILE puts a member between two parts of the list. Each discipline and each place that it names
+/// determines which parts.
 pub fn filed_between()
     ensures { FiledBetween }
 {}
 
-/// Where one list is changed, each other stays.
+/// If one list is changed, each other stays.
 pub fn other_lists_stay()
     ensures { OtherListsStay }
 {}
@@ -56,7 +56,7 @@ pub fn ended_is_gone()
     ensures { EndedIsGone }
 {}
 
-/// A member and an owner of members are not ended; a member is told first.
+/// A member and an owner of members are not ended; the fault of a member is reported first.
 pub fn ended_in_no_use()
     ensures { EndedInNoUse }
 {}

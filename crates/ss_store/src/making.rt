@@ -1,4 +1,4 @@
-//! Entities made, and what takes them off again.
+//! Entities made, and the calls that take them off again.
 ghost use Rattle.std.specs.Prelude.{◌≡◌, ◌<◌, ◌≤◌, IfOk, OnErr, length, true, false, ℕ};
 ghost use Rattle.ss_store.specs.Tables.{class_of};
 ghost use Rattle.ss_store.specs.declared.limits.TheConstants.{MOST_ENTITIES};
@@ -92,7 +92,7 @@ impl<S: SetBoard> Store<S> {
         self.search.forget();
     }
 
-    /// Takes so many entities of a class off, last first.
+    /// Takes `count` entities of a class off, last first.
     pub(crate) fn take_entities(&mut self, class: usize, count: usize)
         requires { (rest : StoreValue) × TakesOff class count self.old rest }
         ensures { (rest : StoreValue) → TakesOff class count self.old rest → self.new ≡ rest }
@@ -102,7 +102,7 @@ impl<S: SetBoard> Store<S> {
         }
     }
 
-    /// Makes so many entities of a class, or none where memory is refused.
+    /// Makes `count` entities of a class, or none if memory is refused.
     fn add_entities(&mut self, class: usize, count: usize) -> Result<(), AllocError>
         requires class { class < length self.old.tables.classes }
         requires kind { (class_of self.old.tables class).permanent ≡ true }

@@ -1,4 +1,4 @@
-//! Where the lists and the members of a set are on the board.
+//! The heads of the lists and the seats of the members of a set on the board.
 ghost use Rattle.std.specs.Prelude.{◌≡◌, ◌<◌, ◌^◌, length, IfOk, IsSome, None, Some, ℕ, option_map};
 ghost use Rattle.std.specs.Option.{ForNone, ForSome};
 ghost use Rattle.ss_store.specs.Store as pure;
@@ -17,7 +17,7 @@ use ss_links::SetBoard;
 use ss_program::{Discipline, Owner};
 use ss_words::RunFault;
 
-/// Tells its caller what a board says of itself where its heads and seats are counted.
+/// Gives its caller the facts that a board ensures when its heads and seats are counted.
 pub(crate) fn known<S: SetBoard>(board: &S)
     ensures heads { length (S.board board.now).lists < 2 ^ 32 }
     ensures seats { (S.board board.now).seats < 2 ^ 32 }
@@ -27,7 +27,7 @@ pub(crate) fn known<S: SetBoard>(board: &S)
     board.seats();
 }
 
-/// The number of the entity that a value names, 0 where it is below 1 and names none.
+/// The number of the entity that a value names, 0 if it is below 1 and names none.
 pub(crate) fn number_of_value(value: i64) -> usize
     ensures { result ≡ pure.number_of value }
 {
@@ -45,7 +45,7 @@ fn row_in(rows: &Rows, class: usize, index: usize) -> Option<Row>
     }
 }
 
-/// The row of an entity, where it exists.
+/// The row of an entity, if it exists.
 pub(crate) fn row_of(entities: &Entities, class: usize, number: usize) -> Option<Row>
     ensures { result ≡ table.row_of entities.now class number }
 {
@@ -63,7 +63,7 @@ pub(crate) fn row_of(entities: &Entities, class: usize, number: usize) -> Option
     }
 }
 
-/// How many rows the greater one of two numberings has: that of a class, and that of references.
+/// How many rows the longer of two numberings has: that of a class, and that of references.
 pub(crate) fn greatest_number(entities: &Entities, class: usize) -> usize
     ensures { result ≡ table.greatest_number entities.now class }
 {
@@ -75,7 +75,7 @@ pub(crate) fn greatest_number(entities: &Entities, class: usize) -> usize
     if made < given { given } else { made }
 }
 
-/// The head of a set's list, where its owner exists.
+/// The head of a set's list, if its owner exists.
 pub(crate) fn head_of(entities: &Entities, set: &SetShape, owner: usize) -> Option<u32>
     requires { (h : ℕ) → head_at entities.now set.now owner ≡ Some h → h < 2 ^ 32 }
     ensures { result ≡ head_at entities.now set.now owner }
@@ -91,7 +91,7 @@ pub(crate) fn head_of(entities: &Entities, set: &SetShape, owner: usize) -> Opti
     }
 }
 
-/// The seat of a member in a set, where it exists.
+/// The seat of a member in a set, if it exists.
 pub(crate) fn seat_of(entities: &Entities, set: &SetShape, member: usize) -> Option<u32>
     requires { (t : ℕ) → seat_at entities.now set.now member ≡ Some t → t < 2 ^ 32 }
     ensures { result ≡ seat_at entities.now set.now member }
@@ -110,7 +110,7 @@ pub enum Spot {
     After(u32),
 }
 
-/// The place that FILE names; F3 where the member that it names does not exist.
+/// The place that FILE names; F3 if the member that it names does not exist.
 pub(crate) fn spot_of(entities: &Entities, set: &SetShape, how: How) -> Result<Spot, RunFault>
     requires { (y t : ℕ) → seat_at entities.now set.now y ≡ Some t → t < 2 ^ 32 }
     ensures { result ≡ spot_by entities.now set.now how }
@@ -130,7 +130,7 @@ pub(crate) fn spot_of(entities: &Entities, set: &SetShape, how: How) -> Result<S
     }
 }
 
-/// Whether a seat stands in the list of a head.
+/// Whether a seat is in the list of a head.
 pub(crate) fn stands<S: SetBoard>(board: &S, head: u32, seat: u32) -> bool
     requires { seat < (S.board board.now).seats }
     ensures { result ≡ is_at (head_of (S.board board.now).lists seat) head }
@@ -141,8 +141,8 @@ pub(crate) fn stands<S: SetBoard>(board: &S, head: u32, seat: u32) -> bool
     }
 }
 
-/// The seat behind which a member is filed, or none where it is filed first; F5 where the member
-/// named is not in the list of the head.
+/// The seat after which a member is filed, or none if it is filed first; F5 if the member named is
+/// not in the list of the head.
 pub(crate) fn place_for<S: SetBoard>(
     entities: &Entities,
     numbers: &[u32],
@@ -265,7 +265,7 @@ pub(crate) fn member_if(numbers: &[u32], seat: Option<u32>) -> Option<u32>
     }
 }
 
-/// The seat of the member with this number, or none where no member is named.
+/// The seat of the member with this number, or none if no member is named.
 pub(crate) fn seat_if(entities: &Entities, set: &SetShape, member: Option<u32>) -> Option<u32>
     requires { (y t : ℕ) → seat_at entities.now set.now y ≡ Some t → t < 2 ^ 32 }
     ensures none { ForNone member (result ≡ None) }
@@ -277,7 +277,7 @@ pub(crate) fn seat_if(entities: &Entities, set: &SetShape, member: Option<u32>) 
     }
 }
 
-/// The seat of a member where it is in the list of an owner, and none where it isn't; F3 where one
+/// The seat of a member if it is in the list of an owner, and none if it isn't; F3 if one of them
 /// does not exist.
 pub(crate) fn seat_in<S: SetBoard>(
     entities: &Entities,

@@ -1,4 +1,4 @@
-//! Where a ranked set files a member.
+//! The place at which a ranked set files a member.
 ghost use Rattle.std.specs.Prelude.{◌≡◌, ◌<◌, ℕ, length, None, Some, IsSome, unwrap_or, [], pos};
 ghost use Rattle.std.specs.Prelude.{slice_index_or, option_map, true, false};
 ghost use Rattle.std.specs.Ordering.{is_gt};
@@ -37,7 +37,7 @@ fn values_in(rows: &Rows, class: usize, index: usize) -> Option<&[i64]>
     }
 }
 
-/// The values of the attributes of an entity, where it exists.
+/// The values of the attributes of an entity, if it exists.
 pub(crate) fn values_of(entities: &Entities, class: usize, number: usize) -> Option<&[i64]>
     ensures { option_map (λ v. v.now) result ≡ table.values_of entities.now class number }
 {
@@ -55,7 +55,7 @@ pub(crate) fn values_of(entities: &Entities, class: usize, number: usize) -> Opt
     }
 }
 
-/// The value of an attribute, 0 where there is none.
+/// The value of an attribute, 0 if there is none.
 pub(crate) fn value_at(values: &[i64], attribute: usize) -> i64
     ensures { result ≡ slice_index_or values.now attribute (pos 0) }
 {
@@ -65,8 +65,8 @@ pub(crate) fn value_at(values: &[i64], attribute: usize) -> i64
     }
 }
 
-/// Whether an entity with these values ranks strictly behind one with those: by the first key that
-/// tells them apart.
+/// Whether an entity with these values ranks strictly after one with those: by the first key whose
+/// values differ.
 fn ranks_behind(keys: &[Key], theirs: &[i64], ours: &[i64]) -> bool
     ensures { result
         ≡ is_gt (by_keys keys.now (key_values keys.now theirs.now) (key_values keys.now ours.now)) }
@@ -84,7 +84,7 @@ fn ranks_behind(keys: &[Key], theirs: &[i64], ours: &[i64]) -> bool
     false
 }
 
-/// Whether a member, by its seat, ranks strictly behind the entity with these values.
+/// Whether a member, by its seat, ranks strictly after the entity with these values.
 fn seat_behind(
     entities: &Entities,
     numbers: &[u32],
@@ -105,7 +105,7 @@ fn seat_behind(
     }
 }
 
-/// Whether the member at the seat before ranks strictly behind the one at this seat.
+/// Whether the member at the seat before ranks strictly after the one at this seat.
 fn falls(
     entities: &Entities,
     numbers: &[u32],
@@ -131,7 +131,7 @@ fn falls(
     }
 }
 
-/// Whether no member of the list of a head ranks strictly behind one that stands later.
+/// Whether no member of the list of a head ranks strictly after a later one.
 fn climbs<S: SetBoard>(
     entities: &Entities,
     numbers: &[u32],
@@ -158,7 +158,7 @@ fn climbs<S: SetBoard>(
     true
 }
 
-/// Whether the list of a head is in order, where a member is to be filed by the ranking of its set.
+/// Whether a member is to be filed by the ranking of its set, in a list of a head that is in order.
 pub(crate) fn is_in_order<S: SetBoard>(
     search: &Search,
     entities: &Entities,
@@ -185,7 +185,7 @@ pub(crate) fn is_in_order<S: SetBoard>(
     }
 }
 
-/// The last seat of the tree of a head whose member does not rank behind an entity with these
+/// The last seat of the tree of a head whose member does not rank after an entity with these
 /// values, as far as the tree is right.
 fn searched(
     search: &Search,
@@ -216,7 +216,7 @@ fn searched(
     found
 }
 
-/// A seat of the list of a head behind which the place of an entity is to be looked for, if the list
+/// A seat of the list of a head after which the place of an entity is to be looked for, if the list
 /// is in order.
 pub(crate) fn start_of(
     in_order: bool,
@@ -244,8 +244,8 @@ pub(crate) fn start_of(
     }
 }
 
-/// Whether a seat stands in the list of a head and its member does not rank behind an entity with
-/// these values, so that the search for that one's place may begin behind it.
+/// Whether a seat is in the list of a head and its member does not rank after an entity with these
+/// values. The search for that entity's place may then begin after the seat.
 fn may_begin<S: SetBoard>(
     entities: &Entities,
     numbers: &[u32],
@@ -269,8 +269,8 @@ fn may_begin<S: SetBoard>(
     !seat_behind(entities, numbers, class, keys, seat, ours)
 }
 
-/// Where the search for the place of an entity with these values begins: at the first seat of the
-/// list of a head, or behind a seat of the list, where that one's member does not rank behind.
+/// The seat at which the search for the place of an entity with these values begins: the first seat
+/// of the list of a head, or the one after a seat of the list whose member does not rank after it.
 fn first_look<S: SetBoard>(
     entities: &Entities,
     numbers: &[u32],
@@ -300,8 +300,8 @@ fn first_look<S: SetBoard>(
     (None, board.first(head))
 }
 
-/// The seat behind which the list of a head has an entity with these values filed, or none where it
-/// is filed first.
+/// The seat after which the list of a head has an entity with these values filed, or none if it is
+/// filed first.
 fn place_among<S: SetBoard>(
     entities: &Entities,
     numbers: &[u32],
@@ -334,8 +334,7 @@ fn place_among<S: SetBoard>(
     before
 }
 
-/// The seat behind which a ranked set files entity number `member`, or none where it files it
-/// first.
+/// The seat after which a ranked set files entity number `member`, or none if it files it first.
 pub(crate) fn ranked_place<S: SetBoard>(
     entities: &Entities,
     numbers: &[u32],

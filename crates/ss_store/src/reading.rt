@@ -1,4 +1,4 @@
-//! What is there: entities, attributes, and the lists of the sets.
+//! The calls that read: entities, attributes, and the lists of the sets.
 ghost use Rattle.std.specs.Prelude.{◌≡◌, ◌<◌, length, option_map};
 ghost use Rattle.ss_store.specs.Tables.{set_of};
 ghost use Rattle.ss_store.specs.WellStore.{IsWellStore};
@@ -16,11 +16,11 @@ use ss_links::SetBoard;
 use ss_words::RunFault;
 
 impl<S: SetBoard> Store<S> {
-    /// Tells its caller that the store is well-formed.
+    /// Gives its caller the fact that the store is well-formed.
     pub fn known(&self)
         ensures { IsWellStore self.now.tables self.now.state }
     {
-        // What is kept is known where a field is read.
+        // The store's invariant is known once a field is read.
         let _ = &self.entities;
     }
 
@@ -39,7 +39,7 @@ impl<S: SetBoard> Store<S> {
         greatest_number(&self.entities, class) as u32
     }
 
-    /// The value of an attribute, by its number in the class; F3 where the entity does not exist.
+    /// The value of an attribute, by its number in the class; F3 if the entity does not exist.
     pub fn get(&self, class: usize, attribute: usize, entity: i64) -> Result<i64, RunFault>
         ensures { result
             ≡ pure.attribute_of self.now.state class attribute (pure.number_of entity) }
@@ -50,7 +50,7 @@ impl<S: SetBoard> Store<S> {
         }
     }
 
-    /// The values of all attributes of an entity, by one look for it, where it exists.
+    /// The values of all attributes of an entity, by one look for it, if it exists.
     pub fn attributes(&self, class: usize, entity: i64) -> Option<&[i64]>
         ensures { option_map (λ values. values.now) result
             ≡ pure.attributes_of self.now.state class (pure.number_of entity) }
@@ -59,8 +59,7 @@ impl<S: SetBoard> Store<S> {
         values_of(&self.entities, class, number)
     }
 
-    /// The number of members in the list of a set for this owner; F3 where the owner does not
-    /// exist.
+    /// The number of members in the list of a set for this owner; F3 if the owner does not exist.
     pub fn count(&self, set: usize, owner: i64) -> Result<u32, RunFault>
         requires { set < length self.now.tables.sets }
         ensures { result
@@ -74,7 +73,7 @@ impl<S: SetBoard> Store<S> {
         }
     }
 
-    /// The first member of the list of a set for this owner, or none; F3 where the owner does not
+    /// The first member of the list of a set for this owner, or none; F3 if the owner does not
     /// exist.
     pub fn walk_first(&self, set: usize, owner: i64) -> Result<Option<u32>, RunFault>
         requires { set < length self.now.tables.sets }
@@ -92,7 +91,7 @@ impl<S: SetBoard> Store<S> {
         }
     }
 
-    /// The last member of the list of a set for this owner, or none; F3 where the owner does not
+    /// The last member of the list of a set for this owner, or none; F3 if the owner does not
     /// exist.
     pub fn walk_last(&self, set: usize, owner: i64) -> Result<Option<u32>, RunFault>
         requires { set < length self.now.tables.sets }
@@ -110,8 +109,8 @@ impl<S: SetBoard> Store<S> {
         }
     }
 
-    /// Whether a member is in the list of a set for this owner; F3 where the owner or the member
-    /// does not exist.
+    /// Whether a member is in the list of a set for this owner; F3 if the owner or the member does
+    /// not exist.
     pub fn is_in(&self, set: usize, owner: i64, member: i64) -> Result<bool, RunFault>
         requires { set < length self.now.tables.sets }
         ensures { result ≡ is_in (set_of self.now.tables set) self.now.state (pure.number_of owner)
@@ -132,11 +131,10 @@ impl<S: SetBoard> Store<S> {
         }
     }
 
-    /// The member directly behind one of the list of a set for this owner, or none where it is the
+    /// The member directly after one of the list of a set for this owner, or none if that is the
     /// last.
     ///
-    /// Faults: F3 where the owner or the member does not exist; F14 where the member is not in the
-    /// list.
+    /// Faults: F3 if the owner or the member does not exist; F14 if the member is not in the list.
     pub fn walk_next(&self, set: usize, owner: i64, member: i64) -> Result<Option<u32>, RunFault>
         requires { set < length self.now.tables.sets }
         ensures { result
@@ -161,11 +159,10 @@ impl<S: SetBoard> Store<S> {
         }
     }
 
-    /// The member directly before one of the list of a set for this owner, or none where it is the
+    /// The member directly before one of the list of a set for this owner, or none if that is the
     /// first.
     ///
-    /// Faults: F3 where the owner or the member does not exist; F14 where the member is not in the
-    /// list.
+    /// Faults: F3 if the owner or the member does not exist; F14 if the member is not in the list.
     pub fn walk_prev(&self, set: usize, owner: i64, member: i64) -> Result<Option<u32>, RunFault>
         requires { set < length self.now.tables.sets }
         ensures { result
@@ -190,8 +187,8 @@ impl<S: SetBoard> Store<S> {
         }
     }
 
-    /// `P.s`: the member directly before one in the list that holds it, or none where it is the
-    /// first or in no list; F3 where it does not exist.
+    /// `P.s`: the member directly before one in the list that holds it, or none if it is the first
+    /// or in no list; F3 if it does not exist.
     pub fn predecessor(&self, set: usize, member: i64) -> Result<Option<u32>, RunFault>
         requires { set < length self.now.tables.sets }
         ensures { result
@@ -208,8 +205,8 @@ impl<S: SetBoard> Store<S> {
         }
     }
 
-    /// `S.s`: the member directly behind one in the list that holds it, or none where it is the
-    /// last or in no list; F3 where it does not exist.
+    /// `S.s`: the member directly after one in the list that holds it, or none if it is the last or
+    /// in no list; F3 if it does not exist.
     pub fn successor(&self, set: usize, member: i64) -> Result<Option<u32>, RunFault>
         requires { set < length self.now.tables.sets }
         ensures { result
@@ -226,7 +223,7 @@ impl<S: SetBoard> Store<S> {
         }
     }
 
-    /// `M.s`: whether an entity is in a list of the set; F3 where it does not exist.
+    /// `M.s`: whether an entity is in a list of the set; F3 if it does not exist.
     pub fn membership(&self, set: usize, member: i64) -> Result<bool, RunFault>
         requires { set < length self.now.tables.sets }
         ensures { result
@@ -240,7 +237,7 @@ impl<S: SetBoard> Store<S> {
         }
     }
 
-    /// `P.s`, `S.s` and `M.s` of an entity, by one look for it; F3 where it does not exist.
+    /// `P.s`, `S.s` and `M.s` of an entity, by one look for it; F3 if it does not exist.
     pub fn neighbours(&self, set: usize, member: i64) -> Result<Neighbours, RunFault>
         requires { set < length self.now.tables.sets }
         ensures { AreNeighbours (set_of self.now.tables set) self.now.state (pure.number_of member)

@@ -1,3 +1,5 @@
+//! The rows and attribute values of all entities, by class and number, which a store keeps.
+
 ghost use Rattle.std.specs.Prelude.{◌≡◌, ◌<◌, ◌-◌, IfOk, OnErr, None, Some, true, length, replicate, slice_get};
 ghost use Rattle.ss_store.specs.Rows.{no_rows, rows_in};
 ghost use Rattle.std.specs.Prelude.{ℤ, List, pos, slice_index_or, slice_set};
@@ -8,7 +10,7 @@ ghost use Rattle.ss_store.specs.Writing.{with_values};
 use std::alloc::{AllocError, Global};
 use std::marker::Model;
 
-/// Where an entity lies on the board: its class, and the first of its heads and of its seats.
+/// The place of an entity on the board: its class, and the first of its heads and of its seats.
 #[derive(Clone, Copy)]
 pub struct Row {
     pub class: usize,
@@ -17,7 +19,7 @@ pub struct Row {
 }
 
 /// Entities 1, 2, .. of one numbering: the row of each, and the values of its attributes, none
-/// where it has ended.
+/// if it has ended.
 #[derive(Drop)]
 pub(crate) struct Rows {
     pub(crate) rows: Vec<Row>,
@@ -107,7 +109,7 @@ impl Rows {
     }
 }
 
-/// No entities of so many classes.
+/// No entities of `classes` classes.
 fn class_rows(alloc: Global, classes: usize) -> Result<Vec<Rows>, AllocError>
     ensures { IfOk result (λ made. made.items ≡ replicate classes no_rows) }
 {
@@ -119,7 +121,7 @@ fn class_rows(alloc: Global, classes: usize) -> Result<Vec<Rows>, AllocError>
 }
 
 impl Entities {
-    /// No entities of so many classes.
+    /// No entities of `classes` classes.
     pub(crate) fn new(alloc: Global, classes: usize) -> Result<Self, AllocError>
         ensures { IfOk result
             (λ none. none ≡ record { made = replicate classes no_rows; references = no_rows }) }
@@ -131,7 +133,7 @@ impl Entities {
         })
     }
 
-    /// How many entities a numbering has, those that have ended among them.
+    /// How many entities a numbering has, including those that have ended.
     pub(crate) fn count(&self, permanent: bool, class: usize) -> usize
         requires { permanent ≡ true → class < length self.now.made }
         ensures { result ≡ length (rows_in self.now (numbering_by permanent class)).rows }

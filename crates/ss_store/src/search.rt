@@ -1,4 +1,4 @@
-//! Which lists are known to be in order, and where the search for a place in one may begin.
+//! The lists that are known to be in order, and the seats at which a search for a place may begin.
 ghost use Rattle.std.specs.Prelude.{◌≡◌, ◌++◌, ℕ, [], false, true, slice_set, replicate, IfOk, OnErr};
 ghost use Rattle.ss_store.specs.Order.{known_at};
 
@@ -8,13 +8,14 @@ use ss_program::Discipline;
 use std::alloc::{AllocError, Global};
 use std::marker::Model;
 
-/// Stands for a list that was in no round found to be in order.
+/// The round of a list that was found to be in order in no round.
 const NO_ROUND: u64 = 0;
 
 /// The lists of the ranked sets that are known to be in order, and a tree of the seats of each.
 ///
-/// A list is known while the round lasts in which it was found to be in order. Contracts see which
-/// lists are known. Nothing is said of the trees: they only say where a search may begin.
+/// A list is known in the round in which it was found to be in order, until that round ends.
+/// Contracts see which lists are known. They say nothing of the trees: a tree only gives a seat at
+/// which a search may begin.
 #[derive(Drop)]
 pub(crate) struct Search {
     /// The round in which each list was found to be in order.
@@ -35,7 +36,7 @@ impl Model for Search {
     ghost invariant = { λ a. AreRounds a.rounds.items a.round };
 }
 
-/// Adds so many lists that were in no round found to be in order, or none where memory is refused.
+/// Adds `count` lists that were found to be in order in no round, or none if memory is refused.
 fn add_unknown(rounds: &mut Vec<u64>, count: usize) -> Result<(), AllocError>
     ensures ok { IfOk result (λ _. rounds.new.items ≡ rounds.old.items ++ replicate count NO_ROUND) }
     ensures err { OnErr result (rounds.new.items ≡ rounds.old.items) }
@@ -59,7 +60,7 @@ impl Search {
         }
     }
 
-    /// Makes room for so many heads and seats. No more is known of any list.
+    /// Makes room for these numbers of heads and seats. No more is known of any list.
     pub(crate) fn try_grow(&mut self, heads: u32, seats: u32) -> Result<(), AllocError>
         ensures { (h : ℕ) → known_at self.new h ≡ true → known_at self.old h ≡ true }
     {
@@ -99,7 +100,7 @@ impl Search {
         }
     }
 
-    /// Nothing is known of any list, where this holds.
+    /// Forgets all lists, if `all` is true: none is known to be in order then.
     pub(crate) fn forget_if(&mut self, all: bool)
         ensures forgotten { all ≡ true → (h : ℕ) → known_at self.new h ≡ false }
         ensures kept { all ≡ false → self.new ≡ self.old }
@@ -109,7 +110,7 @@ impl Search {
         }
     }
 
-    /// Puts a seat directly behind another in the tree of a head, or first, if the set is ranked.
+    /// Puts a seat directly after another in the tree of a head, or first, if the set is ranked.
     pub(crate) fn put(&mut self, set: &SetShape, head: u32, seat: u32, before: Option<u32>)
         ensures { self.new ≡ self.old }
     {

@@ -1,6 +1,8 @@
+//! The shapes of classes and sets that a store keeps, and the places and members that calls name.
+
 use ss_program::{Discipline, Owner};
 
-/// What is kept of a class: how many attributes its entities have, how many sets they own, in how
+/// The shape of a class: how many attributes its entities have, how many sets they own, in how
 /// many sets they may be, and whether it is permanent.
 #[derive(Clone, Copy)]
 pub struct ClassShape {
@@ -10,7 +12,7 @@ pub struct ClassShape {
     pub permanent: bool,
 }
 
-/// What is kept of a set: its discipline; whose its lists are, and its number among the sets of
+/// The shape of a set: its discipline; the owner of its lists, and its number among the sets of
 /// that owner; the class of its members, and its number among the sets of that class.
 #[derive(Drop)]
 pub struct SetShape {
@@ -21,8 +23,8 @@ pub struct SetShape {
     pub slot: u32,
 }
 
-/// Where a member is filed. A value names the entity with that number, and none where it is below
-/// 1.
+/// The place at which a member is filed. A value names the entity with that number, and none if it
+/// is below 1.
 #[derive(Clone, Copy)]
 pub enum How {
     /// By the set's discipline.
@@ -31,7 +33,7 @@ pub enum How {
     Last,
     /// Directly before this member of the list.
     Before(i64),
-    /// Directly behind this member of the list.
+    /// Directly after this member of the list.
     After(i64),
 }
 
@@ -44,8 +46,8 @@ pub enum Which {
     Member(i64),
 }
 
-/// What is read of a member at once: the ones directly before it and directly behind it in the list
-/// that holds it, and whether a list of the set holds it.
+/// The facts read of a member at once: the members directly before it and directly after it in the
+/// list that holds it, and whether a list of the set holds it.
 #[derive(Clone, Copy)]
 pub struct Neighbours {
     pub before: Option<u32>,

@@ -1,3 +1,5 @@
+//! The store itself: its making, FILE and REMOVE, and the undoing of changes.
+
 ghost use Rattle.std.specs.Prelude.{◌≡◌, ◌<◌, IfOk, length};
 ghost use Rattle.ss_links.specs.Board.{empty_board};
 ghost use Rattle.ss_store.specs.Tables.{set_of, tables_of};
@@ -27,8 +29,8 @@ use std::marker::Model;
 
 /// Entities with their attributes, and the lists of the sets that they own, over a set board.
 ///
-/// A value names the entity of a class with that number; one below 1 names none. Memory is wanted
-/// by `new`, `with_tables`, `create` and `create_all` alone. A call that is refused changes nothing.
+/// A value names the entity of a class with that number; one below 1 names none. Only `new`,
+/// `with_tables`, `create` and `create_all` ask for memory. A call that is refused changes nothing.
 #[derive(Drop)]
 pub struct Store<S: SetBoard> {
     pub(crate) alloc: Global,
@@ -89,8 +91,8 @@ impl<S: SetBoard> Store<S> {
         Store::with_tables(alloc, classes, sets, system, board)
     }
 
-    /// A store of these classes and sets, of which the system owns so many, with nothing made, on a
-    /// board without heads and seats.
+    /// A store of these classes and sets with nothing made, on a board without heads and seats. The
+    /// system owns `system` of the sets.
     pub fn with_tables(
         alloc: Global,
         classes: Vec<ClassShape>,
@@ -124,10 +126,10 @@ impl<S: SetBoard> Store<S> {
 }
 
 impl<S: SetBoard> Store<S> {
-    /// Files a member in the list of a set for this owner, where `how` says.
+    /// Files a member in the list of a set for this owner, at the place that `how` gives.
     ///
-    /// Faults: F3 where the owner, the member, or the one that `how` names does not exist; F4 where
-    /// the member is in a list of the set; F5 where the one that `how` names is not in this list.
+    /// Faults: F3 if the owner, the member, or the one that `how` names does not exist; F4 if the
+    /// member is in a list of the set; F5 if the one that `how` names is not in this list.
     pub fn file(
         &mut self,
         set: usize,
@@ -206,8 +208,8 @@ impl<S: SetBoard> Store<S> {
 
     /// Removes a member from the list of a set for this owner, and gives its number.
     ///
-    /// Faults: F3 where the owner or the member named does not exist; F5 where the member named is
-    /// not in the list; F6 where the first or the last of an empty list is asked for.
+    /// Faults: F3 if the owner or the member named does not exist; F5 if the member named is not in
+    /// the list; F6 if the first or the last of an empty list is asked for.
     pub fn remove(
         &mut self,
         set: usize,

@@ -1,4 +1,4 @@
-//! What a store keeps of a program.
+//! The tables that a store keeps of a program.
 ghost use Rattle.std.specs.Prelude.{◌≡◌, ◌<◌, ◌≤◌, IfOk, length, take, slice_get, unwrap_or, map};
 ghost use Rattle.std.specs.List.{range_with_len};
 ghost use Rattle.ss_program.specs.Program.{is_same_owner, owned_among};
@@ -62,7 +62,7 @@ fn is_permanent(kind: &ClassKind) -> bool
     }
 }
 
-/// What is kept of a class.
+/// The shape of a class.
 fn class_shape(program: &Program, class: usize) -> ClassShape
     requires { class < length program.now.classes }
     ensures { result ≡ pure.class_shape program.now class }
@@ -78,7 +78,7 @@ fn class_shape(program: &Program, class: usize) -> ClassShape
     }
 }
 
-/// What is kept of a program's classes.
+/// The shapes of a program's classes.
 pub(crate) fn class_shapes(alloc: Global, program: &Program) -> Result<Vec<ClassShape>, AllocError>
     ensures { IfOk result (λ shapes. shapes.items
         ≡ map (pure.class_shape program.now) (range_with_len 0 (length program.now.classes))) }
@@ -104,7 +104,7 @@ fn copied(alloc: Global, discipline: &Discipline) -> Result<Discipline, AllocErr
     }
 }
 
-/// What is kept of a set.
+/// The shape of a set.
 fn set_shape(alloc: Global, program: &Program, set: usize) -> Result<SetShape, AllocError>
     requires { set < length program.now.sets }
     ensures { IfOk result (λ shape. shape ≡ pure.set_shape program.now set) }
@@ -123,7 +123,7 @@ fn set_shape(alloc: Global, program: &Program, set: usize) -> Result<SetShape, A
     })
 }
 
-/// What is kept of a program's sets.
+/// The shapes of a program's sets.
 pub(crate) fn set_shapes(alloc: Global, program: &Program) -> Result<Vec<SetShape>, AllocError>
     ensures { IfOk result (λ shapes. shapes.items
         ≡ map (pure.set_shape program.now) (range_with_len 0 (length program.now.sets))) }

@@ -1,7 +1,7 @@
 //! Trees of seats, in which the place of a member is looked for.
 //!
-//! A tree has the seats of one list, in the order in which they stand there. It only says where a
-//! search may begin: whoever asks looks whether that is so. A wrong answer could only be slow.
+//! A tree has the seats of one list, in the order of the list. It only gives a seat at which a
+//! search may begin, and the caller checks that seat. A wrong seat could only make the search slow.
 
 use std::alloc::{AllocError, Global};
 
@@ -15,7 +15,7 @@ struct Twig {
 }
 
 impl Twig {
-    /// The twig of a seat that stands in no tree, or alone in one.
+    /// The twig of a seat that is in no tree, or is the only one of its tree.
     fn alone() -> Twig {
         Twig {
             left: None,
@@ -33,7 +33,7 @@ fn leads_to(link: Option<u32>, seat: u32) -> bool {
     }
 }
 
-/// A number that scatters the seats: each seat has its own. No seat stands above one with a higher
+/// A number that scatters the seats: each seat has its own. No seat is above one with a higher
 /// number, so a tree is as low as if its seats had come in any order.
 fn priority(seat: u32) -> u32 {
     let mut mixed = seat;
@@ -58,7 +58,7 @@ impl Trees {
         }
     }
 
-    /// Makes room for so many heads and seats.
+    /// Makes room for these numbers of heads and seats.
     pub(crate) fn try_grow(&mut self, heads: usize, seats: usize) -> Result<(), AllocError> {
         for _ in self.roots.len()..heads {
             self.roots.push(None)?;
@@ -89,7 +89,7 @@ impl Trees {
         self.twig(seat).left
     }
 
-    /// The seat at the root of the tree behind this one.
+    /// The seat at the root of the tree after this one.
     pub(crate) fn right(&self, seat: u32) -> Option<u32> {
         self.twig(seat).right
     }
@@ -135,7 +135,7 @@ impl Trees {
         }
     }
 
-    /// Hangs a tree where that of a seat hung: at this one's side, or at the root of the head.
+    /// Hangs a tree in the place of seat `old`: at a side of the seat above, or at the head's root.
     fn hang_for(&mut self, head: u32, above: Option<u32>, old: u32, tree: Option<u32>) {
         match above {
             None => {
@@ -194,7 +194,7 @@ impl Trees {
         }
     }
 
-    /// Puts a seat, which stands in no tree, directly behind another of the head's tree, or first.
+    /// Puts a seat, which is in no tree, directly after another of the head's tree, or first.
     pub(crate) fn put(&mut self, head: u32, seat: u32, before: Option<u32>) {
         let behind = match before {
             None => self.root(head),

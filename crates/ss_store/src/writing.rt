@@ -102,8 +102,8 @@ fn is_ranked_by<S: SetBoard>(
 }
 
 impl<S: SetBoard> Store<S> {
-    /// Gives an attribute of an entity, by its number in the class, another value; F3 where the
-    /// entity does not exist, and then nothing changes.
+    /// Gives an attribute of an entity, by its number in the class, another value; F3 if the entity
+    /// does not exist, and then nothing changes.
     pub fn set(
         &mut self,
         class: usize,

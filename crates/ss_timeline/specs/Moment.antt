@@ -8,11 +8,11 @@ use Rattle.ss_state.specs.Run.{Input, run}
 
 -- a position in a run, and how far the way back from it reaches
 pub record Moment : Type 0 where
-  -- what the run is of
+  -- the input of the run
   pub input : Input
-  -- the earliest position to which one can go back: so many of the oldest steps are forgotten
+  -- the earliest position that one can go back to: this number of the oldest steps is forgotten
   pub low : ℕ
-  -- how many steps lead from there to here, all of which are kept
+  -- how many steps lead from there to here; all of them are kept
   pub kept : ℕ
 
 -- the position
@@ -42,7 +42,7 @@ pub record HasMoved (old new : Moment) : Type 0 where
   -- and one step more is kept
   pub moved : new ≡ with_kept old (old.kept + 1)
 
--- what a step did: where the run does not go on, nothing
+-- the effect of a step: none if the run does not go on
 abbrev pub Steps : Stepped → Moment → Moment → Type 0
 Steps Moved old new = HasMoved old new
 Steps AtEnd old new = (goes_on old.input (position old) ≡ false) × (new ≡ old)
@@ -56,7 +56,7 @@ pub record HasGoneBack (old new : Moment) : Type 0 where
   -- the run goes on from there
   pub goes : goes_on new.input (position new) ≡ true
 
--- what a step back did: where no step is kept, nothing
+-- the effect of a step back: none if no step is kept
 abbrev pub GoesBack : Bool → Moment → Moment → Type 0
 GoesBack true old new = HasGoneBack old new
 GoesBack false old new = (old.kept ≡ 0) × (new ≡ old)
@@ -65,7 +65,7 @@ GoesBack false old new = (old.kept ≡ 0) × (new ≡ old)
 abbrev pub older : Moment → ℕ → ℕ
 older moment n = moment.kept - n
 
--- the same position, where the steps older than the newest n are forgotten
+-- the same position, with the steps older than the newest n forgotten
 abbrev pub with_newest : ℕ → Moment → Moment
 with_newest n moment = record {
   input = moment.input;

@@ -11,9 +11,9 @@ use std::alloc::AllocError;
 
 /// One run, a position in it, and the kept steps by which one can go back.
 ///
-/// Its meaning is `moment`: what the run is of, the earliest position to which one can go back, and
-/// how many steps are kept. The state is the run's at that position by definition, so no method can
-/// answer anything else.
+/// Its meaning is `moment`: the input of the run, the earliest position that one can go back to,
+/// and how many steps are kept. The state is the run's at that position by definition, so no method
+/// can answer anything else.
 pub trait Timeline: Drop {
     ghost use Rattle.ss_timeline.specs.Moment.{Moment, position, state_of, goes_on};
     ghost use Rattle.ss_timeline.specs.Moment.{Steps, GoesBack, with_newest};
@@ -27,7 +27,7 @@ pub trait Timeline: Drop {
         ensures within { position (moment self.now) ≤ LAST_POSITION }
         ensures well { IsWell (moment self.now).input.program (state_of (moment self.now)) };
 
-    /// How many steps are kept: [`Timeline::back`] can go so many steps back.
+    /// How many steps are kept: [`Timeline::back`] can go back as many steps.
     fn kept(&self) -> u64
         ensures { result ≡ (moment self.now).kept };
 
@@ -64,38 +64,38 @@ pub trait Timeline: Drop {
     fn frames(&self) -> usize
         ensures { result ≡ 1 + length (state_of (moment self.now)).below };
 
-    /// The section of the last frame, and the number of the place where it is.
+    /// The section of the last frame, and the number of its place.
     fn place(&self) -> (usize, usize)
         ensures { result ≡ (
           (state_of (moment self.now)).frame.section,
           (state_of (moment self.now)).frame.place,
         ) };
 
-    /// The same of the frame on which `depth` others stand; `None` where there are not so many.
+    /// The section and place of the frame with `depth` others above it; `None` if there are fewer.
     fn frame_place(&self, depth: usize) -> Option<(usize, usize)>
         ensures { result ≡ frame_place (state_of (moment self.now)) depth };
 
     /// The value of the local with this number, in the order of the section's table, of the frame
-    /// on which `depth` others stand; `None` where there is no such frame or no such local.
+    /// with `depth` others above it; `None` if there is no such frame or no such local.
     fn frame_local(&self, depth: usize, number: usize) -> Option<i64>
         ensures { result ≡ frame_local (state_of (moment self.now)) depth number };
 
-    /// One step forward. `AtEnd` where the status isn't ready, or at the last position; then
+    /// One step forward. `AtEnd` if the status isn't ready, or at the last position; then
     /// nothing changes, and no memory is taken.
     ///
-    /// `AllocError` where memory was refused; then nothing has changed.
+    /// `AllocError` if memory was refused; then nothing has changed.
     fn step(&mut self) -> Result<Stepped, AllocError>
         ensures ok { IfOk result (λ stepped. Steps stepped (moment self.old) (moment self.new)) }
         ensures err { OnErr result (moment self.new ≡ moment self.old) }
         ensures at_end { goes_on (moment self.old).input (position (moment self.old)) ≡ false
             → IsOk result };
 
-    /// One step back, from where the run goes on. False where no step is kept, and then nothing
-    /// changes. It takes no memory.
+    /// One step back, to a position from which the run goes on. False if no step is kept, and then
+    /// nothing changes. It takes no memory.
     fn back(&mut self) -> bool
         ensures { GoesBack result (moment self.old) (moment self.new) };
 
-    /// Forgets the oldest kept steps, so that the newest `n` are left, or all where there are
+    /// Forgets the oldest kept steps, so that the newest `n` are left, or all if there are
     /// fewer. It takes no memory.
     fn forget(&mut self, n: u64)
         ensures { moment self.new ≡ with_newest n (moment self.old) };

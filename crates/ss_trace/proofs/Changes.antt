@@ -1,4 +1,4 @@
--- Where a question changes, seen from the debugger that stands there.
+-- The states at which a question changes, seen from the debugger at that position.
 use Rattle.std.proofs.Common.{◌≡◌, ℕ, ◌+◌, ◌-◌, ◌<◌, ◌≤◌, zero, suc, List, Bool, true, false, refl, sym, ◌∙◌, arith}
 use Rattle.std.specs.Prelude.{nat_lt, not, bytes_eq, ◌&&◌}
 use Rattle.std.specs.Bool.{one_answer}
@@ -20,13 +20,13 @@ same_turned xs ys =
 
 -- ---- forward
 
--- what stops a movement forward at q, k positions on
+-- whether a movement forward stops at q, k positions on
 pub stops_here : (t u : Input) (bs cs : List ℕ) (x : Question) (p q k from : ℕ) → u ≡ t → cs ≡ bs → q ≡ p + k →
     from ≡ p →
     stops t (ahead_condition t bs (has_changed t x)) p k ≡ is_stop u (ahead_condition u cs (has_changed u x)) from q
 stops_here t u bs cs x p q k from e f h i = rw (e, f, h, i) refl
 
--- nothing is met where a movement begins
+-- nothing is met at the position at which a movement begins
 pub met_nowhere : (test : ℕ → Bool) (p : ℕ) → is_met test p p ≡ false
 met_nowhere test p = first (nat_lt p p) refl
   where
@@ -34,7 +34,7 @@ met_nowhere test p = first (nat_lt p p) refl
     first true e = absurd (omega (arith, ltb-true p p e))
     first false e = refl
 
--- behind a step it is met where the step changes the question
+-- after a step it is met if the step changes the question
 pub met_behind : (t : Input) (x : Question) (p q r : ℕ) → p ≤ q → r ≡ q + 1 →
     is_met (has_changed t x) p r ≡ changes_at t x q
 met_behind t x p q r h e =
@@ -45,16 +45,16 @@ met_behind t x p q r h e =
 
 -- ---- back
 
--- what stops a movement back at q, k positions back
+-- whether a movement back stops at q, k positions back
 pub stops_back_where : (test : ℕ → Bool) (p q k : ℕ) → p ≡ q + k → 0 < k → stops_back test p k ≡ test q
 stops_back_where test p q k e h =
     let some : nat_lt 0 k ≡ true = lt-ltb 0 k h in let here : p - k ≡ q = omega (arith, e) in rw (some, here) refl
 
--- a movement back met what it looks for where its test holds
+-- a movement back met the state that it looks for if its test holds
 pub met_back_at : (test : ℕ → Bool) (p q : ℕ) → q < p → is_met_back test p q ≡ test q
 met_back_at test p q h = let later : nat_lt q p ≡ true = lt-ltb q p h in rw later refl
 
--- it met nothing where it did not stop
+-- it met nothing if it did not stop
 pub unmet_back : (test : ℕ → Bool) (p q k : ℕ) → p ≡ q + k →
     ((j : ℕ) → j < k + 1 → stops_back test p j ≡ false) → false ≡ is_met_back test p q
 unmet_back test p q zero e none = let same : q ≡ p = omega (arith, e) in rw same (sym (met_nowhere test p))

@@ -1,4 +1,4 @@
--- One step changes a list just where it changes how many members it has.
+-- One step changes a list exactly when it changes the number of its members.
 use Rattle.std.proofs.Common.{◌≡◌, ◌≢◌, ℕ, ℤ, zero, suc, ◌-◌, ◌≤◌, List}
 use Rattle.std.proofs.Common.{[], ◌∷◌, ◌++◌, Bool, true, false, Option, Some, None, ◌⊎◌}
 use Rattle.std.proofs.Common.{Result, Ok, Err, refl, sym, ap, ◌∙◌, arith, length, length-append, inl, inr}
@@ -42,7 +42,7 @@ use Rattle.ss_trace.proofs.SameLists.{HasSameLists, same_lists, list_same, attri
 abbrev pub Counts : List ℕ → List ℕ → Type 0
 Counts ks new = length new ≡ length ks → new ≡ ks
 
--- the same of a list that perhaps has no owner
+-- a list, perhaps without an owner, that is another one has another length
 abbrev pub CountsIf : Option (List ℕ) → Option (List ℕ) → Type 0
 CountsIf o new = option_map length new ≡ option_map length o → new ≡ o
 
@@ -55,7 +55,7 @@ counted_same st = record { each = λ w n k e. refl }
 
 -- ---- stores with the same lists
 
--- what is counted of one is counted of the other
+-- lists that are counted in one store are counted in another one with the same lists
 pub counted_then : (old st new : Store) → HasCounted old st → HasSameLists st new → HasCounted old new
 counted_then old st new h s = record {
   each = λ w n k. rw (list_same w n k st new s) (h.each w n k);
@@ -77,7 +77,7 @@ attribute_counted old st c a k z h =
 longer : (xs ys : List ℕ) → length ys ≡ suc (length xs) → Counts xs ys
 longer xs ys e = λ f. absurd (omega (arith, e, f))
 
--- one of two: a list that is longer, or the same list but for what follows its first member
+-- one of two lists: a longer one, or the old one except for the members after its first
 chosen_counts : (b : Bool) (j : ℕ) (ks long rest : List ℕ) → length long ≡ suc (suc (length ks)) → Counts ks rest →
     Counts (j ∷ ks) (if b then long else j ∷ rest)
 chosen_counts true j ks long rest e h = λ f. absurd (omega (arith, e, f))
@@ -116,7 +116,7 @@ filed_counts s st Last k ks = last_counts ks k
 filed_counts s st (Before y) k ks = before_counts ks (number_of y) k
 filed_counts s st (After y) k ks = behind_counts ks (number_of y) k
 
--- one of two: a list that is shorter, or the same list but for what follows its first member
+-- one of two lists: a shorter one, or the old one except for the members after its first
 dropped_counts : (b : Bool) (j : ℕ) (ks rest : List ℕ) → length rest ≤ length ks → Counts ks rest →
     Counts (j ∷ ks) (if b then rest else j ∷ rest)
 dropped_counts true j ks rest e h = λ f. absurd (omega (arith, e, f))
@@ -249,7 +249,7 @@ filed s st o k how =
     (Ok (with_list s st o (filed_in s st how k (members_of s st o))))
     (relisted s st o (filed_in s st how k (members_of s st o)) (filed_counts s st how k (members_of s st o)))))))
 
--- what is left after a REMOVE
+-- the lists after a REMOVE are counted
 abbrev pub LeavesCounted : Store → ℕ × Store → Type 0
 LeavesCounted st r = HasCounted st r.1
 

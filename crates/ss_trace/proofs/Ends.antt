@@ -48,7 +48,7 @@ ahead_of t breaks test p n q e = record {
   not_past_an_end = e.not_past_an_end;
 }
 
--- OVER, so many times
+-- the end of OVER, k times
 pub over_ends : (t : Input) (breaks : List ℕ) (k p n : ℕ) → p ≤ LAST_POSITION →
     IsAheadWithin t p n (over t breaks k p n).position
 unfolding over
@@ -74,7 +74,7 @@ back_step true e p n q k c first rest = record {
   within = omega (arith, first.no_later, first.within, rest.within);
 }
 
--- BACK OVER, so many times
+-- the end of BACK OVER, k times
 pub back_over_ends : (t : Input) (e k p n : ℕ) → e ≤ p → IsBackWithin e p n (back_over t e k p n).position
 unfolding back_over
 back_over_ends t e zero p n o = record { no_later = omega arith; not_before_the_kept = o; within = omega arith }
@@ -115,7 +115,7 @@ stands_back t d q s h l = record {
   ready = λ j g. s.ready j (omega (arith, g, l));
 }
 
--- where the condition of a movement forward is met
+-- the position at which the condition of a movement forward is met
 stands_ahead : (t : Input) (d : DebuggerState) (c : StopCondition) (n : ℕ) → StandsBehindReady t d →
     StandsBehindReady t (debugger_state_at d (forward_end t c d.position n))
 stands_ahead t d c n s =

@@ -1,4 +1,4 @@
--- Where the same is seen on both sides of a step that touches no other part, the answer is the same.
+-- If both sides of a step look the same, and it touches no other part, the answer is the same.
 use Rattle.std.proofs.Common.{◌≡◌, ℕ, zero, suc, ◌+◌, ◌<◌, ℤ, pos, List}
 use Rattle.std.proofs.Common.{[], ◌∷◌, ◌++◌, Bool, true, false, Option, Some, None}
 use Rattle.std.proofs.Common.{refl, sym, ap, ◌∙◌, arith, length, map, slice_get, unwrap_or}
@@ -51,7 +51,7 @@ use Rattle.ss_trace.proofs.Counting.{HasCounted}
 use Rattle.ss_trace.proofs.SameNumbers.{entity_next}
 use Rattle.ss_trace.proofs.Skips.{lists_counted, events_left, report_left}
 
--- ---- what a glance holds
+-- ---- the values of a glance
 
 abbrev number_in : Glance → Option ℤ
 number_in (Number x) = x
@@ -73,7 +73,7 @@ abbrev count_in : Glance → Option ℕ
 count_in (Members x n) = n
 count_in _ = None
 
--- ---- two that are the same are equal
+-- ---- two glances that are the same are equal
 
 both : (b c : Bool) → (b && c) ≡ true → (b ≡ true) × (c ≡ true)
 both true c e = (refl, e)
@@ -411,7 +411,7 @@ left t (Shown shown.Report) p e g = report_left t p (ap amount_in g)
 left t (Attribute class x name) p e g = attribute_text_left t class x name p (suc p) g
 left t (Count name owner) p e g = count_left t name owner p (suc p) g
 
--- the same, one position further, for what looks the same
+-- the answer is the same one position further, if the glance is the same
 pub unseen : (t : Input) (x : Question) (p q : ℕ) → q ≡ p + 1 → touched_at t (part_of x) p ≡ Nothing →
     glance_at t x q ≡ glance_at t x p → answer_at t x q ≡ answer_at t x p
 unseen t x p q h e g =

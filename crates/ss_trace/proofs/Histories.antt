@@ -1,4 +1,4 @@
--- Histories: the newest step, and the others behind it.
+-- Histories: the newest step, and the other steps after it.
 use Rattle.std.proofs.Common.{◌≡◌, ℕ, zero, suc, ◌+◌, ◌≤◌, Bool, true, false, cond, List, [], ◌∷◌, ◌++◌}
 use Rattle.std.proofs.Common.{refl, sym, ap, ◌∙◌, ◌≢◌, arith, nat_lt, take, length, append_assoc, Option, Some, None}
 use Rattle.std.specs.Prelude.{decimal, is_some, MatchOption}
@@ -18,7 +18,7 @@ use Rattle.ss_trace.specs.Value.{value_in}
 use Rattle.ss_trace.specs.History.{before_others, positions_where, step_row, step_rows, history, history_text, row}
 use Rattle.ss_trace.specs.History.{head_row, no_change_text, table_or_none, newest_change, newest}
 
--- nothing stands before the earliest position
+-- there is no step before the earliest position
 pub none_before : (test : ℕ → Bool) (a p : ℕ) → p ≤ a → positions_where test a p ≡ []
 unfolding positions_where
 none_before test a zero h = refl
@@ -52,19 +52,19 @@ found test a (suc r) q e h f =
 
 -- ---- rows
 
--- some steps left of a list, of which n are still told
+-- the rows of some steps left of a list, of which n are still to be shown
 pub row_more : (t : Input) (x : Question) (n m : ℕ) (q : ℕ) (qs : List ℕ) → n ≡ m + 1 →
     step_rows t x (take n (q ∷ qs)) ≡ step_row t x q ++ step_rows t x (take m qs)
 row_more t x zero m q qs e = absurd (omega (arith, e))
 row_more t x (suc n) m q qs e = let same : n ≡ m = omega (arith, e) in rw same refl
 
--- and how many they are
+-- and the number of these rows
 pub count_more : (n m : ℕ) (q : ℕ) (qs : List ℕ) → n ≡ m + 1 →
     length (take n (q ∷ qs)) ≡ suc (length (take m qs))
 count_more zero m q qs e = absurd (omega (arith, e))
 count_more (suc n) m q qs e = let same : n ≡ m = omega (arith, e) in rw same refl
 
--- a row, from the state in which it is told
+-- a row, from the state in which it is written
 pub row_told : (t : Input) (x : Question) (u : Moment) (after : List ℕ) → u.input ≡ t →
     u.state ≡ run u.input (position u) → after ≡ answer_at t x (position u + 1) →
     row (decimal (position u)) (signed_decimal u.state.clock) (section_at u.input (position u))
@@ -109,14 +109,14 @@ newest_is t x e p q qs h = ap newest h
 pub newest_none : (t : Input) (x : Question) (e p : ℕ) → history t x e p ≡ [] → newest_change t x e p ≡ None
 newest_none t x e p h = ap newest h
 
--- what was read before where something is found
+-- the answer that was read before, if a change is found
 pub found_before : (o : Option (Vec ℕ Global)) (old : List ℕ) (b : Bool) (wanted : List ℕ) (N H : Type 0) →
     is_some o ≡ true → MatchOption o (b ≡ true) (λ text. (text.items ≡ old) × (b ≡ false)) → old ≡ wanted → H →
     MatchOption o N (λ after. (after.items ≡ wanted) × H)
 found_before None old b wanted N H e m r h = cc
 found_before (Some text) old b wanted N H e m r h = (m.0 ∙ r, h)
 
--- the same of one run and the same forgotten steps
+-- the history of the same run with the same forgotten steps
 pub history_moved : (t u : Input) (x : Question) (e f p q : ℕ) → u ≡ t → f ≡ e →
     history u x f p ≡ q ∷ history u x f q → history t x e p ≡ q ∷ history t x e q
 history_moved t u x e f p q i j h = rw (sym i, sym j) h

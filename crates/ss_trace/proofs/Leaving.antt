@@ -1,4 +1,4 @@
--- What a step leaves of the entities as it is, by how much it may change.
+-- The part of the entities that a step leaves as it is, by how much it may change.
 use Rattle.std.proofs.Common.{◌≡◌, ◌≢◌, ℕ, ℤ, zero, suc, pos, List, [], ◌∷◌, Bool, true, false, Option, Some, None}
 use Rattle.std.proofs.Common.{Result, Ok, Err, inl, inr, refl, sym, ap, ◌∙◌, map}
 use Rattle.std.specs.Prelude.{slice_index_or, slice_set, option_map, unwrap_or, not, ◌==◌, ◌&&◌, if◌then◌else◌}
@@ -63,7 +63,7 @@ use Rattle.ss_trace.proofs.Skips.{store_at, lists_at}
 use Rattle.ss_trace.proofs.PlaceSteps.{Ignores, IgnoresAttributes, got, then_got, placed, assigned, by_control}
 use Rattle.ss_trace.proofs.PlaceSteps.{by_looping, by_read}
 
--- ---- what stays
+-- ---- the parts that stay
 
 -- whether entities may be made or ended
 abbrev pub touches_there : Touch → Bool
@@ -83,7 +83,7 @@ touches_list p (Set s) w n = is_same_owner (shape_of p s).owner w && ((shape_of 
 touches_list p Entities w n = true
 touches_list p _ w n = false
 
--- what it does not touch is the same, and a list that changes has more members or fewer
+-- an untouched part is the same, and a list that changes has more members or fewer
 pub record Leaves (p : ProgramTable) (u : Touch) (st new : Store) : Type 0 where
   pub there : (c k : ℕ) → touches_there u ≡ false → exists new c k ≡ exists st c k
   pub values : (c k a : ℕ) → touches_value u c a ≡ false → attribute_number new c k a ≡ attribute_number st c k a
@@ -91,7 +91,7 @@ pub record Leaves (p : ProgramTable) (u : Touch) (st new : Store) : Type 0 where
   pub all : (w : Owner) (n : ℕ) → touches_list p u w n ≡ false → lists_by w n new ≡ lists_by w n st
   pub counted : (w : Owner) (n k : ℕ) → CountsIf (list_by w n st k) (list_by w n new k)
 
--- where it may change anything, nothing is said
+-- if it may change anything, nothing is said
 abbrev pub LeavesIf : ProgramTable → Touch → Store → Store → Type 0
 LeavesIf p Anything st new = Unit {0}
 LeavesIf p u st new = Leaves p u st new
@@ -321,7 +321,7 @@ remove_leaves q s r o w f h =
     after_got (λ (m : ℕ × Store). Leaves q (Set r.set) s.store m.1) (LeavesBy q (Set r.set) s.store)
     (after_removing (set_of (tables_of q) r.set) s.store (number_of o) w) f (removed q r.set s.store (number_of o) w) h
 
--- what files, and removes but to an attribute
+-- a statement that files or removes, unless it removes to an attribute
 filing_leaves : (q : ProgramTable) (s : State) (f : Filing) → touched_filing f ≢ Entities →
     Got (LeavesBy q (touched_filing f) s.store) (state_after_filing (tables_of q) s f)
 filing_leaves q s (File e position r) n =
@@ -343,7 +343,7 @@ filing_leaves q s (Remove e r) n =
     then_got i (subscript_value (readings (tables_of q) s) r.owner) _ (λ o.
     remove_leaves q s r o (which.Member x) _ (λ m h. h)))
 
--- what makes or ends entities
+-- statements that make or end entities
 
 entities_left : (q : ProgramTable) (st new : Store) → HasCounted st new → Leaves q Entities st new
 entities_left q st new h = record {
@@ -354,7 +354,7 @@ entities_left q st new h = record {
   counted = λ w n k. h.each w n k;
 }
 
--- attributes alone
+-- statements that change only attributes
 
 abbrev HasLists : Store → State → Type 0
 HasLists st s = HasSameLists st s.store

@@ -1,4 +1,4 @@
--- Where the numbers of an entity stand.
+-- The places of the numbers of an entity.
 use Rattle.std.proofs.Common.{◌≡◌, ℕ, ℤ, zero, suc, ◌+◌, ◌*◌, ◌<◌, ◌≤◌, pos, List, [], ◌∷◌, ◌++◌, Bool, true, false}
 use Rattle.std.proofs.Common.{refl, sym, ap, ◌∙◌, arith, length, length-append}
 use Rattle.std.proofs.Common.{nat_lt}
@@ -19,7 +19,7 @@ both false c e = absurd (cc)
 pub clash : true ≡ false → ⊥
 clash e = cc
 
--- ---- where numbers stand
+-- ---- the places of numbers
 
 front_at : (xs ys : List ℤ) (i : ℕ) (d : ℤ) → i < length xs → slice_index_or (xs ++ ys) i d ≡ slice_index_or xs i d
 front_at [] ys i d h = absurd (omega (arith, h))
@@ -32,7 +32,7 @@ behind_at (x ∷ xs) ys i d =
     let same : suc (length xs) + i ≡ suc (length xs + i) = omega arith in
     ap (λ (j : ℕ). slice_index_or (x ∷ (xs ++ ys)) j d) same ∙ behind_at xs ys i d
 
--- where each is one number, n of them are n
+-- if each list is one number, n of them are n numbers
 ones_length : (f : ℕ → List ℤ) → ((i : ℕ) → length (f i) ≡ 1) → (n : ℕ) → length (numbers_below f n) ≡ n
 ones_length f h zero = refl
 ones_length f h (suc n) =
@@ -41,7 +41,7 @@ ones_length f h (suc n) =
     let here = h n in
     omega (arith, one, before, here)
 
--- where each is six
+-- if each list is six numbers, n of them are 6 * n numbers
 sixes_length : (f : ℕ → List ℤ) → ((i : ℕ) → length (f i) ≡ 6) → (n : ℕ) → length (numbers_below f n) ≡ 6 * n
 sixes_length f h zero = omega arith
 sixes_length f h (suc n) =
@@ -97,7 +97,7 @@ attribute_at p st c k a h =
     (omega (arith, all, h))
     ∙ ap (λ (i : ℕ). slice_index_or (numbers_below f n) i (pos 0)) same ∙ below_at f n a 0 (pos 0) h (omega arith)
 
--- number j of what set s tells
+-- number j of set s
 pub set_at : (p : ProgramTable) (st : Store) (c k s j : ℕ) → s < length p.sets → j < 6 →
     slice_index_or (entity_numbers p st c k) (set_place p c s + j) (pos 0)
     ≡ slice_index_or (set_numbers p st c k s) j (pos 0)
@@ -113,6 +113,6 @@ set_at p st c k s j h l =
     ∙ behind_at (numbers_below f n) (numbers_below g (length p.sets)) (length (numbers_below g s) + j) (pos 0)
     ∙ below_at g (length p.sets) s j (pos 0) h (omega (arith, l))
 
--- what is told is so
+-- a number that agrees is equal
 pub is_number : (xs : List ℤ) (i : ℕ) (x y : ℤ) → slice_index_or xs i (pos 0) ≡ x → tells xs i y ≡ true → x ≡ y
 is_number xs i x y e h = sym e ∙ (Decides-int_eq (slice_index_or xs i (pos 0)) y).0 h

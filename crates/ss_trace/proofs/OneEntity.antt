@@ -1,4 +1,5 @@
--- One entity changed: what is read of entities is as it was where the change leaves it, and of another class all is.
+-- One entity is changed: a reading of entities is as it was if the change leaves it, and all
+-- readings of another class are.
 use Rattle.std.proofs.Common.{◌≡◌, ◌≢◌, ℕ, zero, suc, List, [], ◌∷◌, ◌++◌, Bool, true, false, Option, Some, None}
 use Rattle.std.proofs.Common.{refl, sym, ap, ◌∙◌, map, eqb→eq, T, subst}
 use Rattle.std.specs.Prelude.{slice_get, slice_index_or, option_map, option_and_then, filter_map, is_some, ◌==◌}
@@ -10,7 +11,7 @@ use Rattle.ss_store.specs.Lists.{change_at}
 use Rattle.ss_store.specs.Store.{Entity, Store, of_class, made_of, entity, entities, changed_reference, with_changed}
 use Rattle.ss_store.proofs.More.{index_other}
 
--- where the same is read of two entities that may be there, both are or none is
+-- if the same is read of two entities that perhaps exist, both exist or none does
 pub there_same : {X : Type 0} (f : Entity → X) (a b : Option Entity) → option_map f a ≡ option_map f b →
     is_some a ≡ is_some b
 there_same f None None h = refl

@@ -46,24 +46,24 @@ unfolding over
 goes_on t bs k zero p n q h e f b = absurd (omega (arith, h))
 goes_on t bs k (suc r) p n q h e f b = let same : k ≡ r = omega (arith, h) in rw (same, sym e, f, b) refl
 
--- where none is left it ends where it is
+-- if no part is left it ends at its start
 pub over_none : (t : Input) (bs : List ℕ) (k p n : ℕ) → k ≡ 0 → over t bs k p n ≡ counted_end p 0
 unfolding over
 over_none t bs k p n e = rw e refl
 
--- one part more from p, as the debugger at hand tells of it: where it ended, and whether it was made
+-- one part more from p, as the debugger at hand sees it: its end, and whether it was made
 pub record IsOver (u : Input) (cs : List ℕ) (p n q : ℕ) (b : Bool) : Type 0 where
-  -- where it ended
+  -- its end
   pub ended : q ≡ ahead_end u cs (is_level u (frames_at u p)) p n
   -- whether it was made
   pub made : b ≡ is_met (is_level u (frames_at u p)) p q
 
--- where one more is not made it ends there
+-- if one more is not made it ends there
 pub over_unmade : (t u : Input) (bs cs : List ℕ) (k p n q : ℕ) (made : Bool) → u ≡ t → cs ≡ bs → 0 < k →
     IsOver u cs p n q made → made ≡ false → over t bs k p n ≡ counted_end q k
 over_unmade t u bs cs k p n q made e f h w m = rw (sym e, sym f) (unmade u cs k p n q h w.ended (sym w.made ∙ m))
 
--- at a break line it ends where one more is made
+-- at a break line it ends, if one more is made
 pub over_at_break : (t u : Input) (bs cs : List ℕ) (k r p n q : ℕ) (made : Bool) → u ≡ t → cs ≡ bs → r ≡ k + 1 →
     IsOver u cs p n q made → made ≡ true → is_on_break u cs q ≡ true → over t bs r p n ≡ counted_end q k
 over_at_break t u bs cs k r p n q made e f h w m b =
@@ -82,7 +82,7 @@ first_of_over false b t bs k p n q r h = omega arith
 first_of_over true true t bs k p n q r h = omega arith
 first_of_over true false t bs k p n q r h = h
 
--- it goes no further back than where it begins
+-- it goes no further back than its start
 pub over_not_before : (t : Input) (bs : List ℕ) (k p n : ℕ) → p ≤ (over t bs k p n).position
 unfolding over
 over_not_before t bs zero p n = omega arith
@@ -123,19 +123,19 @@ unfolding back_over
 goes_back_on t a k zero p n q h e f = absurd (omega (arith, h))
 goes_back_on t a k (suc r) p n q h e f = let same : k ≡ r = omega (arith, h) in rw (same, sym e, f) refl
 
--- where none is left it ends where it is
+-- if no part is left it ends at its start
 pub back_over_none : (t : Input) (a k p n : ℕ) → k ≡ 0 → back_over t a k p n ≡ counted_end p 0
 unfolding back_over
 back_over_none t a k p n e = rw e refl
 
--- one part more back from p, as the debugger at hand tells of it: where it ended, and whether it was made
+-- one part more back from p, as the debugger at hand sees it: its end, and whether it was made
 pub record IsBackOver (u : Input) (a p n q : ℕ) (b : Bool) : Type 0 where
-  -- where it ended
+  -- its end
   pub ended : q ≡ search_back_end (is_level u (frames_at u p)) a p n
   -- whether it was made
   pub made : b ≡ is_met_back (is_level u (frames_at u p)) p q
 
--- where one more is not made it ends there
+-- if one more is not made it ends there
 pub back_over_unmade : (t u : Input) (a b k p n q : ℕ) (made : Bool) → u ≡ t → b ≡ a → 0 < k →
     IsBackOver u b p n q made → made ≡ false → back_over t a k p n ≡ counted_end q k
 back_over_unmade t u a b k p n q made e f h w m =

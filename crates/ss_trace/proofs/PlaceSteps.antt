@@ -1,4 +1,4 @@
--- What a step leaves as it is, by the kind of its place.
+-- The part of a state that a step leaves as it is, by the kind of its place.
 use Rattle.std.proofs.Common.{◌≡◌, ℕ, ℤ, ◌+◌, true, false, List, [], ◌∷◌, Option, Some, None, Result, Ok, Err, refl}
 use Rattle.std.specs.Prelude.{pos, length, drop, replicate, slice_index_or, slice_set, if◌then◌else◌}
 use Rattle.ss_words.specs.declared.characters.TheConstants.{LINE_FEED}
@@ -61,7 +61,7 @@ use Rattle.ss_state.specs.Step.{step_at}
 use Rattle.ss_trace.specs.declared.touches.Touch.TheVariants.{Nothing}
 use Rattle.ss_trace.specs.Touches.{touched_target, touched_assign, touched_looping}
 
--- what is said of a state that neither frames, status and variables say, nor the data taken and the entry
+-- a property of states that ignores frames, status, variables, the data taken and the entry
 pub record Ignores (P : State → Type 0) : Type 0 where
   pub frames : (s : State) (f : FrameState) (fs : List FrameState) → P s → P (record s { frame = f; below = fs })
   pub status : (s : State) (x : Status) → P s → P (record s { status = x })
@@ -69,13 +69,13 @@ pub record Ignores (P : State → Type 0) : Type 0 where
   pub feed : (s : State) (d : DataRead) → P s → P (record s { feed = d })
   pub entry : (s : State) (e : Entry) → P s → P (record s { entry = e })
 
--- nor attributes
+-- a property that ignores attributes, too
 abbrev pub IgnoresAttributes : (State → Type 0) → Type 0
 IgnoresAttributes P =
     (s : State) (c a k : ℕ) (z : ℤ) → P s →
     Got (λ (st : Store). P (state_with_store s st)) (with_attribute s.store c a k z)
 
--- nor how long the report is
+-- a property that ignores the length of the report
 abbrev pub IgnoresLength : (State → Type 0) → Type 0
 IgnoresLength P =
     (s : State) (text : List ℕ) → P s →
@@ -162,7 +162,7 @@ module _ {P : State → Type 0} (i : Ignores P) where
   by_branch q s w Else p = placed s w.next p
   by_branch q s w Always p = placed s w.next p
 
-  -- what goes through cases, and tells no statistics
+  -- a statement that goes through cases, and assigns no statistics
   pub by_cases : (q : ProgramTable) (s : State) (w : Ways) (l : Looping) → touched_looping l ≡ Nothing → P s →
       P (step_at q s w (places.Looping l))
   by_cases q s w (For f) e p =
@@ -194,7 +194,7 @@ module _ {P : State → Type 0} (i : Ignores P) where
       plain_value (tables_of q) s (target_of a) x e p))
       (λ r h. placed r w.next h)
 
-  -- and what prints, where it ignores how long the report is
+  -- and a statement that prints, if the property ignores the length of the report
   pub by_output : (q : ProgramTable) (s : State) (w : Ways) (o : Output) → IgnoresLength P → P s →
       P (step_at q s w (places.Output o))
   by_output q s w (Print count values picture) r p =
@@ -270,7 +270,7 @@ module _ {P : State → Type 0} (i : Ignores P) (att : IgnoresAttributes P) wher
       (then_got i (assigned_value (readings (tables_of q) s) a) _ (λ x. value (tables_of q) s (target_of a) x p))
       (λ r h. placed i r w.next h)
 
-  -- so does what goes through cases
+  -- so does a statement that goes through cases
   pub by_looping : (q : ProgramTable) (s : State) (w : Ways) (l : Looping) → P s → P (step_at q s w (places.Looping l))
   by_looping q s w (For f) p = by_cases i q s w (For f) refl p
   by_looping q s w Loop p = by_cases i q s w Loop refl p
@@ -285,7 +285,7 @@ module _ {P : State → Type 0} (i : Ignores P) (att : IgnoresAttributes P) wher
   by_control q s w Return p = section_over q s (section_of q s.frame.section).kind p
   by_control q s w End p = section_over q s (section_of q s.frame.section).kind p
 
-  -- and what takes data
+  -- and a statement that takes data
   pub by_read : (q : ProgramTable) (s : State) (w : Ways) (ts : List Target) → P s → P (step_at q s w (places.Read ts))
   by_read q s w ts p =
       let u = state_with_taken s (s.feed.taken + length ts) in

@@ -14,7 +14,7 @@ use Rattle.ss_trace.proofs.OneEntity.{one_left, all_left, there_same}
 abbrev pub lists_in : Option Entity → Option (List (List ℕ))
 lists_in o = option_map (λ (e : Entity). e.owned) o
 
--- the same entities there own the same lists, so does the system, and the lists of each set are the same
+-- the same entities there own the same lists, so does the system, and each set has the same lists
 pub record HasSameLists (st new : Store) : Type 0 where
   pub owned : (c k : ℕ) → lists_in (entity new c k) ≡ lists_in (entity st c k)
   pub system : new.system ≡ st.system

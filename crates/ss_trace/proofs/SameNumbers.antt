@@ -1,4 +1,4 @@
--- Where the numbers of an entity are the same, so are its lines.
+-- If the numbers of an entity are the same, so are its lines.
 use Rattle.std.proofs.Common.{◌≡◌, ℕ, zero, suc, ◌+◌, ℤ, pos, List, [], ◌∷◌, ◌++◌, Bool, true, false, Option}
 use Rattle.std.proofs.Common.{Some, None}
 use Rattle.std.proofs.Common.{refl, ap, arith, length, length-append, append_assoc}
@@ -77,12 +77,12 @@ lines_left f g l m h k (suc n) e =
     let r = split (numbers_below f n) (f n) (numbers_below g n) (g n) (below_long f g h n) e in
     rw (lines_left f g l m h k n r.0, k n r.1) refl
 
--- what is told of two lists of numbers
+-- two lists of numbers that compare as the same are equal
 pub same_numbers : (b : Bool) (xs ys : List ℤ) → (b && pointwise int_eq xs ys) ≡ true → (b ≡ true) × (xs ≡ ys)
 same_numbers true xs ys e = (refl, (slice_eq-Decides Decides-int_eq xs ys (pointwise int_eq xs ys) refl).0 e)
 same_numbers false xs ys e = absurd (cc)
 
--- what is told is told of an entity
+-- if numbers agree, they are those of an entity
 pub is_entity : (part : Part) (sight : Sight) (p : ProgramTable) (st : Store) (xs : List ℤ) (u : Touch) →
     is_told part sight p st xs u ≡ true → is_counted part sight ≡ true
 is_entity parts.Entities (sights.Entity c x) p st xs u e = refl
@@ -119,7 +119,7 @@ attribute_left p st new c k a e = ap (attribute_told (slice_index_or (class_of p
 item : {xs ys : List ℤ} (i : ℕ) → xs ≡ ys → slice_index_or xs i (pos 0) ≡ slice_index_or ys i (pos 0)
 item i e = ap (λ (l : List ℤ). slice_index_or l i (pos 0)) e
 
--- a kept attribute where the class has it
+-- a kept attribute if the class has it
 abbrev kept_if : Bool → ℕ → ℤ
 kept_if b n = if b then pos n else pos 0
 
@@ -195,7 +195,7 @@ unfolding entity_text
 entity_text_left t name x p q h e =
     class_left name x t.program (run t p) (run t q) (class_named t.program name) h e
 
--- where the numbers of an entity tell all of an answer, it is the same where they are
+-- if the numbers of an entity give all of an answer, it is the same when they are
 pub counted_left : (t : Input) (x : Question) (p q : ℕ) → is_counted (part_of x) (sight_of t.program x) ≡ true →
     numbers_at t x q ≡ numbers_at t x p → answer_at t x q ≡ answer_at t x p
 counted_left t (Shown shown.Clock) p q h e = absurd (cc)
@@ -244,7 +244,7 @@ numbers_next t (Shown shown.Report) p e = refl
 numbers_next t (Attribute class x name) p e = refl
 numbers_next t (Count name owner) p e = refl
 
--- the same, one position further
+-- the numbers one position further are the same
 pub numbers_left : (t : Input) (x : Question) (p q : ℕ) → q ≡ p + 1 → touched_at t (part_of x) p ≡ Nothing →
     numbers_at t x q ≡ numbers_at t x p
 numbers_left t x p q h e = let next : q ≡ suc p = omega (arith, h) in rw next (numbers_next t x p e)

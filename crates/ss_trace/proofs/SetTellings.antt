@@ -1,4 +1,4 @@
--- What a set tells of an entity is the same where its lists are, and where it is told.
+-- The numbers of a set for an entity are the same if its lists are, and if they agree.
 use Rattle.std.proofs.Common.{◌≡◌, ℕ, ℤ, ◌+◌, ◌<◌, pos, List, [], ◌∷◌, Bool, true, false}
 use Rattle.std.proofs.Common.{Option, Some, None, Ok, refl, sym, ap, ◌∙◌, arith, length}
 use Rattle.std.proofs.Common.{unwrap_or, cond}
@@ -76,7 +76,7 @@ set_left p u st new c k s h f =
     (number_left p st new c k s Number o a t) (number_left p st new c k s Predecessor o a t)
     (number_left p st new c k s Successor o a t) (number_left p st new c k s Membership o a t)
 
--- ---- the list of an owner, which is told by its length
+-- ---- the list of an owner, which is known by its length
 
 abbrev counted : Option (List ℕ) → ℕ
 counted o = result_unwrap_or (unless NoEntity (is_some o) (Ok (length (unwrap_or o [])))) 0
@@ -92,7 +92,7 @@ some_length : (o : Option (List ℕ)) → is_some (option_map length o) ≡ is_s
 some_length None = refl
 some_length (Some xs) = refl
 
--- the same list, where its owner has the same number of members
+-- the list is the same, if its owner has the same number of members
 list_told : (p : ProgramTable) (u : Touch) (st new : Store) (c k s : ℕ) → Leaves p u st new →
     exists new c k ≡ exists st c k → (shape_of p s).owner ≡ OwnedBy c →
     kept_value (shape_of p s) new k Number ≡ kept_value (shape_of p s) st k Number →
@@ -146,7 +146,7 @@ alone shape st k e =
     ap (λ (o : Option (List ℕ)). unwrap_or o [])
     (none_found (λ ks. has ks k) (lists_by shape.owner shape.list st) h))
 
--- a kept attribute where the class has it
+-- a kept attribute if the class has it
 abbrev kept_if : Bool → ℕ → ℤ
 kept_if b n = if b then pos n else pos 0
 
@@ -162,7 +162,7 @@ one_or_none true true true h k = refl
 one_or_none true true false h k = absurd (k refl)
 one_or_none true false y h k = absurd (h refl)
 
--- a number is told where it is so
+-- a number agrees if it is equal
 tells_number : (xs : List ℤ) (i : ℕ) (x y : ℤ) → slice_index_or xs i (pos 0) ≡ x → x ≡ y → tells xs i y ≡ true
 tells_number xs i x y e h = (Decides-int_eq (slice_index_or xs i (pos 0)) y).1 (e ∙ h)
 

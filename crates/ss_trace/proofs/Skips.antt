@@ -1,4 +1,5 @@
--- A step that touches no part of a state leaves it; it leaves each list whose members it does not count anew.
+-- A step that touches no part of a state leaves it. It leaves each list whose members it does not
+-- count anew.
 use Rattle.std.proofs.Common.{◌≡◌, ℕ, suc, ◌+◌, List, [], ◌∷◌, ◌++◌, Bool, true, false, Option, Some, None, Ok, Err}
 use Rattle.std.proofs.Common.{Result}
 use Rattle.std.proofs.Common.{refl, sym, ap, ◌∙◌, arith, length, length-append, append_assoc}
@@ -230,7 +231,7 @@ lists_at q s w (places.Read ts) e p =
 
 -- ---- the next state
 
--- what is said of a state, and of the next one where the step's place does not touch a part
+-- a property of a state that the next one has, too, if the step's place does not touch a part
 abbrev Passes : Part → (State → Type 0) → State → Type 0
 Passes part P s = (q : ProgramTable) (w : Ways) (x : Place) → touched_part part x ≡ Nothing → P s → P (step_at q s w x)
 

@@ -1,4 +1,5 @@
--- What a step leaves as it is where its place makes a store, or changes the pending notices and the clock.
+-- The part of a state that a step leaves as it is, if its place makes a store, or changes the
+-- pending notices and the clock.
 use Rattle.std.proofs.Common.{ℕ, ℤ, ◌+◌, Bool, true, false, List, [], ◌∷◌, Option, Some, None, Result, Ok, Err}
 use Rattle.std.specs.Prelude.{int_lt, if◌then◌else◌}
 use Rattle.std.specs.List.{range_with_len}
@@ -52,7 +53,7 @@ use Rattle.ss_state.specs.Statements.Timing.{state_at_time, state_after_start, s
 use Rattle.ss_state.specs.Statements.Timing.{arrival_asked, state_after_arrival, state_after_load, loads}
 use Rattle.ss_trace.proofs.PlaceSteps.{Ignores, IgnoresAttributes, got, then_got, then_any, placed, assigned, value}
 
--- what is said of a state is said of it with the store that a statement makes of its own
+-- a property of a state holds of it with the store that a statement makes of its own
 pub record KeepsStores (P : State → Type 0) (s : State) : Type 0 where
   pub filed : (shape : SetShape) (o k : ℕ) (how : How) →
       Got (λ (st : Store). P (state_with_store s st)) (after_filing shape s.store o k how)
@@ -62,7 +63,7 @@ pub record KeepsStores (P : State → Type 0) (s : State) : Type 0 where
       Got (λ (st : Store). P (state_with_store s st)) (with_new s.store c shape)
   pub ended : (t : Tables) (c k : ℕ) → Got (λ (st : Store). P (state_with_store s st)) (without_entity t s.store c k)
 
--- what is said of a state says nothing of its store
+-- a property of a state says nothing of its store
 abbrev pub IgnoresStore : (State → Type 0) → Type 0
 IgnoresStore P = (s : State) (st : Store) → P s → P (state_with_store s st)
 
@@ -84,9 +85,9 @@ any_store P s h p = record {
 }
 
 module _ {P : State → Type 0} (i : Ignores P) (att : IgnoresAttributes P) where
-  -- ---- where it is said of stores that statements make
+  -- ---- if the property holds of stores that statements make
 
-  -- behind a test that was passed
+  -- after a test that was passed
   then_past : {A B : Type 0} (Q : B → Type 0) (r : Result A RunFault) (n : Result B RunFault) → Got Q n →
       Got Q (r >> n)
   then_past Q (Ok x) n h = h
@@ -142,27 +143,27 @@ module _ {P : State → Type 0} (i : Ignores P) (att : IgnoresAttributes P) wher
       (after_removing (set_of t r.set) s.store (number_of o) (which.Member x)) _
       (k.removed (set_of t r.set) (number_of o) (which.Member x)) (λ m h. h)))
 
-  -- what makes one entity leaves it
+  -- a statement that makes one entity leaves it
   pub by_create : (q : ProgramTable) (s : State) (w : Ways) (c : ℕ) (b : Bool) (target : Target) → KeepsStores P s →
       P s → P (step_at q s w (places.Making (Create c b target)))
   by_create q s w c b target k p = got i P s _ _ p (create (tables_of q) s c target k) (λ r g. placed i r w.next g)
 
-  -- what makes all entities of a class, where it ignores the store
+  -- a statement that makes all entities of a class, if the property ignores the store
   pub by_every : (q : ProgramTable) (s : State) (w : Ways) (c : ℕ) (e : Option Expr) (count : ℕ) → IgnoresStore P →
       P s → P (step_at q s w (places.Making (CreateEvery c e count)))
   by_every q s w c e count h p = got i P s _ _ p (every (tables_of q) s c count e h p) (λ r g. placed i r w.next g)
 
-  -- what ends one
+  -- a statement that ends one
   pub by_destroy : (q : ProgramTable) (s : State) (w : Ways) (c : ℕ) (b : Bool) (e : Expr) → KeepsStores P s →
       P s → P (step_at q s w (places.Making (Destroy c b e)))
   by_destroy q s w c b e k p = got i P s _ _ p (destroy (tables_of q) s c e k) (λ r g. placed i r w.next g)
 
-  -- and what files or removes
+  -- and a statement that files or removes
   pub by_filing : (q : ProgramTable) (s : State) (w : Ways) (f : Filing) → KeepsStores P s → P s →
       P (step_at q s w (places.Filing f))
   by_filing q s w f k p = got i P s _ _ p (filing (tables_of q) s f k) (λ r g. placed i r w.next g)
 
-  -- ---- where it ignores the time, too
+  -- ---- if the property ignores the time, too
 
   attributes : (s : State) (c k a : ℕ) (xs : List ℤ) → P s → Got P (state_with_attributes s c k a xs)
   attributes s c k a [] p = p
@@ -241,7 +242,7 @@ module _ {P : State → Type 0} (i : Ignores P) (att : IgnoresAttributes P) wher
   started q s next true k a p = got i P s _ _ p (load q s k a p) (λ r h. h)
   started q s next false k a p = simulation q s next (least (rules_of q) s.agenda.pending) k a p
 
-  -- and what schedules, takes off or starts
+  -- and a statement that schedules, takes off or starts
   pub by_timing : (q : ProgramTable) (s : State) (w : Ways) (x : Timing) → KeepsStores P s → IgnoresTime P → P s →
       P (step_at q s w (places.Timing x))
   by_timing q s w (timings.Schedule x) k a p = got i P s _ _ p (schedule q s x k a p) (λ r g. placed i r w.next g)

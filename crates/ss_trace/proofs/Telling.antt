@@ -1,4 +1,5 @@
--- Where what a step may have changed of an entity is as its numbers tell, all its numbers are the same.
+-- If all that a step may have changed of an entity agrees with its numbers, all its numbers are the
+-- same.
 use Rattle.std.proofs.Common.{◌≡◌, ℕ, ℤ, zero, suc, ◌+◌, ◌<◌, pos, List, [], ◌∷◌, Bool, true, false}
 use Rattle.std.proofs.Common.{refl, sym, ap, ◌∙◌, arith, length}
 use Rattle.std.proofs.Common.{nat_lt}
@@ -40,12 +41,12 @@ each_told st c k xs (suc n) a e h =
     let b = both (tells_attributes st c k xs n) (tells_attribute st c k xs n) e in
     at_by (nat_lt a n) a n refl (λ l. each_told st c k xs n a b.0 l) (λ l. rw l b.1) h
 
--- one more, and one that is not told
+-- one attribute more that agrees, and one that does not
 each_more : (st : Store) (c k : ℕ) (xs : List ℤ) (n m : ℕ) → m ≡ n + 1 → tells_attributes st c k xs n ≡ true →
     tells_attribute st c k xs n ≡ true → tells_attributes st c k xs m ≡ true
 each_more st c k xs n m i e f = let next : m ≡ suc n = omega (arith, i) in rw (next, e, f) refl
 
--- the same by all attributes at once
+-- those facts, with all attributes read at once
 number_at : (o : Option Entity) (a : ℕ) →
     result_unwrap_or (attribute_in a o) (pos 0)
     ≡ slice_index_or (unwrap_or (option_map (λ (e : Entity). e.attributes) o) []) a (pos 0)
@@ -75,7 +76,7 @@ value_less st c k xs vs n m i l f =
     each_less st c k xs n m l (ap (tells xs n) (number_at (entity st c k) n
     ∙ ap (λ (z : List ℤ). slice_index_or z n (pos 0)) (sym i)) ∙ f)
 
--- an attribute that may have changed is told
+-- an attribute that may have changed agrees
 attribute_told : (p : ProgramTable) (st : Store) (c k : ℕ) (xs : List ℤ) (u : Touch) (a : ℕ) →
     a < length (class_of p c).attributes → tells_touched p st c k xs u ≡ true → touches_value u c a ≡ true →
     tells_attribute st c k xs a ≡ true
@@ -120,7 +121,7 @@ pub sets_less : (p : ProgramTable) (st : Store) (c k : ℕ) (xs : List ℤ) (n m
 sets_less p st c k xs n m l f =
     not_so (tells_sets p st c k xs m) (λ e. clash (sym (each_set_told p st c k xs m n e l) ∙ f))
 
--- a set whose lists may have changed is told
+-- a set whose lists may have changed agrees
 set_told_at : (p : ProgramTable) (st : Store) (c k : ℕ) (xs : List ℤ) (u : Touch) (s : ℕ) → s < length p.sets →
     tells_touched p st c k xs u ≡ true → touches_list p u (shape_of p s).owner (shape_of p s).list ≡ true →
     tells_set p st c k xs s (set_place p c s) ≡ true
@@ -166,7 +167,7 @@ not_true : (b : Bool) → not b ≡ true → b ≡ false
 not_true true e = absurd (cc)
 not_true false e = refl
 
--- it is there where its numbers tell so
+-- it is there if its numbers say so
 is_told_there : (p : ProgramTable) (st : Store) (c k : ℕ) (xs : List ℤ) (u : Touch) →
     touches_there u ≡ true → tells_touched p st c k xs u ≡ true → exists st c k ≡ true
 is_told_there p st c k xs Nothing f e = absurd (cc)
@@ -212,7 +213,7 @@ never_told : (p : ProgramTable) (st : Store) (c k : ℕ) (xs : List ℤ) → tel
 never_told p st c k [] = refl
 never_told p st c k (x ∷ xs) = refl
 
--- the numbers of one store, told of the other
+-- the numbers of one store, compared with the other
 told : (p : ProgramTable) (u : Touch) (st new : Store) (c k : ℕ) → LeavesIf p u st new →
     tells_entity p st c k (living_numbers p new c k) u ≡ true → living_numbers p new c k ≡ living_numbers p st c k
 told p Nothing st new c k h e = living_same p Nothing st new c k h e

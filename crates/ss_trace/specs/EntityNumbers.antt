@@ -1,4 +1,4 @@
--- Private: the numbers that the lines of an entity tell. Where they are the same, so are the lines.
+-- Private: the numbers in the lines of an entity. If they are the same, so are the lines.
 use Rattle.std.specs.Prelude.{◌≡◌, ℕ, zero, suc, ℤ, pos, Bool, true, false, List, [], ◌∷◌, ◌++◌, length, if◌then◌else◌}
 use Rattle.std.specs.Prelude.{unwrap_or}
 use Rattle.std.specs.Result.{result_unwrap_or}
@@ -28,23 +28,23 @@ numbers_below numbers (suc n) = numbers_below numbers n ++ numbers n
 abbrev pub attribute_number : Store → ℕ → ℕ → ℕ → ℤ
 attribute_number store c k a = result_unwrap_or (attribute_of store c a k) (pos 0)
 
--- the same alone
+-- that number as a list
 abbrev pub attribute_numbers : Store → ℕ → ℕ → ℕ → List ℤ
 attribute_numbers store c k a = attribute_number store c k a ∷ []
 
--- a kept attribute of entity number k of class c in set s, 0 where the entities of the class do not have it
+-- a kept attribute of entity number k of class c in set s, 0 if entities of the class lack it
 abbrev pub kept_number : ProgramTable → Store → ℕ → ℕ → ℕ → Kept → ℤ
 kept_number program store c k s kept =
     if has_kept (set_of program s) c kept then pos (kept_value (shape_of program s) store k kept) else pos 0
 
--- what was read of its neighbours in set s is P.s, S.s and M.s
+-- the neighbours that were read of it in set s are P.s, S.s and M.s
 abbrev pub AreKept : ProgramTable → Store → ℕ → ℕ → ℕ → Neighbours → Type 0
 AreKept program store c k s neighbours =
     (kept_number program store c k s Predecessor ≡ pos (unwrap_or neighbours.before 0))
     × (kept_number program store c k s Successor ≡ pos (unwrap_or neighbours.behind 0))
     × (kept_number program store c k s Membership ≡ pos (if neighbours.is_filed then 1 else 0))
 
--- what set s tells of it, as an owner of its lists and as a member of one: F.s, L.s, N.s, P.s, S.s and M.s
+-- its numbers in set s, as an owner of lists and as a member: F.s, L.s, N.s, P.s, S.s and M.s
 abbrev pub set_numbers : ProgramTable → Store → ℕ → ℕ → ℕ → List ℤ
 set_numbers program store c k s =
     kept_number program store c k s First ∷ kept_number program store c k s Last
@@ -52,17 +52,17 @@ set_numbers program store c k s =
     ∷ kept_number program store c k s Predecessor ∷ kept_number program store c k s Successor
     ∷ kept_number program store c k s Membership ∷ []
 
--- the numbers of its lines: its attributes, then what each set tells
+-- the numbers of its lines: its attributes, then the numbers of each set
 abbrev pub entity_numbers : ProgramTable → Store → ℕ → ℕ → List ℤ
 entity_numbers program store c k =
     numbers_below (attribute_numbers store c k) (length (class_of program c).attributes)
     ++ numbers_below (set_numbers program store c k) (length program.sets)
 
--- the same behind a 1, if it exists
+-- these numbers after a 1, if it exists
 abbrev pub living_numbers : ProgramTable → Store → ℕ → ℕ → List ℤ
 living_numbers program store c k = if exists store c k then pos 1 ∷ entity_numbers program store c k else []
 
--- whether the numbers of an entity tell all of an answer, where it is one with these parts and this sight
+-- whether the numbers of an entity give all of an answer with these parts and this sight
 abbrev pub is_counted : Part → Sight → Bool
 is_counted Entities (Entity c x) = true
 is_counted _ _ = false

@@ -45,9 +45,9 @@ section name kind given yielded locals places = record {
   defines = [];
 }
 
--- jobs, a row of the system, and a routine, from state to state: 0 CREATE A JOB; 1 LET SIZE = 5; 2 FILE JOB IN ROW;
--- 3 CALL MORE GIVEN 4 YIELDING X, in which 4 LET Q = P + 1 and 5 END; 6 LET SIZE = X;
--- 7 REMOVE FIRST JOB FROM ROW; 8 DESTROY JOB; 9 CREATE A JOB; 10 END
+-- jobs, a row of the system, and a routine, from state to state: 0 CREATE A JOB; 1 LET SIZE = 5;
+-- 2 FILE JOB IN ROW; 3 CALL MORE GIVEN 4 YIELDING X, in which 4 LET Q = P + 1 and 5 END;
+-- 6 LET SIZE = X; 7 REMOVE FIRST JOB FROM ROW; 8 DESTROY JOB; 9 CREATE A JOB; 10 END
 abbrev pub jobs : ProgramTable
 jobs = record {
   globals = codes "JOB" ∷ [];
@@ -91,8 +91,8 @@ brief = record jobs {
 abbrev pub brief_run : Input
 brief_run = input_with brief []
 
--- an event: 0 SCHEDULE A TICK(7) AT 3; 1 START SIMULATION; in TICK 2 SKIP 0, 3 SKIP 2 and 4 END; 5 START SIMULATION;
--- 6 END
+-- an event: 0 SCHEDULE A TICK(7) AT 3; 1 START SIMULATION; in TICK 2 SKIP 0, 3 SKIP 2 and 4 END;
+-- 5 START SIMULATION; 6 END
 abbrev pub ticks : ProgramTable
 ticks = record {
   globals = codes "TICK" ∷ [];
@@ -115,8 +115,8 @@ ticks = record {
 abbrev pub ticks_run : Input
 ticks_run = input_with ticks []
 
--- desks, each with a row of jobs: 0 READ N.DESK; 1 CREATE EVERY DESK; 2 CREATE A JOB; 3 FILE JOB IN ROW(2);
--- 4 LET OPEN(2) = 7; 5 END
+-- desks, each with a row of jobs: 0 READ N.DESK; 1 CREATE EVERY DESK; 2 CREATE A JOB;
+-- 3 FILE JOB IN ROW(2); 4 LET OPEN(2) = 7; 5 END
 abbrev pub desks : ProgramTable
 desks = record {
   globals = codes "DESK" ∷ codes "N.DESK" ∷ codes "JOB" ∷ [];
@@ -188,10 +188,10 @@ walked_set = Shown (shown.Set [] None)
 
 -- ---- searches
 
--- where BACK CHANGE from p leads, where the states before another one are forgotten
+-- the end of BACK CHANGE from p, when the states before another one are forgotten
 abbrev pub back_from : Input → Question → ℕ → ℕ → ℕ
 back_from input question earliest p = search_back_end (changes_at input question) earliest p 20
 
--- where RUN CHANGE from p leads
+-- the end of RUN CHANGE from p
 abbrev pub run_from : Input → Question → ℕ → ℕ
 run_from input question p = ahead_end input [] (has_changed input question) p 20

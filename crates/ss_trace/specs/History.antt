@@ -10,7 +10,7 @@ use Rattle.ss_trace.specs.declared.question.Question.{Question}
 use Rattle.ss_trace.specs.Question.{changes_at, question_text}
 use Rattle.ss_trace.specs.Value.{value_at}
 
--- a position before others, where a test holds there
+-- a position before others, if a test holds there
 abbrev pub before_others : Bool → ℕ → List ℕ → List ℕ
 before_others test q qs = if test then q ∷ qs else qs
 
@@ -26,11 +26,11 @@ history input question earliest p = positions_where (changes_at input question) 
 
 -- ---- the table
 
--- a text behind blanks, of at least n bytes
+-- a text after blanks, of at least n bytes
 abbrev pub to_right : ℕ → List ℕ → List ℕ
 to_right n text = replicate (n - length text) 32 ++ text
 
--- a text with blanks behind it, of at least n bytes
+-- a text with blanks after it, of at least n bytes
 abbrev pub to_left : ℕ → List ℕ → List ℕ
 to_left n text = text ++ replicate (n - length text) 32
 
@@ -55,7 +55,7 @@ abbrev pub step_rows : Input → Question → List ℕ → List ℕ
 step_rows input question [] = []
 step_rows input question (q ∷ qs) = step_row input question q ++ step_rows input question qs
 
--- what is said where a question did not change
+-- the text for a question that did not change
 unfoldable pub no_change_head : List ℕ
 no_change_head = codes "NO CHANGE SINCE STATE "
 
@@ -84,12 +84,12 @@ newest (q ∷ qs) = Some q
 abbrev pub newest_change : Input → Question → ℕ → ℕ → Option ℕ
 newest_change input question earliest p = newest (history input question earliest p)
 
--- a line of a name and its values before and after, behind a word
+-- a line of a word, and then a name and its values before and after
 abbrev pub change_line : List ℕ → List ℕ → List ℕ → List ℕ → List ℕ
 change_line word name before after =
     word ++ codes " " ++ name ++ codes ": " ++ before ++ codes " -> " ++ after ++ 10 ∷ []
 
--- what WHY says of a step before the line of the model: its state line; or that x did not change
+-- the text of WHY before the line of the model: the step's state line; or that x did not change
 abbrev pub why_head : Input → ℕ → Option ℕ → List ℕ
 why_head input earliest None = no_change_text earliest
 why_head input earliest (Some q) = state_line input q
@@ -99,7 +99,7 @@ abbrev pub why_line : Input → Option ℕ → Option ℕ
 why_line input None = None
 why_line input (Some q) = Some (line_at input q)
 
--- and what it says behind the line: the values of question before and after
+-- and its text after that line: the values of question before and after
 abbrev pub why_change : Input → Question → Option ℕ → List ℕ
 why_change input question None = []
 why_change input question (Some q) =

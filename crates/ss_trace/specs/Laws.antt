@@ -1,5 +1,5 @@
--- Laws on OVER and BACK OVER, which are no single movements: they stay within their bounds; that no movement passes an
--- end; and on histories.
+-- Laws on OVER and BACK OVER, which are no single movements: they stay within their bounds. Laws on
+-- movements, none of which passes an end, and on histories.
 use Rattle.std.specs.Prelude.{ℕ, ◌+◌, ◌≡◌, ◌<◌, ◌≤◌, ◌⊎◌, Bool, true, List, [], ◌∷◌}
 use Rattle.ss_state.specs.declared.limits.TheConstants.{LAST_POSITION}
 use Rattle.ss_state.specs.Run.{Input}
@@ -11,7 +11,7 @@ use Rattle.ss_trace.specs.Movements.{over, back_over}
 use Rattle.ss_trace.specs.History.{positions_where}
 use Rattle.ss_trace.specs.Turn.{state_after}
 
--- q is not before p, nor more than n steps on, nor past the last position, nor past a state that isn't ready
+-- q is not before p, nor over n steps on, nor past the last position or a state that isn't ready
 pub record IsAheadWithin (input : Input) (p n q : ℕ) : Type 0 where
   -- it is not before the start
   pub no_earlier : p ≤ q
@@ -22,16 +22,16 @@ pub record IsAheadWithin (input : Input) (p n q : ℕ) : Type 0 where
   -- no state before it has ended
   pub not_past_an_end : (k : ℕ) → p ≤ k → k < q → is_ready_at input k ≡ true
 
--- q is not behind p, nor more than n steps back, nor before the earliest kept position
+-- q is not after p, nor more than n steps back, nor before the earliest kept position
 pub record IsBackWithin (earliest p n q : ℕ) : Type 0 where
-  -- it is not behind the start
+  -- it is not after the start
   pub no_later : q ≤ p
   -- it is kept
   pub not_before_the_kept : earliest ≤ q
   -- it is within the bound
   pub within : p ≤ q + n
 
--- OVER, so many times, ends there
+-- OVER, k times, ends there
 abbrev pub OverEnds : Type 0
 OverEnds =
     (t : Input) (breaks : List ℕ) (k p n : ℕ) → p ≤ LAST_POSITION → IsAheadWithin t p n (over t breaks k p n).position
@@ -48,7 +48,7 @@ BackOverEnds =
 abbrev pub AreReadyBefore : Input → ℕ → Type 0
 AreReadyBefore input p = (k : ℕ) → k < p → is_ready_at input k ≡ true
 
--- a debugger stands at a kept position that is not past the last one, behind states that are ready
+-- a debugger is at a kept position that is not past the last one, after states that are ready
 pub record StandsBehindReady (input : Input) (debugger : DebuggerState) : Type 0 where
   -- the earliest kept position is not later
   pub kept : debugger.earliest ≤ debugger.position
@@ -57,17 +57,17 @@ pub record StandsBehindReady (input : Input) (debugger : DebuggerState) : Type 0
   -- each state before is ready
   pub ready : AreReadyBefore input debugger.position
 
--- so it stands at the start
+-- so it is at the start
 abbrev pub StartIsBehindReady : Type 0
 StartIsBehindReady = (t : Input) → StandsBehindReady t initial_debugger_state
 
--- and behind each command from there
+-- and after each command from there
 abbrev pub CommandsPassNoEnd : Type 0
 CommandsPassNoEnd =
     (t : Input) (d : DebuggerState) (c : Command) → StandsBehindReady t d →
     StandsBehindReady t (debugger_state_after t d c)
 
--- and behind each movement
+-- and after each movement
 abbrev pub MovementsPassNoEnd : Type 0
 MovementsPassNoEnd =
     (t : Input) (d : DebuggerState) (m : Movement) → StandsBehindReady t d → StandsBehindReady t (state_after t d m)
@@ -91,7 +91,7 @@ HistoriesAreTrue =
     (test : ℕ → Bool) (earliest p q : ℕ) → IsAmong q (positions_where test earliest p) →
     (earliest ≤ q) × (q < p) × (test q ≡ true)
 
--- what stands behind a step in it is the history at that step: so it goes down, and its first is the newest
+-- the steps after a step in it are the history at that step: it goes down from the newest
 abbrev pub HistoriesGoDown : Type 0
 HistoriesGoDown =
     (test : ℕ → Bool) (earliest p q : ℕ) (qs : List ℕ) → positions_where test earliest p ≡ q ∷ qs →

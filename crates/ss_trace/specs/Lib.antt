@@ -1,3 +1,5 @@
+-- The definitions of questions that change, of the movements to a change, over and out of sections,
+-- to a time and to a position, and of HISTORY and WHY.
 pub mod Question
 pub mod Value
 pub mod Movements

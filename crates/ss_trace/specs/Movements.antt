@@ -1,4 +1,4 @@
--- Where the movements over and out of sections, to a time and to a position end.
+-- The ends of the movements over and out of sections, to a time and to a position.
 use Rattle.std.specs.Prelude.{ℕ, zero, suc, ◌+◌, ◌-◌, pos, int_lt, Bool, not, ◌&&◌, ◌||◌, List, length, codes}
 use Rattle.std.specs.Prelude.{None, if◌then◌else◌, nat_lt, nat_le}
 use Rattle.ss_state.specs.declared.limits.TheConstants.{LAST_POSITION}
@@ -11,17 +11,17 @@ use Rattle.ss_trace.specs.declared.movement.Movement.TheVariants.{RunChange, Bac
 use Rattle.ss_trace.specs.declared.question.Question.{Question}
 use Rattle.ss_trace.specs.Question.{changes_at}
 
--- ---- what is looked for
+-- ---- the states that are looked for
 
 -- how many frames state p has
 abbrev pub frames_at : Input → ℕ → ℕ
 frames_at input p = 1 + length (run input p).below
 
--- OVER, BACK OVER: no more frames than so many
+-- OVER, BACK OVER: no more than this number of frames
 abbrev pub is_level : Input → ℕ → ℕ → Bool
 is_level input frames q = nat_le (frames_at input q) frames
 
--- OUT, BACK OUT: fewer frames than so many
+-- OUT, BACK OUT: fewer than this number of frames
 abbrev pub is_outside : Input → ℕ → ℕ → Bool
 is_outside input frames q = nat_lt (frames_at input q) frames
 
@@ -35,7 +35,7 @@ has_changed input question q = nat_lt 0 q && changes_at input question (q - 1)
 
 -- ---- forward
 
--- a movement forward stops where its test holds, and at a break line
+-- a movement forward stops at a state at which its test holds, and at a break line
 abbrev pub ahead_condition : Input → List ℕ → (ℕ → Bool) → StopCondition
 ahead_condition input breaks test = record {
   time = None;
@@ -44,32 +44,32 @@ ahead_condition input breaks test = record {
   bound_word = codes "BOUND";
 }
 
--- where it ends, from p within n steps
+-- its end, from p within n steps
 abbrev pub ahead_end : Input → List ℕ → (ℕ → Bool) → ℕ → ℕ → ℕ
 ahead_end input breaks test p n = forward_end input (ahead_condition input breaks test) p n
 
--- whether a movement forward from p to q ended where its test holds
+-- whether a movement forward from p to q ended at a state at which its test holds
 abbrev pub is_met : (ℕ → Bool) → ℕ → ℕ → Bool
 is_met test p q = nat_lt p q && test q
 
--- the same of a movement back
+-- whether a movement back from p to q ended at such a state
 abbrev pub is_met_back : (ℕ → Bool) → ℕ → ℕ → Bool
 is_met_back test p q = nat_lt q p && test q
 
 -- ---- n times over
 
--- where such a movement ends, and how many of its parts were not made
+-- the end of such a movement, and the number of its parts that were not made
 pub record CountedEnd : Type 0 where
-  -- where it ends
+  -- its end
   pub position : ℕ
   -- how many were not made
   pub left : ℕ
 
--- it ended at q, so many parts before its last
+-- it ended at q, k parts before its last
 abbrev pub counted_end : ℕ → ℕ → CountedEnd
 counted_end q k = record { position = q; left = k }
 
--- OVER, k times within n steps: it ends early where one is not made, and at a break line
+-- OVER, k times within n steps: it ends early if a part is not made, and at a break line
 unfoldable pub over : Input → List ℕ → ℕ → ℕ → ℕ → CountedEnd
 over input breaks zero p n = counted_end p 0
 over input breaks (suc k) p n =
@@ -78,7 +78,7 @@ over input breaks (suc k) p n =
     if not (is_met level p q) then counted_end q (suc k) else
     if is_on_break input breaks q then counted_end q k else over input breaks k q (n - (q - p))
 
--- BACK OVER, k times within n steps: it ends early where one is not made
+-- BACK OVER, k times within n steps: it ends early if a part is not made
 unfoldable pub back_over : Input → ℕ → ℕ → ℕ → ℕ → CountedEnd
 back_over input earliest zero p n = counted_end p 0
 back_over input earliest (suc k) p n =
@@ -88,9 +88,9 @@ back_over input earliest (suc k) p n =
 
 -- ---- all of them
 
--- what a movement does: what one of the debugger's does; it goes forward to where a test holds, for which it has a
--- word, or a break line; back to where a test holds, for which it has a word, where answers are made on the way; so
--- many times over; so many times back over
+-- the effect of a movement: that of one of the debugger's; forward to a break line or a state at
+-- which a test holds, for which it has a word; back to such a state, for which it has a word, with
+-- answers made on the way; OVER, a number of times; BACK OVER, a number of times
 pub data Shape : Type 0 where
   debugger_shape : MovementShape → Shape
   ahead : (ℕ → Bool) → List ℕ → Shape
@@ -98,11 +98,11 @@ pub data Shape : Type 0 where
   over_by : ℕ → Shape
   back_over_by : ℕ → Shape
 
--- GO q from p: so many steps back or forward
+-- GO q from p: a number of steps back or forward
 abbrev pub go_shape : ℕ → ℕ → MovementShape
 go_shape p q = if nat_lt q p then back (p - q) else forward step_condition (q - p)
 
--- what each movement does
+-- the effect of each movement
 unfoldable pub shape_of : Input → ℕ → Movement → Shape
 shape_of input p (Over k) = over_by k
 shape_of input p Out = ahead (is_outside input (frames_at input p)) (codes "DONE")

@@ -52,13 +52,13 @@ kept_value shape store k kepts.Predecessor = member_read (predecessor shape stor
 kept_value shape store k kepts.Successor = member_read (successor shape store k)
 kept_value shape store k kepts.Membership = if result_unwrap_or (membership shape store k) false then 1 else 0
 
--- the same in the set of this number, if the entities of class c have it there
+-- its value in the set of this number, if the entities of class c have it there
 abbrev pub kept_in_set : ProgramTable → Store → ℕ → ℕ → Kept → Option ℕ → Option ℤ
 kept_in_set program store c k kept None = None
 kept_in_set program store c k kept (Some s) =
     if has_kept (set_of program s) c kept then Some (pos (kept_value (shape_of program s) store k kept)) else None
 
--- the same in the set of this name
+-- its value in the set of this name
 abbrev pub kept_named : ProgramTable → Store → ℕ → ℕ → List ℕ → Option Kept → Option ℤ
 kept_named program store c k set None = None
 kept_named program store c k set (Some kept) = kept_in_set program store c k kept (set_named program set)
@@ -97,21 +97,21 @@ abbrev pub counted_text : ProgramTable → Store → ℕ → ℤ → List ℕ
 counted_text program store s x =
     codes ": " ++ decimal (length (members_of (shape_of program s) store (number_of x))) ++ 10 ∷ []
 
--- the same for the entity of class c that x names, or that there is none
+-- that line for the entity of class c that x names, or that there is none
 abbrev pub owned_count_text : List ℕ → ProgramTable → Store → ℕ → ℕ → ℤ → List ℕ
 owned_count_text name program store s c x =
     if exists store c (number_of x)
     then codes "COUNT " ++ name ++ codes " " ++ signed_decimal x ++ counted_text program store s x
     else no_entity_text (class_of program c).name x
 
--- the same of set number s, whose lists are the system's or a class's
+-- that line for set number s, whose lists are the system's or a class's
 abbrev pub list_count_text : List ℕ → Option ℤ → ProgramTable → State → ℕ → Owner → List ℕ
 list_count_text name None program state s System = codes "COUNT " ++ name ++ counted_text program state.store s (pos 0)
 list_count_text name (Some x) program state s System = no_entity_text (codes "SYSTEM") x
 list_count_text name owner program state s (OwnedBy c) =
     owned_count_text name program state.store s c (owner_or_variable owner program state c)
 
--- the same of the set of this number, or that there is no set of this name
+-- that line for the set of this number, or that there is no set of this name
 abbrev pub named_count_text : List ℕ → Option ℤ → ProgramTable → State → Option ℕ → List ℕ
 named_count_text name owner program state None = codes "NO SET " ++ name ++ 10 ∷ []
 named_count_text name owner program state (Some s) = list_count_text name owner program state s (set_of program s).owner
@@ -134,7 +134,7 @@ changes_at input question p = not (bytes_eq (answer_at input question p) (answer
 
 -- ---- as it is asked
 
--- a name, and a number behind a blank where one is given
+-- a name, and a number after a blank if one is given
 abbrev pub with_number : List ℕ → Option ℤ → List ℕ
 with_number name None = name
 with_number name (Some x) = name ++ codes " " ++ signed_decimal x

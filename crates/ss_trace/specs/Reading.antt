@@ -8,20 +8,20 @@ use Rattle.ss_trace.specs.EntityNumbers.{numbers_at}
 use Rattle.ss_trace.specs.Sight.{sight_of, IsInTables, glance_at}
 use Rattle.ss_trace.specs.Touches.{part_of}
 
--- it looks where the question does
+-- it looks at the rows and the part at which the question looks
 pub record Looks (input : Input) (question : Question) (r : Reading) : Type 0 where
   -- in the tables
   pub sight : r.sight ≡ sight_of input.program question
   -- which have such rows
   pub within : IsInTables input.program r.sight
-  -- beside what is seen at a glance
+  -- the part, next to the glance
   pub part : r.part ≡ part_of question
 
--- the same, and it was read in state p
+-- it looks so, and it was read in state p
 pub record IsReadAt (input : Input) (question : Question) (p : ℕ) (r : Reading) : Type 0 where
-  -- where it looks
+  -- the rows and the part
   pub looks : Looks input question r
-  -- what was seen
+  -- the glance
   pub glance : r.glance ≡ glance_at input question p
   -- the numbers of the entity
   pub numbers : r.numbers.items ≡ numbers_at input question p

@@ -1,5 +1,5 @@
--- What is seen of a state at a glance, for a question: where it is the same on both sides of a step that touches no
--- other part at which the question looks, the answer is the same.
+-- Private: the glance at a state for a question. If it is the same on both sides of a step that
+-- touches no other part at which the question looks, the answer is the same.
 use Rattle.std.specs.Prelude.{ℕ, ◌<◌, ◌==◌, ◌&&◌, ℤ, pos, Bool, true, false, List, [], codes, length, take, drop}
 use Rattle.std.specs.Prelude.{Option, Some, None, option_map, position, bytes_eq, slice_get, slice_index_or}
 use Rattle.std.specs.Prelude.{if◌then◌else◌}
@@ -27,19 +27,19 @@ use Rattle.ss_trace.specs.declared.glance.Glance.{Glance}
 use Rattle.ss_trace.specs.declared.glance.Glance.TheVariants as glances
 use Rattle.ss_trace.specs.Question.{kept_of, has_kept, kept_value}
 
--- ---- where a question looks: what its names stand for in the tables of a program
+-- ---- the sight of a question: the meaning of its names in the tables of a program
 
 -- VAR v: the clock, a global variable, or else a local of the section of the last frame
 abbrev pub global_or_local : Option ℕ → Sight
 global_or_local (Some i) = Global i
 global_or_local None = Local
 
--- the same by its name
+-- the sight of a variable by its name
 abbrev pub sight_of_variable : ProgramTable → List ℕ → Sight
 sight_of_variable program name =
     if bytes_eq name (codes "TIME.V") then Clock else global_or_local (position (bytes_eq name) program.globals)
 
--- c k a: a kept attribute in a set, where the entities of class c have it, and else whether the entity exists
+-- c k a: a kept attribute in a set, if entities of class c have it; else whether the entity exists
 abbrev pub sight_of_kept : ProgramTable → ℕ → ℤ → Option KeptKind → Option ℕ → Sight
 sight_of_kept program c x (Some kept) (Some s) =
     if has_kept (set_of program s) c kept then Kept c s kept x else Living c x
@@ -52,20 +52,20 @@ sight_of_attribute program c x name (Some a) = Attribute c a x
 sight_of_attribute program c x name None =
     sight_of_kept program c x (kept_of (take 2 name)) (set_named program (drop 2 name))
 
--- the same of a class, if there is one of this name
+-- the sight of an attribute of a class, if there is a class of this name
 abbrev pub sight_of_class : ProgramTable → ℤ → List ℕ → Option ℕ → Sight
 sight_of_class program x name None = Nothing
 sight_of_class program x name (Some c) =
     sight_of_attribute program c x name (position (bytes_eq name) (class_of program c).attributes)
 
--- SET s [k], COUNT s [k]: the list of a set of the system, or of an owner that is named, or that a variable names
+-- SET s [k], COUNT s [k]: a set's list of the system, a named owner or one that a variable names
 abbrev pub sight_of_list : ProgramTable → ℕ → Option ℤ → Owner → Sight
 sight_of_list program s None System = Members s (pos 0)
 sight_of_list program s (Some x) System = Nothing
 sight_of_list program s None (OwnedBy c) = MembersNamed s (class_of program c).variable
 sight_of_list program s (Some x) (OwnedBy c) = Members s x
 
--- the same of a set, if there is one of this name
+-- the sight of the list of a set, if there is a set of this name
 abbrev pub sight_of_set : ProgramTable → Option ℤ → Option ℕ → Sight
 sight_of_set program owner None = Nothing
 sight_of_set program owner (Some s) = sight_of_list program s owner (set_of program s).owner
@@ -75,7 +75,7 @@ abbrev pub sight_of_entity : ℤ → Option ℕ → Sight
 sight_of_entity x None = Nothing
 sight_of_entity x (Some c) = Entity c x
 
--- where a question looks
+-- the sight of a question
 abbrev pub sight_of : ProgramTable → Question → Sight
 sight_of program (Shown shown.Clock) = Clock
 sight_of program (Shown shown.Where) = Nothing
@@ -98,7 +98,7 @@ IsInTables program (Members s x) = s < length program.sets
 IsInTables program (MembersNamed s i) = (s < length program.sets) × (i < length program.globals)
 IsInTables program _ = Unit {0}
 
--- ---- what is seen
+-- ---- the glance
 
 -- the name of the variable that a question asks for
 abbrev pub variable_asked : Question → List ℕ
@@ -119,11 +119,11 @@ value_if_exists store c k value = if exists store c k then Some value else None
 abbrev pub members_counted : SetShape → Store → ℕ → Option ℕ
 members_counted shape store k = option_map length (list_by shape.owner shape.list store k)
 
--- the same of the owner that x names, and that
+-- the count for the owner that x names, and x
 abbrev pub members_seen : ProgramTable → Store → ℕ → ℤ → Glance
 members_seen program store s x = glances.Members x (members_counted (shape_of program s) store (number_of x))
 
--- what is seen of a state there; of an entity, whose numbers are many, nothing
+-- the glance at a state with a sight; nothing for an entity, whose numbers are many
 abbrev pub glance_of : ProgramTable → State → Question → Sight → Glance
 glance_of program state question Nothing = glances.Number None
 glance_of program state question Clock = glances.Number (Some state.clock)
@@ -144,7 +144,7 @@ glance_of program state question (Members n k) = members_seen program state.stor
 glance_of program state question (MembersNamed n i) =
     members_seen program state.store n (slice_index_or state.variables i (pos 0))
 
--- what is seen of state p
+-- the glance at state p
 abbrev pub glance_at : Input → Question → ℕ → Glance
 glance_at input question p = glance_of input.program (run input p) question (sight_of input.program question)
 
@@ -169,7 +169,7 @@ is_same_entry (entries.Waiting c k) (entries.Waiting d j) = (c == d) && (k == j)
 is_same_entry (entries.Running c k) (entries.Running d j) = (c == d) && (k == j)
 is_same_entry _ _ = false
 
--- the same is seen
+-- two glances are the same
 abbrev pub is_same_glance : Glance → Glance → Bool
 is_same_glance (glances.Number x) (glances.Number y) = is_same_number x y
 is_same_glance (glances.Amount n) (glances.Amount m) = n == m

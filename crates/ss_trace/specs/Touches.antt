@@ -1,4 +1,5 @@
--- How much a step may change of the parts of a state that no glance tells, by the kind of its place.
+-- Private: how much a step may change of the parts of a state that no glance shows, by the kind of
+-- its place.
 use Rattle.std.specs.Prelude.{ℕ, Bool, true, false, Option, Some, None, if◌then◌else◌}
 use Rattle.ss_program.specs.Program.{ProgramTable, spot_at}
 use Rattle.ss_program.specs.declared.filing.Filing.{Filing}
@@ -28,43 +29,43 @@ use Rattle.ss_trace.specs.declared.touches.Touch.TheVariants.{Nothing, Attribute
 
 -- ---- entities and lists
 
--- what is touched where a value is assigned: an attribute of a class, if the target is one
+-- the touch of an assigned value: an attribute of a class, if the target is one
 abbrev pub touched_target : Target → Touch
 touched_target (targets.Variable v) = Nothing
 touched_target (targets.Attribute c a i) = Attribute c a
 
--- the same of an assignment
+-- the touch of an assignment
 abbrev pub touched_assign : Assign → Touch
 touched_assign statement = touched_target (target_of statement)
 
--- where the member that is removed from a list of set s goes to a target
+-- the touch of a removal from a list of set s, if the member goes to a target
 abbrev pub touched_removal : Target → ℕ → Touch
 touched_removal (targets.Variable v) s = Set s
 touched_removal (targets.Attribute c a i) s = Entities
 
--- what files or removes
+-- the touch of a statement that files or removes
 abbrev pub touched_filing : Filing → Touch
 touched_filing (File e position r) = Set r.set
 touched_filing (FileAt end e r) = Set r.set
 touched_filing (RemoveAt end target r) = touched_removal target r.set
 touched_filing (Remove e r) = Set r.set
 
--- what ends a section assigns what it yields
+-- the end of a section assigns the value that it yields
 abbrev pub touched_control : Control → Touch
 touched_control Stop = Nothing
 touched_control _ = Attributes
 
--- what goes through cases assigns the statistics that it tells
+-- a statement that goes through cases assigns the statistics that it gives
 abbrev pub touched_looping : Looping → Touch
 touched_looping (Tell targets) = Attributes
 touched_looping _ = Nothing
 
--- whether what makes or ends entities makes all of a class
+-- whether a statement that makes or ends entities makes all of a class
 abbrev pub makes_a_class : Making → Bool
 makes_a_class (CreateEvery c n count) = true
 makes_a_class _ = false
 
--- what makes or ends entities
+-- the touch of a statement that makes or ends entities
 abbrev pub touched_making : Making → Touch
 touched_making making = if makes_a_class making then Anything else Entities
 
@@ -103,12 +104,12 @@ touched_part parts.Entities place = touched_entities place
 touched_part parts.Lists place = touched_lists place
 touched_part parts.Notices place = touched_notices place
 
--- the same of the place that stands there, if one does
+-- how much the step of the place there may change, if there is one
 abbrev pub touched_by : Part → Option Spot → Touch
 touched_by part None = Anything
 touched_by part (Some spot) = touched_part part spot.place
 
--- the same of the place where the last frame stands
+-- how much the step of the last frame's place may change
 abbrev pub touched_in : ProgramTable → Part → State → Touch
 touched_in program part state = touched_by part (spot_at program state.frame.section state.frame.place)
 
@@ -120,7 +121,7 @@ touched_at input parts.Entities p = touched_in input.program parts.Entities (run
 touched_at input parts.Lists p = touched_in input.program parts.Lists (run input p)
 touched_at input parts.Notices p = touched_in input.program parts.Notices (run input p)
 
--- the part at which a question looks beside its glance
+-- the part at which a question looks, next to its glance
 abbrev pub part_of : Question → Part
 part_of (Shown shown.Where) = parts.Anything
 part_of (Shown (shown.Entity name x)) = parts.Entities

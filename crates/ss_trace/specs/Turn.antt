@@ -1,4 +1,4 @@
--- What a movement does to the state of the debugger, and what it answers.
+-- The effect of a movement on the state of the debugger, and its answer.
 use Rattle.std.specs.Prelude.{ℕ, Bool, List, codes, if◌then◌else◌, nat_eq, ◌≡◌, ◌≤◌}
 use Rattle.ss_state.specs.Run.{Input}
 use Rattle.ss_debug.specs.declared.limits.TheConstants.{GREATEST_BOUND}
@@ -12,8 +12,8 @@ use Rattle.ss_trace.specs.Movements.{Shape, debugger_shape, ahead, seek_back, ov
 use Rattle.ss_trace.specs.Movements.{CountedEnd, over, back_over}
 use Rattle.ss_trace.specs.Movements.{ahead_end, is_met}
 
--- the word of a movement forward from p to q: HALTED where the status isn't ready, its own where it met what it looks
--- for, BREAK at a break line, else BOUND
+-- the word of a movement forward from p to q: HALTED if the status isn't ready, its own word if it
+-- met the state that it looks for, BREAK at a break line, else BOUND
 abbrev pub forward_word : List ℕ → Input → List ℕ → Bool → ℕ → ℕ → List ℕ
 forward_word word input breaks met p q =
     if is_ready_at input q then
@@ -21,26 +21,26 @@ forward_word word input breaks met p q =
     if is_met (is_on_break input breaks) p q then codes "BREAK" else codes "BOUND")
     else codes "HALTED"
 
--- the same, where what it looks for is a state at which a test holds
+-- that word, if it looks for a state at which a test holds
 abbrev pub ahead_word : List ℕ → Input → List ℕ → (ℕ → Bool) → ℕ → ℕ → List ℕ
 ahead_word word input breaks test p q = forward_word word input breaks (is_met test p q) p q
 
--- the word of OVER from p: HALTED where the status isn't ready, DONE where all were made, BREAK at a break line, else
--- BOUND
+-- the word of OVER from p: HALTED if the status isn't ready, DONE if all parts were made, BREAK at
+-- a break line, else BOUND
 abbrev pub over_word : Input → List ℕ → ℕ → CountedEnd → List ℕ
 over_word input breaks p end = forward_word (codes "DONE") input breaks (nat_eq end.left 0) p end.position
 
--- the word of BACK OVER: DONE where all were made, else as at the earliest kept position, else BOUND
+-- the word of BACK OVER: DONE if all were made, else as at the earliest kept position, else BOUND
 abbrev pub back_over_word : ℕ → CountedEnd → List ℕ
 back_over_word earliest end =
     if nat_eq end.left 0 then codes "DONE" else
     if nat_eq end.position earliest then earliest_word earliest else codes "BOUND"
 
--- where OVER leads
+-- the end of OVER
 abbrev pub over_from : Input → DebuggerState → ℕ → CountedEnd
 over_from input debugger k = over input debugger.breaks k debugger.position GREATEST_BOUND
 
--- where BACK OVER leads
+-- the end of BACK OVER
 abbrev pub back_over_from : Input → DebuggerState → ℕ → CountedEnd
 back_over_from input debugger k = back_over input debugger.earliest k debugger.position GREATEST_BOUND
 
@@ -52,7 +52,7 @@ end_of input debugger (seek_back test word) = search_back_end test debugger.earl
 end_of input debugger (over_by k) = (over_from input debugger k).position
 end_of input debugger (back_over_by k) = (back_over_from input debugger k).position
 
--- its word, where it leads to q
+-- the word of such a movement, if it leads to q
 abbrev pub word_of : Input → DebuggerState → Shape → ℕ → List ℕ
 word_of input d (debugger_shape shape) q = debugger.word_of input d shape q
 word_of input debugger (ahead test word) q = ahead_word word input debugger.breaks test debugger.position q
@@ -64,7 +64,7 @@ word_of input debugger (back_over_by k) q = back_over_word debugger.earliest (ba
 abbrev pub state_after_shape : Input → DebuggerState → Shape → DebuggerState
 state_after_shape input debugger shape = debugger_state_at debugger (end_of input debugger shape)
 
--- what it answers
+-- the answer to such a movement
 abbrev pub shape_answer : Input → DebuggerState → Shape → List ℕ
 shape_answer input debugger shape =
     let q = end_of input debugger shape in movement_text (word_of input debugger shape q) input q
@@ -74,8 +74,8 @@ abbrev pub IsPartOfMovementBack : DebuggerState → ℕ → DebuggerState → Ty
 IsPartOfMovementBack old q new =
     (new ≡ debugger_state_at old new.position) × (q ≤ new.position) × (new.position ≤ old.position)
 
--- where it was refused memory: a movement forward was made in part, as one back that makes answers; others back as a
--- whole
+-- after a refusal of memory: a movement forward was made in part, and so was one back that makes
+-- answers; other movements back were made as a whole
 abbrev pub IsAfterRefusedShape : Input → DebuggerState → Shape → DebuggerState → Type 0
 IsAfterRefusedShape input old (debugger_shape shape) new = IsStateAfterRefusedMovement input old shape new
 IsAfterRefusedShape input old (ahead test word) new = IsPartOfMovement old (end_of input old (ahead test word)) new
@@ -90,7 +90,7 @@ IsAfterRefusedShape input old (back_over_by k) new = new ≡ debugger_state_at o
 abbrev pub state_after : Input → DebuggerState → Movement → DebuggerState
 state_after input debugger movement = state_after_shape input debugger (shape_of input debugger.position movement)
 
--- what it answers
+-- the answer to a movement
 abbrev pub answer : Input → DebuggerState → Movement → List ℕ
 answer input debugger movement = shape_answer input debugger (shape_of input debugger.position movement)
 

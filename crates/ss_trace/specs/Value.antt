@@ -15,7 +15,7 @@ says_none answer =
     || starts_with nat_eq answer (codes "NO ATTRIBUTE ") || starts_with nat_eq answer (codes "NO SET ")
     || starts_with nat_eq answer (codes "NO VARIABLE ") || starts_with nat_eq answer (codes "NO EVENTS")
 
--- what stands behind the first of these bytes
+-- the text after the first of these bytes
 abbrev pub behind : ℕ → List ℕ → List ℕ
 behind byte text = after_first (nat_eq byte) text
 
@@ -23,7 +23,7 @@ behind byte text = after_first (nat_eq byte) text
 abbrev pub without_end : List ℕ → List ℕ
 without_end text = take (length text - 1) text
 
--- what a byte becomes where lines are joined: between two lines a comma and a blank
+-- the text of a byte when lines are joined: between two lines a comma and a blank
 abbrev pub joined_byte : ℕ → List ℕ → List ℕ
 joined_byte b [] = if nat_eq b 10 then [] else b ∷ []
 joined_byte b (c ∷ rest) = if nat_eq b 10 then codes ", " else b ∷ []
@@ -33,16 +33,16 @@ abbrev pub joined_lines : List ℕ → List ℕ
 joined_lines [] = []
 joined_lines (b ∷ rest) = joined_byte b rest ++ joined_lines rest
 
--- a text, or that something lives of which nothing is told
+-- a text, or LIVES if it is empty: something lives of which nothing is shown
 abbrev pub or_lives : List ℕ → List ℕ
 or_lives [] = codes "LIVES"
 or_lives (b ∷ bs) = b ∷ bs
 
--- how long the report is that an answer shows behind its first line
+-- the length of the report that an answer shows after its first line
 abbrev pub report_value : List ℕ → List ℕ
 report_value answer = decimal (length answer - 7) ++ codes " BYTES"
 
--- the value that an answer tells, where there is one
+-- the value that an answer gives, if there is one
 abbrev pub told_value : Question → List ℕ → List ℕ
 told_value (Shown shown.Clock) answer = behind 32 (without_end answer)
 told_value (Shown shown.Where) answer = without_end answer
@@ -56,7 +56,7 @@ told_value (Shown shown.Report) answer = report_value answer
 told_value (Attribute class x name) answer = drop 1 (behind 61 (without_end answer))
 told_value (Count name owner) answer = drop 1 (behind 58 (without_end answer))
 
--- the value that an answer tells, or that there is none
+-- the value that an answer gives, or that there is none
 abbrev pub value_in : Question → List ℕ → List ℕ
 value_in question answer = if says_none answer then codes "NONE" else told_value question answer
 

@@ -1,4 +1,4 @@
--- Where a debugger stands behind a movement, and what a movement looks for.
+-- The position of a debugger after a movement, and the states that a movement looks for.
 use Rattle.std.specs.Prelude.{ℕ, ◌≡◌, ◌≤◌, ◌<◌, Bool, true}
 use Rattle.ss_machine.specs.Moment.{position}
 use Rattle.ss_state.specs.Run.{Input}
@@ -8,13 +8,13 @@ use Rattle.ss_trace.specs.declared.sought.Sought.{Sought}
 use Rattle.ss_trace.specs.declared.sought.Sought.TheVariants.{Level, Outside, Before}
 use Rattle.ss_trace.specs.Movements.{is_level, is_outside, is_before}
 
--- whether a state is what a movement looks for
+-- whether a state is one that a movement looks for
 abbrev pub sought_test : Input → Sought → ℕ → Bool
 sought_test input (Level frames) = is_level input frames
 sought_test input (Outside frames) = is_outside input frames
 sought_test input (Before time) = is_before input time
 
--- a debugger stands at position q of the run, and all else is as it was
+-- a debugger is at position q of the run, and all else is as it was
 pub record IsAt (old : DebuggerView) (q : ℕ) (new : DebuggerView) : Type 0 where
   -- its run is the same one
   pub input : new.machine.input ≡ old.machine.input
@@ -25,7 +25,7 @@ pub record IsAt (old : DebuggerView) (q : ℕ) (new : DebuggerView) : Type 0 whe
   -- its position
   pub position : position new.machine ≡ q
 
--- it stands between two positions, and all else is as it was
+-- it is between two positions, and all else is as it was
 pub record IsBetween (old : DebuggerView) (p q : ℕ) (new : DebuggerView) : Type 0 where
   -- its run is the same one
   pub input : new.machine.input ≡ old.machine.input
@@ -35,7 +35,7 @@ pub record IsBetween (old : DebuggerView) (p q : ℕ) (new : DebuggerView) : Typ
   pub breaks : new.breaks ≡ old.breaks
   -- not before the first
   pub no_earlier : p ≤ position new.machine
-  -- not behind the second
+  -- not past the second
   pub no_later : position new.machine ≤ q
 
 -- it went back, perhaps, over steps that were made, and all else is as it was
@@ -46,7 +46,7 @@ pub record HasLookedBack (old new : DebuggerView) : Type 0 where
   pub forgotten : new.machine.forgotten ≡ old.machine.forgotten
   -- so are the break lines
   pub breaks : new.breaks ≡ old.breaks
-  -- it is not behind the start
+  -- it is not past the start
   pub no_later : position new.machine ≤ position old.machine
   -- the states on the way are ready
   pub ready : (j : ℕ) → position new.machine ≤ j → j < position old.machine → is_ready_at old.machine.input j ≡ true

@@ -1,4 +1,4 @@
-//! Forward to what is looked for, or to a break line.
+//! Forward to a state that is looked for, or to a break line.
 ghost use Rattle.std.specs.Prelude.{◌≡◌, OnOk, OnErr};
 ghost use Rattle.ss_machine.specs.Moment.{position};
 ghost use Rattle.ss_trace.specs.Movements.{ahead_end};
@@ -10,10 +10,11 @@ use ss_links::SetBoard;
 use ss_state::LAST_POSITION;
 use std::alloc::AllocError;
 
-/// Steps to the least later position that is what is looked for, or on a break line, or whose
-/// status isn't ready, within the bound and not past the last position.
+/// Steps to the least later position that is looked for, or on a break line, or whose status isn't
+/// ready, within the bound and not past the last position.
 ///
-/// `AllocError` where a step was refused memory: the machine stands where the steps before it led.
+/// `AllocError` if a step was refused memory: the machine is at the position to which the steps
+/// before it led.
 #[tactic(auto, using(ss_debug::proofs::Moves::least_steps))]
 pub fn ahead<S: SetBoard>(
     debugger: &mut Debugger<S>,

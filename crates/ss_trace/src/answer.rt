@@ -10,9 +10,9 @@ use ss_debug::{Debugger, Question as Shown, push_integer};
 use ss_links::SetBoard;
 use std::alloc::{AllocError, Global};
 
-/// Appends the answer to a question, where the debugger stands.
+/// Appends the answer to a question, in the debugger's present state.
 ///
-/// `AllocError` where a growth was refused; then what was appended does not count.
+/// `AllocError` if a growth was refused; then the appended bytes do not count.
 pub fn push_answer<S: SetBoard>(
     debugger: &Debugger<S>,
     question: &Question,
@@ -34,7 +34,7 @@ pub fn push_answer<S: SetBoard>(
     }
 }
 
-/// The answer to a question, where the debugger stands.
+/// The answer to a question, in the debugger's present state.
 pub fn answer_to<S: SetBoard>(
     alloc: Global,
     debugger: &Debugger<S>,
@@ -51,7 +51,7 @@ pub fn answer_to<S: SetBoard>(
     Ok(text)
 }
 
-/// Appends a name, and a number behind a blank where one is given.
+/// Appends a name, and a number after a blank if one is given.
 fn push_with_number(bytes: &mut Vec<u8>, name: &[u8], number: Option<i64>) -> Result<(), AllocError>
     ensures { OnOk result (bytes.new.items ≡ bytes.old.items ++ with_number name.now number) }
 {
@@ -88,7 +88,7 @@ fn push_shown(shown: &Shown, bytes: &mut Vec<u8>) -> Result<(), AllocError>
 
 /// Appends a question as it is asked, in upper case and least digits.
 ///
-/// `AllocError` where a growth was refused; then what was appended does not count.
+/// `AllocError` if a growth was refused; then the appended bytes do not count.
 pub fn push_asked(question: &Question, bytes: &mut Vec<u8>) -> Result<(), AllocError>
     ensures { OnOk result (bytes.new.items ≡ bytes.old.items ++ question_text question.now) }
 {

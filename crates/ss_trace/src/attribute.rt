@@ -1,5 +1,5 @@
-//! One attribute of an entity, kept ones too. The type of these is told by definitions, for proofs
-//! alone.
+//! One attribute of an entity, kept ones too. The definitions name the type of kept ones, only for
+//! proofs.
 ghost use Rattle.std.specs.Prelude.{◌≡◌, ◌++◌, ◌<◌, length, OnOk, Option};
 ghost use Rattle.ss_program.specs.declared.kinds.Owner.TheVariants.{OwnedBy};
 ghost use Rattle.ss_program.specs.Program.{set_of, is_same_owner};
@@ -77,7 +77,7 @@ pub fn has_kept(program: &Program, class: usize, set: usize, kept: Kept) -> bool
     }
 }
 
-/// The number of a member, 0 standing for none.
+/// The number of a member, 0 if there is none.
 fn member_number(member: Result<Option<u32>, RunFault>) -> u32
     ensures { result ≡ member_read member }
 {

@@ -1,4 +1,4 @@
-//! Forward and back to where a question changes.
+//! Forward and back to a step at which a question changes.
 ghost use Rattle.std.specs.Prelude.{◌≡◌, ◌<◌, ◌≤◌, OnOk, OnErr, IfOk, ℕ, Bool, true, nat_lt};
 ghost use Rattle.ss_machine.specs.Moment.{position};
 ghost use Rattle.ss_debug.specs.Move.{is_stop, search_back_end};
@@ -14,8 +14,8 @@ use ss_links::SetBoard;
 use ss_state::LAST_POSITION;
 use std::alloc::{AllocError, Global};
 
-/// Whether a movement from position `from` stops where the machine stands, where it is known
-/// whether it met what it looks for.
+/// Whether a movement from position `from` stops at the machine's present state. `met` says whether
+/// it met the change that it looks for.
 fn is_at_stop<S: SetBoard>(
     debugger: &Debugger<S>,
     question: &Question,
@@ -35,12 +35,12 @@ fn is_at_stop<S: SetBoard>(
     from < debugger.machine().position() && debugger.stands_on_break()
 }
 
-/// Steps to the least later position behind a step at which a question changes, or on a break line,
-/// or whose status isn't ready, within the bound and not past the last position. Tells whether the
+/// Steps to the least later position after a step at which a question changes, or on a break line,
+/// or whose status isn't ready, within the bound and not past the last position. Says whether the
 /// question changed there.
 ///
-/// `AllocError` where a step or an answer was refused memory: the machine stands where the steps
-/// before it led.
+/// `AllocError` if a step or an answer was refused memory: the machine is at the position to which
+/// the steps before it led.
 pub fn ahead_to_change<S: SetBoard>(
     alloc: Global,
     debugger: &mut Debugger<S>,
@@ -75,10 +75,10 @@ pub fn ahead_to_change<S: SetBoard>(
 }
 
 /// Steps back to the greatest earlier position at whose step a question changes, or to the earliest
-/// kept position, within the bound. Tells whether the question changes there.
+/// kept position, within the bound. Says whether the question changes there.
 ///
-/// `AllocError` where an answer was refused memory: the machine stands where the steps before it
-/// led.
+/// `AllocError` if an answer was refused memory: the machine is at the position to which the steps
+/// before it led.
 pub fn back_to_change<S: SetBoard>(
     alloc: Global,
     debugger: &mut Debugger<S>,

@@ -13,7 +13,7 @@ use ss_machine::Machine;
 use ss_program::Owner;
 use std::alloc::AllocError;
 
-/// How many members the list of a set has, none where its owner does not exist.
+/// How many members the list of a set has, none if its owner does not exist.
 #[tactic(auto, using(ss_debug::proofs::Tables::sets_kept))]
 fn member_count<S: SetBoard>(machine: &Machine<S>, set: usize, owner: i64) -> u32
     requires { set < length machine.now.input.program.sets }
@@ -39,7 +39,7 @@ fn push_counted<S: SetBoard>(
     bytes.extend_from_slice(b"\n")
 }
 
-/// The same for an entity of this class, or `NO ENTITY c k`.
+/// Appends that line for an entity of this class, or `NO ENTITY c k`.
 fn push_owned_count<S: SetBoard>(
     bytes: &mut Vec<u8>,
     name: &[u8],
@@ -63,7 +63,7 @@ fn push_owned_count<S: SetBoard>(
     push_counted(bytes, machine, set, owner)
 }
 
-/// The same of a set of the system, whose list has no owner's number.
+/// Appends that line for a set of the system, whose list has no owner's number.
 fn push_system_count<S: SetBoard>(
     bytes: &mut Vec<u8>,
     name: &[u8],

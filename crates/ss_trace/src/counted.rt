@@ -1,4 +1,4 @@
-//! OVER and BACK OVER, so many times.
+//! OVER and BACK OVER, a number of times.
 ghost use Rattle.std.specs.Prelude.{◌≡◌, ◌+◌, ◌≤◌, OnOk, OnErr, IfOk};
 ghost use Rattle.ss_machine.specs.Moment.{position};
 ghost use Rattle.ss_debug.specs.declared.limits.TheConstants.{GREATEST_BOUND};
@@ -46,9 +46,10 @@ fn over_once<S: SetBoard>(debugger: &mut Debugger<S>, bound: u64) -> Result<bool
     Ok(from < debugger.machine().position() && is_found(debugger, level))
 }
 
-/// OVER, so many times within `GREATEST_BOUND` steps. Tells how many were not made.
+/// OVER, `count` times within `GREATEST_BOUND` steps. Gives the number that were not made.
 ///
-/// `AllocError` where a step was refused memory: the machine stands where the steps before it led.
+/// `AllocError` if a step was refused memory: the machine is at the position to which the steps
+/// before it led.
 pub fn over<S: SetBoard>(debugger: &mut Debugger<S>, count: u64) -> Result<u64, AllocError>
     ensures ok { OnOk result (IsAt debugger.old (over debugger.old.machine.input
         debugger.old.breaks count (position debugger.old.machine) GREATEST_BOUND).position
@@ -76,7 +77,7 @@ pub fn over<S: SetBoard>(debugger: &mut Debugger<S>, count: u64) -> Result<u64, 
     Ok(0)
 }
 
-/// BACK OVER once within the bound. Tells whether it was made.
+/// BACK OVER once within the bound. Says whether it was made.
 #[tactic(auto, using(crate::proofs::Parts::back_within))]
 fn back_over_once<S: SetBoard>(debugger: &mut Debugger<S>, bound: u64) -> bool
     ensures place { IsAt debugger.old (search_back_end (is_level debugger.old.machine.input
@@ -94,7 +95,7 @@ fn back_over_once<S: SetBoard>(debugger: &mut Debugger<S>, bound: u64) -> bool
     debugger.machine().position() < from && is_found(debugger, level)
 }
 
-/// BACK OVER, so many times within `GREATEST_BOUND` steps. Tells how many were not made.
+/// BACK OVER, `count` times within `GREATEST_BOUND` steps. Gives the number that were not made.
 pub fn back_over<S: SetBoard>(debugger: &mut Debugger<S>, count: u64) -> u64
     ensures place { IsAt debugger.old (back_over debugger.old.machine.input
         debugger.old.machine.forgotten count (position debugger.old.machine)

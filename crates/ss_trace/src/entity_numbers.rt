@@ -1,4 +1,4 @@
-//! The numbers that the lines of an entity tell.
+//! The numbers in the lines of an entity.
 ghost use Rattle.std.specs.Prelude.{◌≡◌, ◌++◌, ◌∷◌, ◌<◌, [], length, OnOk};
 ghost use Rattle.ss_program.specs.Program.{class_of};
 ghost use Rattle.ss_store.specs.Store.{number_of};
@@ -46,7 +46,7 @@ fn push_attributes<S: SetBoard>(
     Ok(())
 }
 
-/// A kept attribute of an entity in a set; 0 where the entities of its class do not have it.
+/// A kept attribute of an entity in a set; 0 if the entities of its class do not have it.
 #[tactic(auto, using(ss_debug::proofs::Tables::sets_kept))]
 pub fn kept_number<S: SetBoard>(
     machine: &Machine<S>,
@@ -65,8 +65,8 @@ pub fn kept_number<S: SetBoard>(
     i64::from(kept_value(machine.store(), set, x, kept))
 }
 
-/// The members of a set beside an entity, and whether a list of the set holds it; none and `false`
-/// where the entities of its class are no members, or it does not exist.
+/// The members of a set next to an entity, and whether a list of the set holds it; none and `false`
+/// if the entities of its class are no members, or it does not exist.
 #[tactic(auto, using(ss_debug::proofs::Tables::sets_kept))]
 pub fn neighbours_of<S: SetBoard>(
     machine: &Machine<S>,
@@ -110,7 +110,7 @@ fn push_kept<S: SetBoard>(
     Ok(())
 }
 
-/// Appends what a set tells of an entity, as an owner of its lists and as a member of one.
+/// Appends the numbers of a set for an entity, as an owner of its lists and as a member of one.
 fn push_set<S: SetBoard>(
     numbers: &mut Vec<i64>,
     machine: &Machine<S>,
@@ -131,7 +131,7 @@ fn push_set<S: SetBoard>(
     push_kept(numbers, machine, class, x, set, Kept::Membership)
 }
 
-/// Appends what all sets tell of an entity.
+/// Appends the numbers of all sets for an entity.
 fn push_sets<S: SetBoard>(
     numbers: &mut Vec<i64>,
     machine: &Machine<S>,
@@ -163,14 +163,14 @@ fn push_entity<S: SetBoard>(
     push_sets(numbers, machine, class, x)
 }
 
-/// Whether the numbers of an entity tell all of an answer.
+/// Whether the numbers of an entity give all of an answer.
 pub fn is_counted(part: Part, sight: Sight) -> bool
     ensures { result ≡ is_counted part sight }
 {
     matches!((part, sight), (Part::Entities, Sight::Entity(_, _)))
 }
 
-/// Appends the numbers of the lines of an entity behind a 1, or nothing where it does not exist.
+/// Appends the numbers of the lines of an entity after a 1, or nothing if it does not exist.
 fn push_living<S: SetBoard>(
     numbers: &mut Vec<i64>,
     machine: &Machine<S>,
@@ -188,10 +188,10 @@ fn push_living<S: SetBoard>(
     push_entity(numbers, machine, class, x)
 }
 
-/// Appends the numbers of the entity at which a question looks; nothing where it looks at something
+/// Appends the numbers of the entity at which a question looks; nothing if it looks at something
 /// else.
 ///
-/// `AllocError` where a growth was refused; then what was appended does not count.
+/// `AllocError` if a growth was refused; then the appended numbers do not count.
 pub fn push_numbers<S: SetBoard>(
     numbers: &mut Vec<i64>,
     machine: &Machine<S>,

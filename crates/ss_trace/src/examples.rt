@@ -13,8 +13,9 @@ ghost use Rattle.ss_trace.specs.Told.{is_told_at};
 ghost use Rattle.ss_trace.specs.Touches.{touched_at};
 ghost use Rattle.ss_trace.specs.Examples as e;
 
-/// A set changes where a member is filed and where it is removed, an entity also where it is made,
-/// set and ended, and none where another one is made or its own value is set.
+/// A set changes when a member is filed and when it is removed. An entity changes also when it is
+/// made, set and ended. It does not when another one is made, or when it is set to the value that
+/// it has.
 fn lists_and_entities_change()
     ensures list { history e.jobs_run e.row 0 11 ≡ 7 ∷ 2 ∷ [] }
     ensures count { history e.jobs_run (Count (codes "ROW") None) 0 11 ≡ 7 ∷ 2 ∷ [] }
@@ -52,8 +53,8 @@ fn neighbouring_steps_change_a_list()
     ensures behind { e.run_from e.brief_run e.row 2 ≡ 3 }
 {}
 
-/// The numbers of an entity are those of its lines, and none where it does not exist; how much a
-/// step may change goes by its statement.
+/// The numbers of an entity are those of its lines, and there are none if it does not exist. How
+/// much a step may change depends on its statement.
 fn numbers_of_an_entity()
     ensures before { numbers_at e.jobs_run (e.job_shown 1) 0 ≡ [] }
     ensures filed { numbers_at e.jobs_run (e.job_shown 1) 3
@@ -67,8 +68,8 @@ fn numbers_of_an_entity()
     ensures yielded { touched_at e.jobs_run parts.Entities 5 ≡ Attributes }
 {}
 
-/// What a step may have changed is told by the numbers on its other side, and where it changed it is
-/// not.
+/// The numbers on the other side of a step agree with the parts that it may have changed, unless it
+/// changed them.
 fn numbers_tell_what_stayed()
     ensures set { is_told_at e.jobs_run (e.job_shown 1) (numbers_at e.jobs_run (e.job_shown 1) 2)
         (Attribute 0 0) 1 ≡ false }
@@ -82,8 +83,8 @@ fn numbers_tell_what_stayed()
         (numbers_at e.jobs_run (e.job_shown 2) 9) Entities 8 ≡ true }
 {}
 
-/// A local changes where its frame is entered and left; a variable where another value is assigned;
-/// each target of a READ, and what is taken, once.
+/// A local changes when its frame is entered and left; a variable when another value is assigned;
+/// each target of a READ, and the number of values taken, once.
 fn variables_change()
     ensures local { history e.jobs_run (e.var (codes "Q")) 0 11 ≡ 5 ∷ 4 ∷ 3 ∷ [] }
     ensures hidden { history e.jobs_run (e.var (codes "X")) 0 11 ≡ 5 ∷ 3 ∷ [] }
@@ -102,7 +103,7 @@ fn notices_and_reports_change()
 {}
 
 /// BACK CHANGE stops before the step of the change, at position 0 too, and else at the earliest
-/// kept position; RUN CHANGE behind it, and else at the last state.
+/// kept position. RUN CHANGE stops after that step, and else at the last state.
 fn searches_end()
     ensures back { e.back_from e.jobs_run e.row 0 11 ≡ 7 }
     ensures further { e.back_from e.jobs_run e.row 0 7 ≡ 2 }

@@ -1,10 +1,10 @@
-//! What is read of a state at a glance. The type is told by definitions, for proofs alone.
+//! The values that are read of a state at a glance. The definitions name the type, only for proofs.
 ghost use Rattle.std.specs.Prelude.{◌≡◌};
 ghost use Rattle.ss_trace.specs.Sight.{is_same_number, is_same_count, is_same_entry, is_same_glance};
 
 use ss_state::Entry;
 
-/// What is read of a state in place of the answer to a question.
+/// The values that are read of a state in place of the answer to a question.
 #[derive(Clone, Copy)]
 pub enum Glance {
     /// A number, or that there is none.
@@ -13,7 +13,7 @@ pub enum Glance {
     Amount(usize),
     /// The entry of an external event.
     Entry(Entry),
-    /// What names an owner, and how many members its list has, if it exists.
+    /// The number that names an owner, and how many members its list has, if it exists.
     Members(i64, Option<u32>),
 }
 

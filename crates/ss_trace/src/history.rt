@@ -19,9 +19,9 @@ use ss_debug::{Debugger, Question as Shown};
 use ss_links::SetBoard;
 use std::alloc::AllocError;
 
-/// Goes back to the newest step before at which a question changes, where it is kept, and else to
-/// the earliest kept position. Gives the answer behind that step; the reading is of where the
-/// debugger stands, before and after.
+/// Goes back to the newest earlier step at which a question changes, if it is kept, and else to the
+/// earliest kept position. Gives the answer after that step. The reading is that of the debugger's
+/// state, before and after the call.
 fn back_to_newest<S: SetBoard>(
     debugger: &mut Debugger<S>,
     question: &Question,
@@ -59,8 +59,8 @@ fn back_to_newest<S: SetBoard>(
     Ok(None)
 }
 
-/// Appends the rows of the newest steps before at which a question changes, at most so many. Tells
-/// how many they are.
+/// Appends the rows of the newest earlier steps at which a question changes, at most `most`. Gives
+/// their number.
 fn push_rows<S: SetBoard>(
     debugger: &mut Debugger<S>,
     question: &Question,
@@ -130,12 +130,12 @@ fn return_to<S: SetBoard>(debugger: &mut Debugger<S>, to: u64) -> Result<(), All
     Ok(())
 }
 
-/// Appends the history of a question as a table, the newest steps first and at most so many, or
+/// Appends the history of a question as a table, the newest steps first and at most `most`, or
 /// that it did not change since the earliest kept state. Position, break lines and earliest kept
 /// position stay as they are: the debugger goes back, and forward again over the same steps.
 ///
-/// `AllocError` where memory was refused to a text or a step: then the debugger stands perhaps at
-/// an earlier position that is kept, and what was appended does not count.
+/// `AllocError` if a text or a step was refused memory: then the debugger is perhaps at an earlier
+/// position that is kept, and the appended bytes do not count.
 pub fn push_history<S: SetBoard>(
     debugger: &mut Debugger<S>,
     question: &Question,
@@ -156,7 +156,7 @@ pub fn push_history<S: SetBoard>(
     return_to(debugger, from)
 }
 
-/// Goes back to the newest step before at which a question changes, and tells of it.
+/// Goes back to the newest earlier step at which a question changes, and appends its texts.
 #[tactic(auto, using(crate::proofs::Histories::newest_is, crate::proofs::Histories::newest_none))]
 fn push_newest<S: SetBoard>(
     debugger: &mut Debugger<S>,
@@ -190,10 +190,10 @@ fn push_newest<S: SetBoard>(
     Ok(Some(present_line(debugger)))
 }
 
-/// Looks for the newest step before at which a question changes. Appends to `head` its state line,
-/// or that there was none since the earliest kept state; to `change` the line that tells the values
-/// before and after; and gives the line of the model on which it stands. Position, break lines and
-/// earliest kept position stay as they are.
+/// Looks for the newest earlier step at which a question changes. Appends to `head` its state line,
+/// or that there was none since the earliest kept state; to `change` the line of the values before
+/// and after. Gives the line of the model of that step. Position, break lines and earliest kept
+/// position stay as they are.
 ///
 /// `AllocError` as for [`push_history`].
 pub fn push_why<S: SetBoard>(

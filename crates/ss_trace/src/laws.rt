@@ -14,8 +14,8 @@ pub fn back_over_ends_within_its_bound()
 {}
 
 /// No command and no movement leads past a state that is not ready, so that each state before the
-/// one where a debugger stands is ready: HISTORY and WHY, which go back and forward again over the
-/// same steps, meet no other.
+/// debugger's position is ready: HISTORY and WHY, which go back and forward again over the same
+/// steps, meet no other.
 pub fn no_movement_passes_an_end()
     ensures start { StartIsBehindReady }
     ensures commands { CommandsPassNoEnd }
@@ -32,7 +32,7 @@ pub fn histories_are_true()
     ensures { HistoriesAreTrue }
 {}
 
-/// Behind a step of a history stands the history at that step: the newest is the first.
+/// The steps after a step of a history are the history at that step: the newest is the first.
 pub fn histories_go_down()
     ensures { HistoriesGoDown }
 {}

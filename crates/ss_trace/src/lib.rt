@@ -1,4 +1,4 @@
-//! Movements to where something changed, over and out of sections, to a time and to a position.
+//! Movements to a change, over and out of sections, to a time and to a position.
 #![tactic(auto)]
 
 mod ahead;

@@ -1,17 +1,18 @@
+//! The movements over and out of sections, to a time, to a position and to a change.
 use crate::question::Question;
 
-/// A movement beside those of the debugger (docs/DEBUGGER.md).
+/// A movement in addition to those of the debugger (docs/DEBUGGER.md).
 ///
 /// Those forward end at a state that isn't ready, and, but for `Go` and `GoEnd`, at a break line;
 /// those back end at the earliest kept position. All but `Go` and `GoEnd` are bounded by
 /// `GREATEST_BOUND` steps.
 #[derive(Drop)]
 pub enum Movement {
-    /// OVER: so many times forward to a state with no more frames.
+    /// OVER: this number of times forward to a state with no more frames.
     Over(u64),
     /// OUT: forward to a state with fewer frames.
     Out,
-    /// BACK OVER: so many times back to a state with no more frames.
+    /// BACK OVER: this number of times back to a state with no more frames.
     BackOver(u64),
     /// BACK OUT: back to a state with fewer frames: there the statement that opened the last frame
     /// is the next to run.
@@ -22,7 +23,7 @@ pub enum Movement {
     Go(u64),
     /// GO END: forward to the first state that isn't ready.
     GoEnd,
-    /// RUN CHANGE: forward to the state behind a step at which this question changes.
+    /// RUN CHANGE: forward to the state after a step at which this question changes.
     RunChange(Question),
     /// BACK CHANGE: back to a state at whose step this question changes: the statement that changes
     /// it is the next to run.

@@ -1,7 +1,8 @@
+//! The questions of RUN CHANGE, BACK CHANGE, WHY and HISTORY.
 use ss_debug::{Name, Question as Shown};
 
-/// A question whose answer may change from one state to the next: what may stand behind RUN CHANGE,
-/// BACK CHANGE, WHY and HISTORY.
+/// A question whose answer may change from one state to the next. RUN CHANGE, BACK CHANGE, WHY and
+/// HISTORY take one.
 #[derive(Drop)]
 pub enum Question {
     /// One of the debugger's.
@@ -10,6 +11,6 @@ pub enum Question {
     /// number.
     Attribute(Name, i64, Name),
     /// `COUNT s [k]`: how many members the list of this set has, for the owner with this number or
-    /// that which the variable of its class names.
+    /// the owner that the variable of its class names.
     Count(Name, Option<i64>),
 }

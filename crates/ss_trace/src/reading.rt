@@ -27,11 +27,11 @@ use std::mem::{replace, swap};
 #[derive(Drop)]
 pub struct Reading {
     alloc: Global,
-    /// Where the question looks.
+    /// The rows at which the question looks.
     pub sight: Sight,
-    /// What was seen there.
+    /// The values that were seen there.
     pub glance: Glance,
-    /// The part of the state at which the question looks beside that.
+    /// The part of the state at which the question looks, next to its glance.
     pub part: Part,
     /// The numbers of the entity at which it looks.
     pub numbers: Vec<i64>,
@@ -41,7 +41,7 @@ pub struct Reading {
 }
 
 impl Reading {
-    /// The answer where the debugger stands.
+    /// The answer in the debugger's present state.
     pub fn new<S: SetBoard>(
         alloc: Global,
         debugger: &Debugger<S>,
@@ -67,8 +67,8 @@ impl Reading {
         })
     }
 
-    /// How much the step from where the debugger stands may change of what the question looks at,
-    /// although the same is seen behind it.
+    /// How much the debugger's next step may change of the part at which the question looks,
+    /// although the same is seen after it.
     #[inline(always)]
     pub fn touched<S: SetBoard>(&self, debugger: &Debugger<S>) -> Touch
         ensures { result
@@ -77,7 +77,7 @@ impl Reading {
         touched_here(debugger, self.part)
     }
 
-    /// Looks where the question looks, and tells whether the same is seen there.
+    /// Takes a new glance for the question, and says whether it is the same.
     fn look<S: SetBoard>(&mut self, debugger: &Debugger<S>, question: &Question) -> bool
         requires { Looks debugger.now.machine.input question.now self.old }
         ensures looks { Looks debugger.now.machine.input question.now self.new }
@@ -94,8 +94,8 @@ impl Reading {
         is_same(before, glance)
     }
 
-    /// Reads the numbers of the entity at which the question looks, and tells whether they are the
-    /// same; where it looks at none, they are not.
+    /// Reads the numbers of the entity at which the question looks, and says whether they are the
+    /// same. If it looks at none, they are not.
     fn count_again<S: SetBoard>(
         &mut self,
         debugger: &Debugger<S>,
@@ -117,8 +117,9 @@ impl Reading {
         Ok(is_counted(self.part, self.sight) && self.spare.as_slice() == self.numbers.as_slice())
     }
 
-    /// Whether the numbers of the entity at which the question looks are the same, on the other side
-    /// of a step that perhaps changed what it may; where it looks at none, they are not.
+    /// Whether the numbers of the entity at which the question looks are the same, on the other
+    /// side of a step that perhaps changed the parts that it may. If it looks at none, they are
+    /// not.
     #[inline(never)]
     #[tactic(auto, using(crate::proofs::SameNumbers::same_numbers, crate::proofs::SameNumbers::is_entity))]
     fn has_same_numbers<S: SetBoard>(
@@ -153,8 +154,8 @@ impl Reading {
         self.count_again(debugger, question)
     }
 
-    /// Reads the answer where the debugger stands now, where all else is read. Gives the answer
-    /// before, where it was another one.
+    /// Reads the answer in the debugger's present state, when all else is read. Gives the answer
+    /// before, if it was another one.
     #[inline(never)]
     fn answer_again<S: SetBoard>(
         &mut self,
@@ -183,8 +184,8 @@ impl Reading {
         Ok(Some(before))
     }
 
-    /// The same as `follow`, of a question whose answer the numbers of an entity tell: nothing is
-    /// seen of that at a glance.
+    /// Does as `follow` for a question whose answer the numbers of an entity give: nothing of it is
+    /// seen at a glance.
     #[inline(always)]
     #[tactic(auto, using(crate::proofs::Changes::same_as_itself))]
     fn follow_entity<S: SetBoard>(
@@ -223,9 +224,9 @@ impl Reading {
         self.answer_again(debugger, question)
     }
 
-    /// Reads the answer where the debugger stands now, on the other side of a step that perhaps may
-    /// change it although the same is seen: else none is made, nor where an entity's numbers are the
-    /// same. Gives the answer before, where it was another one.
+    /// Reads the answer in the debugger's present state, on the other side of a step. It makes no
+    /// answer if the same is seen and the step may change nothing else, nor if an entity's numbers
+    /// are the same. Gives the answer before, if it was another one.
     #[inline(always)]
     #[tactic(auto, using(crate::proofs::Changes::same_as_itself))]
     pub fn follow<S: SetBoard>(

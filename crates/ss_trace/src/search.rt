@@ -1,4 +1,4 @@
-//! What each movement does.
+//! The effect of each movement.
 ghost use Rattle.std.specs.Prelude.{◌≡◌, ◌++◌, OnOk, OnErr, ℕ, List, codes};
 ghost use Rattle.ss_state.specs.Run.{Input};
 ghost use Rattle.ss_debug.specs.Move.{search_back, shape_of as standing_shape};
@@ -49,7 +49,7 @@ fn make_standing<S: SetBoard>(
     Ok(())
 }
 
-/// A movement forward to what is looked for or a break line, and its answer.
+/// A movement forward to a state that is looked for or a break line, and its answer.
 fn go_ahead<S: SetBoard>(
     debugger: &mut Debugger<S>,
     sought: Sought,
@@ -96,7 +96,7 @@ fn go_over<S: SetBoard>(
     debugger.push_movement(forward_word(debugger, b"DONE", from, left == 0), bytes)
 }
 
-/// A movement back to what is looked for, and its answer.
+/// A movement back to a state that is looked for, and its answer.
 fn go_back_to<S: SetBoard>(
     debugger: &mut Debugger<S>,
     sought: Sought,
@@ -182,7 +182,7 @@ fn go_back_to_change<S: SetBoard>(
     debugger.push_movement(backward_word(debugger, b"CHANGE", met), bytes)
 }
 
-/// How GO is made from position `from`: so many steps back or forward.
+/// The steps of GO from position `from`: a number of them back or forward.
 fn go_steps(from: u64, to: u64) -> Standing
     ensures { (t : Input) → (breaks : List ℕ) → standing_shape t breaks result ≡ go_shape from to }
 {
@@ -195,9 +195,9 @@ fn go_steps(from: u64, to: u64) -> Standing
 
 /// Makes a movement, and appends its whole answer to `bytes`.
 ///
-/// `AllocError` where a growth was refused: `bytes`, the break lines and the earliest kept position
-/// are as before; a movement forward was made in part, and the machine stands where the steps that
-/// were made led; one back was made as a whole, but BACK CHANGE in part too.
+/// `AllocError` if a growth was refused: `bytes`, the break lines and the earliest kept position
+/// are as before. A movement forward was made in part, and the machine is at the position to which
+/// the steps that were made led. One back was made as a whole, but BACK CHANGE in part too.
 #[tactic(auto, unfolding(crate::specs::Movements::shape_of))]
 pub fn make_movement<S: SetBoard>(
     debugger: &mut Debugger<S>,

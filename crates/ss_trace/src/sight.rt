@@ -1,4 +1,5 @@
-//! Where a question looks, and what is seen there. The type is told by definitions, for proofs alone.
+//! The rows at which a question looks, and the values that are seen there. The definitions name the
+//! type, only for proofs.
 ghost use Rattle.std.specs.Prelude.{◌≡◌, ◌<◌, length, drop, take, pos, Some, IfSome};
 ghost use Rattle.std.specs.Result.{result_unwrap_or};
 ghost use Rattle.ss_program.specs.Program.{set_of};
@@ -20,7 +21,7 @@ use ss_links::SetBoard;
 use ss_machine::Machine;
 use ss_program::{Owner, Program, Variable};
 
-/// Where a question looks: the rows of the program's tables for which its names stand.
+/// The rows of the program's tables at which a question looks: those that its names mean.
 #[derive(Clone, Copy)]
 pub enum Sight {
     /// At nothing that is seen at a glance.
@@ -37,7 +38,7 @@ pub enum Sight {
     Entry,
     /// At the report.
     Report,
-    /// At an entity of a class, with all that is told of it: not at a glance, but by its numbers.
+    /// At an entity of a class, with all its lines: not at a glance, but by its numbers.
     Entity(usize, i64),
     /// At whether an entity of a class exists.
     Living(usize, i64),
@@ -64,7 +65,8 @@ fn sight_of_variable(program: &Program, name: &[u8]) -> Sight
     }
 }
 
-/// Where `c k a` looks for a kept attribute in a set: whether the entities of the class have it.
+/// The sight of `c k a` for a kept attribute in a set, if the entities of the class have it; else
+/// whether the entity exists.
 fn sight_of_kept_in(program: &Program, class: usize, x: i64, kept: Kept, set: usize) -> Sight
     requires { set < length program.now.sets }
     ensures sight { result ≡ sight_of_kept program.now class x (Some kept) (Some set) }
@@ -76,8 +78,8 @@ fn sight_of_kept_in(program: &Program, class: usize, x: i64, kept: Kept, set: us
     Sight::Living(class, x)
 }
 
-/// The same where there are such a kept attribute and such a set, and else whether the entity
-/// exists.
+/// The sight of `c k a` for a kept attribute, if there are such an attribute and such a set; else
+/// whether the entity exists.
 fn sight_of_kept(
     program: &Program,
     class: usize,
@@ -165,7 +167,7 @@ fn sight_of_entity(program: &Program, class: &[u8], x: i64) -> Sight
     }
 }
 
-/// Where a question of the debugger looks.
+/// The sight of a question of the debugger.
 fn sight_of_shown(program: &Program, shown: &Shown) -> Sight
     ensures sight { result ≡ sight_of program.now (questions.Shown shown.now) }
     ensures within { IsInTables program.now result }
@@ -182,7 +184,7 @@ fn sight_of_shown(program: &Program, shown: &Shown) -> Sight
     }
 }
 
-/// Where a question looks.
+/// The sight of a question.
 pub fn sight_of(program: &Program, question: &Question) -> Sight
     ensures sight { result ≡ sight_of program.now question.now }
     ensures within { IsInTables program.now result }
@@ -272,7 +274,7 @@ fn living_seen<S: SetBoard>(machine: &Machine<S>, class: usize, x: i64) -> Optio
     }
 }
 
-/// What is seen where the debugger stands.
+/// The glance at the debugger's present state.
 pub fn glance_of<S: SetBoard>(debugger: &Debugger<S>, question: &Question, sight: Sight) -> Glance
     requires { IsInTables debugger.now.machine.input.program sight }
     ensures { result ≡ glance_of debugger.now.machine.input.program debugger.now.machine.state

@@ -1,5 +1,5 @@
-//! What a movement looks for, and single steps on the way there. The type is told by definitions,
-//! for proofs alone.
+//! The states that a movement looks for, and single steps on the way there. The definitions name
+//! the type, only for proofs.
 ghost use Rattle.std.specs.Prelude.{◌≡◌, ◌+◌, ◌<◌, OnOk, OnErr, true};
 ghost use Rattle.ss_machine.specs.Moment.{position};
 ghost use Rattle.ss_state.specs.declared.limits.TheConstants.{LAST_POSITION};
@@ -12,12 +12,12 @@ use ss_links::SetBoard;
 use ss_state::Status;
 use std::alloc::AllocError;
 
-/// What a movement looks for, at another position than where it begins.
+/// The states that a movement looks for, at another position than its start.
 #[derive(Clone, Copy)]
 pub enum Sought {
-    /// No more frames than so many.
+    /// No more than this number of frames.
     Level(usize),
-    /// Fewer frames than so many.
+    /// Fewer than this number of frames.
     Outside(usize),
     /// A clock before this time.
     Before(u64),
@@ -32,7 +32,7 @@ pub fn is_ready_now<S: SetBoard>(debugger: &Debugger<S>) -> bool
     matches!(debugger.machine().status(), Status::Ready)
 }
 
-/// Whether the machine's state is what a movement looks for.
+/// Whether the machine's state is one that a movement looks for.
 pub fn is_found<S: SetBoard>(debugger: &Debugger<S>, sought: Sought) -> bool
     ensures { result ≡ sought_test debugger.now.machine.input sought
         (position debugger.now.machine) }
@@ -46,7 +46,7 @@ pub fn is_found<S: SetBoard>(debugger: &Debugger<S>, sought: Sought) -> bool
     }
 }
 
-/// Whether a movement from position `from` stops where the machine stands.
+/// Whether a movement from position `from` stops at the machine's present state.
 pub fn is_at_stop<S: SetBoard>(debugger: &Debugger<S>, sought: Sought, from: u64) -> bool
     ensures { result ≡ is_stop debugger.now.machine.input
         (ahead_condition debugger.now.machine.input debugger.now.breaks

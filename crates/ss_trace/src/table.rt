@@ -25,7 +25,7 @@ const SECTION_WIDTH: usize = 12;
 
 const LINE_WIDTH: usize = 5;
 
-/// Appends so many blanks.
+/// Appends a number of blanks.
 fn push_blanks(bytes: &mut Vec<u8>, count: usize) -> Result<(), AllocError>
     ensures { OnOk result (bytes.new.items ≡ bytes.old.items ++ replicate count 32) }
 {
@@ -35,7 +35,7 @@ fn push_blanks(bytes: &mut Vec<u8>, count: usize) -> Result<(), AllocError>
     Ok(())
 }
 
-/// Appends a text behind blanks, at least `width` bytes.
+/// Appends a text after blanks, at least `width` bytes.
 fn push_right(bytes: &mut Vec<u8>, width: usize, text: &[u8]) -> Result<(), AllocError>
     ensures { OnOk result (bytes.new.items ≡ bytes.old.items ++ to_right width text.now) }
 {
@@ -43,7 +43,7 @@ fn push_right(bytes: &mut Vec<u8>, width: usize, text: &[u8]) -> Result<(), Allo
     bytes.extend_from_slice(text)
 }
 
-/// Appends a text with blanks behind it, at least `width` bytes.
+/// Appends a text with blanks after it, at least `width` bytes.
 fn push_left(bytes: &mut Vec<u8>, width: usize, text: &[u8]) -> Result<(), AllocError>
     ensures { OnOk result (bytes.new.items ≡ bytes.old.items ++ to_left width text.now) }
 {
@@ -111,7 +111,7 @@ pub fn push_with_head(
     bytes.extend_from_slice(rows)
 }
 
-/// The line of the place where the debugger stands.
+/// The line of the debugger's present place.
 pub fn present_line<S: SetBoard>(debugger: &Debugger<S>) -> usize
     ensures { result ≡ line_at debugger.now.machine.input (position debugger.now.machine) }
 {
@@ -121,7 +121,7 @@ pub fn present_line<S: SetBoard>(debugger: &Debugger<S>) -> usize
     machine.program().spot(section, place).line
 }
 
-/// The name of the section where the debugger stands.
+/// The name of the debugger's present section.
 fn present_section<S: SetBoard>(debugger: &Debugger<S>) -> &[u8]
     ensures { result.now ≡ section_at debugger.now.machine.input (position debugger.now.machine) }
 {
@@ -131,7 +131,7 @@ fn present_section<S: SetBoard>(debugger: &Debugger<S>) -> &[u8]
     &machine.program().section(section).name.bytes
 }
 
-/// Appends the row of the step from where the debugger stands, behind which the answer is this.
+/// Appends the row of the debugger's next step; `after` is the answer after the step.
 pub fn push_step_row<S: SetBoard>(
     bytes: &mut Vec<u8>,
     debugger: &Debugger<S>,
@@ -177,7 +177,7 @@ fn push_earliest<S: SetBoard>(bytes: &mut Vec<u8>, debugger: &Debugger<S>) -> Re
     push_number(bytes, earliest(debugger))
 }
 
-/// Appends what is said where a question did not change.
+/// Appends the text for a question that did not change.
 #[tactic(auto, unfolding(crate::specs::History::no_change_head))]
 fn push_no_change_head(bytes: &mut Vec<u8>) -> Result<(), AllocError>
     ensures { OnOk result (bytes.new.items ≡ bytes.old.items ++ no_change_head) }
@@ -198,7 +198,7 @@ pub fn push_no_change<S: SetBoard>(
     bytes.extend_from_slice(b"\n")
 }
 
-/// Appends a line that tells a question with its values before and after, by its answers.
+/// Appends a line of a question with its values before and after, by its answers.
 pub fn push_change_line(
     bytes: &mut Vec<u8>,
     question: &Question,

@@ -8,8 +8,8 @@ use crate::sought::is_ready_now;
 use ss_debug::Debugger;
 use ss_links::SetBoard;
 
-/// The word of a movement forward that began at `from` and ended where the machine stands, where
-/// it perhaps met what it looks for.
+/// The word of a movement forward that began at `from` and ended at the machine's present state.
+/// `met` says whether it met the state that it looks for.
 pub fn forward_word<S: SetBoard>(
     debugger: &Debugger<S>,
     word: &'static [u8],
@@ -31,8 +31,8 @@ pub fn forward_word<S: SetBoard>(
     b"BOUND"
 }
 
-/// The word of a movement back that ended where the machine stands, where it perhaps met what it
-/// looks for.
+/// The word of a movement back that ended at the machine's present state. `met` says whether it met
+/// the state that it looks for.
 pub fn backward_word<S: SetBoard>(
     debugger: &Debugger<S>,
     word: &'static [u8],

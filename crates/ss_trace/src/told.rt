@@ -1,4 +1,4 @@
-//! Whether what a step may have changed of an entity is as its numbers on the other side tell.
+//! Whether all that a step may have changed of an entity agrees with its numbers on the other side.
 ghost use Rattle.std.specs.Prelude.{◌≡◌, ◌<◌, ◌+◌, ◌^◌, [], length, pos, slice_index_or, unwrap_or};
 ghost use Rattle.std.specs.Prelude.{if◌then◌else◌};
 ghost use Rattle.ss_program.specs.Program.{class_of};
@@ -18,7 +18,7 @@ use ss_machine::Machine;
 use ss_program::Program;
 use ss_store::Neighbours;
 
-/// How many numbers a set tells of an entity.
+/// How many numbers a set has for an entity.
 pub const NUMBERS_OF_A_SET: usize = 6;
 
 /// Whether a number of some is this one.
@@ -46,7 +46,7 @@ fn tells_attribute<S: SetBoard>(
     tells(numbers, attribute, value)
 }
 
-/// The values of all attributes of an entity, none where it does not exist.
+/// The values of all attributes of an entity, none if it does not exist.
 fn attributes_of<S: SetBoard>(machine: &Machine<S>, class: usize, x: i64) -> &[i64]
     ensures { result.now
         ≡ unwrap_or (attributes_of machine.now.state.store class (number_of x)) [] }
@@ -57,7 +57,7 @@ fn attributes_of<S: SetBoard>(machine: &Machine<S>, class: usize, x: i64) -> &[i
     }
 }
 
-/// Whether a number of some is that of others, 0 standing for those that there are not.
+/// Whether a number of some is that of others, with 0 for a number that is not there.
 fn tells_value(numbers: &[i64], values: &[i64], at: usize) -> bool
     ensures { result ≡ tells numbers.now at (slice_index_or values.now at (pos 0)) }
 {
@@ -84,7 +84,7 @@ fn tells_attributes<S: SetBoard>(
     true
 }
 
-/// Where what a set tells begins among the numbers of an entity.
+/// The place at which the numbers of a set begin among the numbers of an entity.
 fn set_place(program: &Program, class: usize, set: usize) -> usize
     requires class { class < length program.now.classes }
     requires set { set < length program.now.sets }
@@ -95,7 +95,7 @@ fn set_place(program: &Program, class: usize, set: usize) -> usize
     program.attributes(class).len() + NUMBERS_OF_A_SET * set
 }
 
-/// Where a kept attribute stands among the numbers that a set tells.
+/// The place of a kept attribute among the numbers of a set.
 fn kept_place(kept: Kept) -> usize
     ensures place { result ≡ kept_place kept }
     ensures within { result < NUMBERS_OF_A_SET }
@@ -110,7 +110,7 @@ fn kept_place(kept: Kept) -> usize
     }
 }
 
-/// Whether the numbers that a set tells have 0 for a kept attribute.
+/// Whether the numbers of a set have 0 for a kept attribute.
 fn told_none(numbers: &[i64], at: usize, kept: Kept) -> bool
     requires { at + NUMBERS_OF_A_SET < 2 ^ 64 }
     ensures { result ≡ told_none numbers.now at kept }
@@ -118,7 +118,7 @@ fn told_none(numbers: &[i64], at: usize, kept: Kept) -> bool
     tells(numbers, at + kept_place(kept), 0)
 }
 
-/// Whether a kept attribute of an entity is as the numbers of the set tell.
+/// Whether a kept attribute of an entity agrees with the numbers of the set.
 fn tells_kept<S: SetBoard>(
     numbers: &[i64],
     at: usize,
@@ -137,7 +137,7 @@ fn tells_kept<S: SetBoard>(
     tells(numbers, at + kept_place(kept), value)
 }
 
-/// Whether the numbers that a set tells have this one for a kept attribute.
+/// Whether the numbers of a set have this one for a kept attribute.
 fn tells_number(numbers: &[i64], at: usize, kept: Kept, value: u32) -> bool
     requires { at + NUMBERS_OF_A_SET < 2 ^ 64 }
     ensures { result ≡ tells numbers.now (at + kept_place kept) (pos value) }
@@ -145,7 +145,7 @@ fn tells_number(numbers: &[i64], at: usize, kept: Kept, value: u32) -> bool
     tells(numbers, at + kept_place(kept), i64::from(value))
 }
 
-/// Whether what a set tells of an entity as a member is that these are beside it.
+/// Whether the numbers of a set for an entity as a member agree with these neighbours.
 fn tells_beside(numbers: &[i64], at: usize, now: Neighbours) -> bool
     requires { at + NUMBERS_OF_A_SET < 2 ^ 64 }
     ensures { result ≡ tells_beside numbers.now at (pos (unwrap_or now.before 0))
@@ -162,7 +162,7 @@ fn tells_beside(numbers: &[i64], at: usize, now: Neighbours) -> bool
         && (!was_alone || is_member)
 }
 
-/// Whether what a set tells of an entity as a member is as it was.
+/// Whether the numbers of a set for an entity as a member are as they were.
 #[tactic(auto, using(crate::proofs::Neighbours::beside_is))]
 fn tells_member<S: SetBoard>(
     numbers: &[i64],
@@ -180,7 +180,7 @@ fn tells_member<S: SetBoard>(
     tells_beside(numbers, at, neighbours_of(machine, class, x, set))
 }
 
-/// Whether what a set tells of an entity is as it was.
+/// Whether the numbers of a set for an entity are as they were.
 fn tells_set<S: SetBoard>(
     numbers: &[i64],
     machine: &Machine<S>,
@@ -198,7 +198,7 @@ fn tells_set<S: SetBoard>(
         && tells_member(numbers, at, machine, class, x, set)
 }
 
-/// Whether what all sets tell of an entity is as it was.
+/// Whether the numbers of all sets for an entity are as they were.
 #[tactic(auto, using(crate::proofs::Telling::sets_more, crate::proofs::Telling::sets_less))]
 fn tells_sets<S: SetBoard>(numbers: &[i64], machine: &Machine<S>, class: usize, x: i64) -> bool
     requires { class < length machine.now.input.program.classes }
@@ -224,7 +224,7 @@ fn tells_all<S: SetBoard>(numbers: &[i64], machine: &Machine<S>, class: usize, x
         && tells_sets(numbers, machine, class, x)
 }
 
-/// Whether what a step may have changed of an entity that existed is as it was.
+/// Whether all that a step may have changed of an entity that existed is as it was.
 fn tells_touched<S: SetBoard>(
     numbers: &[i64],
     machine: &Machine<S>,
@@ -253,7 +253,7 @@ fn tells_touched<S: SetBoard>(
     }
 }
 
-/// Whether what a step may have changed of an entity is as its numbers told before.
+/// Whether all that a step may have changed of an entity agrees with its numbers before.
 fn tells_entity<S: SetBoard>(
     numbers: &[i64],
     machine: &Machine<S>,
@@ -273,8 +273,8 @@ fn tells_entity<S: SetBoard>(
     }
 }
 
-/// Whether what a step may have changed of the entity at which a question looks is as its numbers
-/// told on the other side of the step; where it looks at none, it is not.
+/// Whether all that a step may have changed of the entity at which a question looks agrees with its
+/// numbers on the other side of the step. If it looks at none, it does not.
 pub fn is_told<S: SetBoard>(
     numbers: &[i64],
     machine: &Machine<S>,

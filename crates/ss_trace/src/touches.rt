@@ -1,5 +1,5 @@
-//! How much a step may change of the parts of a state that no glance tells. The types are told by
-//! definitions, for proofs alone.
+//! How much a step may change of the parts of a state that no glance shows. The definitions name
+//! the types, only for proofs.
 ghost use Rattle.std.specs.Prelude.{◌≡◌};
 ghost use Rattle.ss_machine.specs.Moment.{position};
 ghost use Rattle.ss_trace.specs.Touches.{touched_target, touched_assign, touched_removal, touched_filing};
@@ -12,12 +12,12 @@ use ss_debug::{Debugger, Question as Shown};
 use ss_links::SetBoard;
 use ss_program::{Assign, Control, Filing, Looping, Making, Place, Target};
 
-/// A part of a state at which a question looks beside its glance.
+/// A part of a state at which a question looks, next to its glance.
 #[derive(Clone, Copy)]
 pub enum Part {
     /// Any part.
     Anything,
-    /// None: its glance tells all.
+    /// None: its glance shows all.
     Nothing,
     /// Entities with their attributes and the lists of sets, whose numbers are compared then.
     Entities,
@@ -57,7 +57,7 @@ pub fn part_of(question: &Question) -> Part
     }
 }
 
-/// What is touched where a value is assigned.
+/// The touch of an assigned value.
 fn touched_target(target: &Target) -> Touch
     ensures { result ≡ touched_target target.now }
 {
@@ -80,7 +80,7 @@ fn touched_assign(assign: &Assign) -> Touch
     }
 }
 
-/// What is touched where a member is removed from a list of a set and goes to a target.
+/// The touch of a removal from a list of a set, if the member goes to a target.
 fn touched_removal(target: &Target, set: usize) -> Touch
     ensures { result ≡ touched_removal target.now set }
 {
@@ -101,7 +101,7 @@ fn touched_filing(filing: &Filing) -> Touch
     }
 }
 
-/// What ends a section assigns what it yields.
+/// The end of a section assigns the value that it yields.
 fn touched_control(control: Control) -> Touch
     ensures { result ≡ touched_control control }
 {
@@ -111,7 +111,7 @@ fn touched_control(control: Control) -> Touch
     }
 }
 
-/// What goes through cases assigns the statistics that it tells.
+/// A statement that goes through cases assigns the statistics that it gives.
 fn touched_looping(looping: &Looping) -> Touch
     ensures { result ≡ touched_looping looping.now }
 {
@@ -121,14 +121,14 @@ fn touched_looping(looping: &Looping) -> Touch
     }
 }
 
-/// Whether what makes or ends entities makes all of a class.
+/// Whether a statement that makes or ends entities makes all of a class.
 fn makes_a_class(making: &Making) -> bool
     ensures { result ≡ makes_a_class making.now }
 {
     matches!(making, Making::CreateEvery { .. })
 }
 
-/// What is touched where entities are made or ended.
+/// The touch of a statement that makes or ends entities.
 fn touched_making(making: &Making) -> Touch
     ensures { result ≡ touched_making making.now }
 {
@@ -139,7 +139,7 @@ fn touched_making(making: &Making) -> Touch
     }
 }
 
-/// What the step of a place may change of entities and lists.
+/// How much the step of a place may change of entities and lists.
 fn touched_entities(place: &Place) -> Touch
     ensures { result ≡ touched_entities place.now }
 {
@@ -155,7 +155,7 @@ fn touched_entities(place: &Place) -> Touch
     }
 }
 
-/// What the step of a place may change of lists, otherwise than by a member more or less.
+/// How much the step of a place may change of lists, otherwise than by a member more or less.
 fn touched_lists(place: &Place) -> Touch
     ensures { result ≡ touched_lists place.now }
 {
@@ -165,7 +165,7 @@ fn touched_lists(place: &Place) -> Touch
     }
 }
 
-/// What the step of a place may change of the pending notices.
+/// How much the step of a place may change of the pending notices.
 fn touched_notices(place: &Place) -> Touch
     ensures { result ≡ touched_notices place.now }
 {
@@ -175,7 +175,7 @@ fn touched_notices(place: &Place) -> Touch
     }
 }
 
-/// What the step of a place may change of a part.
+/// How much the step of a place may change of a part.
 fn touched_part(part: Part, place: &Place) -> Touch
     ensures { result ≡ touched_part part place.now }
 {
@@ -188,7 +188,7 @@ fn touched_part(part: Part, place: &Place) -> Touch
     }
 }
 
-/// What the step of the place where the debugger stands may change of a part.
+/// How much the step of the debugger's present place may change of a part.
 #[inline(always)]
 fn touched_by_place<S: SetBoard>(debugger: &Debugger<S>, part: Part) -> Touch
     ensures { result
@@ -200,7 +200,7 @@ fn touched_by_place<S: SetBoard>(debugger: &Debugger<S>, part: Part) -> Touch
     touched_part(part, &machine.program().spot(section, place).place)
 }
 
-/// How much the step from where the debugger stands may change of a part.
+/// How much the debugger's next step may change of a part.
 #[inline(always)]
 pub fn touched_here<S: SetBoard>(debugger: &Debugger<S>, part: Part) -> Touch
     ensures { result

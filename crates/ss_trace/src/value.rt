@@ -1,4 +1,4 @@
-//! The value that an answer tells, in one line.
+//! The value that an answer gives, in one line.
 ghost use Rattle.std.specs.Prelude.{◌≡◌, ◌++◌, ◌≤◌, OnOk, drop, length, nat_eq};
 ghost use Rattle.std.specs.List.{position_or_len};
 ghost use Rattle.ss_trace.specs.declared.question.Question.TheVariants as questions;
@@ -9,7 +9,7 @@ use crate::question::Question;
 use ss_debug::{Question as Shown, push_number};
 use std::alloc::AllocError;
 
-/// How many bytes stand before the report in the answer that shows it.
+/// How many bytes come before the report in the answer that shows it.
 const REPORT_HEAD: usize = 7;
 
 /// Whether an answer says that there is no such thing.
@@ -38,7 +38,7 @@ fn place_of(byte: u8, text: &[u8]) -> usize
     text.len()
 }
 
-/// What stands behind the first of these bytes; nothing where there is none.
+/// The text after the first of these bytes; nothing if there is none.
 fn behind(byte: u8, text: &[u8]) -> &[u8]
     ensures { result.now ≡ behind byte text.now }
 {
@@ -63,7 +63,7 @@ fn without_first(text: &[u8]) -> &[u8]
     &text[text.len().min(1)..]
 }
 
-/// Appends a byte of lines that are joined, which stands before others.
+/// Appends a byte of lines that are joined; `rest` is the bytes after it.
 fn push_joined_byte(bytes: &mut Vec<u8>, byte: u8, rest: &[u8]) -> Result<(), AllocError>
     ensures { OnOk result (bytes.new.items ≡ bytes.old.items ++ joined_byte byte rest.now) }
 {
@@ -88,7 +88,7 @@ fn push_joined(bytes: &mut Vec<u8>, lines: &[u8]) -> Result<(), AllocError>
     Ok(())
 }
 
-/// The same, or `LIVES` where there are none.
+/// Appends lines in one, or `LIVES` if there are none.
 fn push_joined_or_lives(bytes: &mut Vec<u8>, lines: &[u8]) -> Result<(), AllocError>
     ensures { OnOk result (bytes.new.items ≡ bytes.old.items ++ or_lives (joined_lines lines.now)) }
 {
@@ -108,7 +108,7 @@ fn push_report_value(bytes: &mut Vec<u8>, answer: &[u8]) -> Result<(), AllocErro
     bytes.extend_from_slice(b" BYTES")
 }
 
-/// Appends the value that an answer to a question of the debugger tells.
+/// Appends the value that an answer to a question of the debugger gives.
 fn push_shown_value(shown: &Shown, answer: &[u8], bytes: &mut Vec<u8>) -> Result<(), AllocError>
     ensures { OnOk result (bytes.new.items ≡ bytes.old.items
         ++ told_value (questions.Shown shown.now) answer.now) }
@@ -125,10 +125,10 @@ fn push_shown_value(shown: &Shown, answer: &[u8], bytes: &mut Vec<u8>) -> Result
     }
 }
 
-/// Appends the value that the answer to a question tells, in one line; `NONE` where it says that
-/// there is no such thing.
+/// Appends the value that the answer to a question gives, in one line; `NONE` if it says that there
+/// is no such thing.
 ///
-/// `AllocError` where a growth was refused; then what was appended does not count.
+/// `AllocError` if a growth was refused; then the appended bytes do not count.
 pub fn push_value(question: &Question, answer: &[u8], bytes: &mut Vec<u8>) -> Result<(), AllocError>
     ensures { OnOk result (bytes.new.items ≡ bytes.old.items
         ++ value_in question.now answer.now) }

@@ -1,4 +1,4 @@
--- One factor alone.
+-- Sums of one factor only.
 use Rattle.std.proofs.Common.{◌≡◌, ℤ, refl}
 use Rattle.std.specs.Prelude.{Result, Ok, Err, None}
 use Rattle.ss_words.specs.declared.fault.RunFault.{RunFault}

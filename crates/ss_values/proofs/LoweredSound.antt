@@ -1,4 +1,4 @@
--- What a sound expression is lowered to names variables of the tables alone.
+-- The operations of a sound expression name only variables of the tables.
 use Rattle.std.proofs.Common.{◌≡◌, ℕ, ℤ, List, [], ◌∷◌, ◌++◌, sym, subst, arith}
 use Rattle.std.specs.Prelude.{Option, Some, None, IfSome, Bool, true, false, unwrap_or, if◌then◌else◌}
 use Rattle.std.specs.List.{All}
@@ -29,7 +29,7 @@ use Rattle.ss_values.proofs.Options.{then_holds, map_holds, always}
 sound_none : (sc : Scope) → All (IsSoundOp sc) []
 sound_none sc k d below = absurd (omega (arith, below))
 
--- one alone
+-- one only
 sound_one : (sc : Scope) (op : Op) → IsSoundOp sc op → All (IsSoundOp sc) (op ∷ [])
 sound_one sc op one = All-cons (IsSoundOp sc) op [] one (sound_none sc)
 
@@ -40,12 +40,12 @@ sound-snoc sc code op sound one = All-push (IsSoundOp sc) code op sound one
 
 -- ---- variables
 
--- of a factor alone in a term
+-- of the factor of a term of one factor only
 lone_factor_sound : (sc : Scope) (t : Term) → IsSoundTerm sc t → IfSome (lone_factor t) (IsSoundFactor sc)
 lone_factor_sound sc (term f no_products) sound = sound.0
 lone_factor_sound sc (term f (product g ps)) sound = tt
 
--- of one alone in an expression
+-- of the factor of an expression of one factor only
 factor_alone_sound : (sc : Scope) (e : Expr) → IsSoundExpr sc e → IfSome (factor_alone e) (IsSoundFactor sc)
 factor_alone_sound sc (expr None t no_sums) sound = lone_factor_sound sc t sound.0
 factor_alone_sound sc (expr None t (sum s u ss)) sound = tt
@@ -105,7 +105,7 @@ sound_attribute_op sc Minus c a (Global i) sound = sound
 sound_attribute_op sc Minus c a (Local i) sound = sound
 sound_attribute_op sc Minus c a Clock sound = tt
 
--- a factor alone
+-- a term of one factor only
 sound_lone_term_op : (sc : Scope) (s : TermSign) (f : Factor)
     → IsSoundFactor sc f → IfSome (lone_term_op s f) (IsSoundOp sc)
 sound_lone_term_op sc s (digits n) sound =

@@ -1,4 +1,4 @@
--- What an expression is lowered to has its value, or the same fault.
+-- The operations of an expression give its value, or its fault.
 use Rattle.std.proofs.Common.{◌≡◌, ℕ, ℤ, pos, ◌*ℤ◌, List, [], ◌∷◌, ◌++◌, refl, sym, ap, subst, ◌∙◌}
 use Rattle.std.specs.Prelude.{◌≢◌, Option, Some, None, IfSome, Result, Ok, Err, Bool, true, false, unwrap_or}
 use Rattle.std.specs.Prelude.{if◌then◌else◌}
@@ -29,7 +29,7 @@ use Rattle.ss_values.specs.Values.{quotient_value, remainder_value}
 use Rattle.ss_values.specs.Running.{acted, run}
 use Rattle.ss_values.proofs.Options.{then_holds, map_holds, is_held}
 
--- ---- what follows from values that were got
+-- ---- steps after values that were read
 
 -- one after the other
 bind_assoc : (r : Result ℤ RunFault) (f g : ℤ → Result ℤ RunFault) → ((r >>= f) >>= g) ≡ (r >>= λ x. f x >>= g)
@@ -62,7 +62,7 @@ constant_is n = go (in_range (pos n))
     go true = refl
     go false = tt
 
--- a factor alone has the term's value
+-- a term of one factor only has the value of the factor
 lone_factor_is : (v : Readings) (t : Term) → IfSome (lone_factor t) (λ f. term_value v t ≡ factor_value v f)
 lone_factor_is v (term f no_products) = bind_ok (factor_value v f)
 lone_factor_is v (term f (product g ps)) = tt
@@ -143,7 +143,7 @@ law_attribute_op v Minus c a (Global i) = λ x. refl
 law_attribute_op v Minus c a (Local i) = λ x. refl
 law_attribute_op v Minus c a Clock = tt
 
--- a factor alone
+-- a term of one factor only
 law_lone_term_op : (v : Readings) (s : TermSign) (f : Factor)
     → IfSome (lone_term_op s f) (λ op. (x : ℤ) → acted v op x ≡ (factor_value v f >>= λ y. sum_or_difference s x y))
 law_lone_term_op v s (digits n) =
@@ -242,7 +242,7 @@ law_load v x (Local i) = refl
 law_load v x Clock = refl
 
 mutual
-  -- an expression: whatever stood in the accumulator
+  -- an expression: its value does not depend on the old value of the accumulator
   law_expr : (v : Readings) (e : Expr) → IfSome (lowered e) (λ c. (x : ℤ) → run v x c ≡ value_of v e)
   law_expr v (expr l t ss) =
       then_holds _ _ _ (lowered_term t) (law_lowered_term v t)

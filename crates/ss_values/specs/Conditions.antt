@@ -1,4 +1,4 @@
--- The truth of a condition: AND and OR stop where they are decided.
+-- The truth of a condition: AND and OR stop when they are decided.
 use Rattle.std.specs.Prelude.{ℤ, int_lt, int_le, ◌==◌, Bool, true, false, not, Result, Ok}
 use Rattle.std.specs.Ordering.{int_eq}
 use Rattle.ss_words.specs.declared.fault.RunFault.{RunFault}
@@ -26,12 +26,12 @@ comparison_holds Greater x y = int_lt y x
 comparison_holds AtMost x y = int_le x y
 comparison_holds AtLeast x y = int_le y x
 
--- the truth of what follows, unless the first is true
+-- the truth of the second part, unless the first part is true
 abbrev pub true_or : Bool → Result Bool RunFault → Result Bool RunFault
 true_or true r = Ok true
 true_or false r = r
 
--- the truth of what follows, if the first is true
+-- the truth of the second part, if the first part is true
 abbrev pub true_and : Bool → Result Bool RunFault → Result Bool RunFault
 true_and true r = r
 true_and false r = Ok false
@@ -57,7 +57,7 @@ is_in_list readings expression set =
     value_of readings expression >>= λ x. owner_value readings set
     >>= λ o. member_stands (set_of readings.tables set.set) readings.store (number_of o) (number_of x)
 
--- each part from the left; b is the truth of what stands before further conjunctions or relations
+-- each part from the left; b is the truth of the part before further conjunctions or relations
 abbrev mutual
   -- a condition
   pub holds : Readings → Condition → Result Bool RunFault

@@ -1,3 +1,4 @@
+-- The definitions of this crate that other crates may use come from these modules.
 pub mod Faults
 pub mod Values
 pub mod Conditions

@@ -1,4 +1,4 @@
--- What the operations of a linear expression make of an accumulator.
+-- The changes of an accumulator by the operations of a linear expression.
 use Rattle.std.specs.Prelude.{◌<◌, ℤ, pos, neg_ℤ, ◌+ℤ◌, ◌-ℤ◌, ◌*ℤ◌, unsigned_abs, List, [], ◌∷◌, Result, Ok}
 use Rattle.ss_words.specs.declared.fault.RunFault.{RunFault}
 use Rattle.ss_program.specs.declared.variable.Variable.TheVariants.{Global, Local, Clock}
@@ -16,7 +16,7 @@ use Rattle.ss_store.specs.Store.{number_of, attribute_of}
 use Rattle.ss_values.specs.Faults.{◌>>=◌}
 use Rattle.ss_values.specs.Values.{Readings, result_in_range, variable_value, quotient_value, remainder_value}
 
--- what an operation makes of the accumulator, or its fault
+-- the new value of the accumulator after an operation, or its fault
 abbrev pub acted : Readings → Op → ℤ → Result ℤ RunFault
 acted v (LoadConstant c) x = Ok c
 acted v (LoadGlobal i) x = Ok (variable_value v (Global i))
@@ -53,7 +53,7 @@ acted v (RemainderConstant c) x = remainder_value x c
 acted v Negate x = result_in_range (neg_ℤ x)
 acted v Absolute x = result_in_range (pos (unsigned_abs x))
 
--- what several make of it, in order, or the first fault
+-- the new value of the accumulator after several operations in order, or the first fault
 abbrev pub run : Readings → ℤ → List Op → Result ℤ RunFault
 run v x [] = Ok x
 run v x (op ∷ ops) = acted v op x >>= λ y. run v y ops

@@ -1,10 +1,10 @@
--- What a view shows: the readings of values, and what the places of a program may name there. Public contracts cite it.
+-- The readings of a view, and the tables that places may name rows of. Public contracts cite it.
 use Rattle.std.specs.Prelude.{length, map}
 use Rattle.ss_program.specs.ProgramSound.{Scope}
 use Rattle.ss_values.specs.declared.view.View.{View}
 use Rattle.ss_values.specs.Values.{Readings}
 
--- what values are read of a view
+-- the readings of a view
 abbrev pub view_readings : {S : Type 0} → View S → Readings
 view_readings v = record {
   tables = v.store.now.tables;
@@ -14,7 +14,7 @@ view_readings v = record {
   clock = v.clock;
 }
 
--- what a place may name, by the readings
+-- the tables that a place may name rows of, by the readings
 abbrev pub scope_of : Readings → Scope
 scope_of readings = record {
   globals = length readings.variables;
@@ -23,6 +23,6 @@ scope_of readings = record {
   sets = length readings.tables.sets;
 }
 
--- what is said of as much as a view shows
+-- a property within the scope of a view
 abbrev pub InView : {A S : Type 0} → View S → (Scope → A → Type 0) → A → Type 0
 InView v P x = P (scope_of (view_readings v)) x

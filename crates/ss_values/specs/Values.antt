@@ -29,8 +29,8 @@ use Rattle.ss_store.specs.Tables.{Tables, set_of}
 use Rattle.ss_store.specs.Store.{Store, number_of, attribute_of}
 use Rattle.ss_store.specs.Filing.{walk_first, walk_last, count, predecessor, successor, membership}
 
--- what values are read from: the tables of classes and sets, the entities and their lists, the global variables, the
--- locals of the last frame, and the clock
+-- the sources of values: the tables of classes and sets, the entities and their lists, the global
+-- variables, the locals of the last frame, and the clock
 pub record Readings : Type 0 where
   -- the tables of classes and sets
   pub tables : Tables
@@ -45,7 +45,7 @@ pub record Readings : Type 0 where
 
 -- ---- numbers
 
--- a result, or F1 where it is out of range
+-- a result, or F1 if it is out of range
 abbrev pub result_in_range : ℤ → Result ℤ RunFault
 result_in_range z = if in_range z then Ok z else Err OutOfRange
 
@@ -55,12 +55,12 @@ with_sign None x = Ok x
 with_sign (Some Plus) x = Ok x
 with_sign (Some Minus) x = result_in_range (neg_ℤ x)
 
--- the value of a term joined to what stands before it
+-- the value of a term joined to the value before it
 abbrev pub sum_or_difference : TermSign → ℤ → ℤ → Result ℤ RunFault
 sum_or_difference Plus x y = result_in_range (x +ℤ y)
 sum_or_difference Minus x y = result_in_range (x -ℤ y)
 
--- F2 where a divisor is 0
+-- F2 if a divisor is 0
 abbrev pub non_zero : ℤ → Result (Unit {0}) RunFault
 non_zero y = refuse_if (nat_eq (unsigned_abs y) 0) ZeroDivisor
 
@@ -72,13 +72,13 @@ quotient_value x y = non_zero y >> result_in_range (int_div x y)
 abbrev pub remainder_value : ℤ → ℤ → Result ℤ RunFault
 remainder_value x y = non_zero y >> Ok (int_rem x y)
 
--- ---- what is read
+-- ---- values that are read
 
 -- a number of entities, or the number of one, as a value
 abbrev pub number_value : ℕ → Result ℤ RunFault
 number_value n = result_in_range (pos n)
 
--- the number of a member as a value, 0 where there is none
+-- the number of a member as a value, 0 if there is none
 abbrev pub number_or_none : Option ℕ → Result ℤ RunFault
 number_or_none k = number_value (unwrap_or k 0)
 
@@ -103,14 +103,14 @@ member_kept_value readings Successor s x =
 member_kept_value readings Membership s x =
     membership (set_of readings.tables s) readings.store (number_of x) >>= one_if
 
--- what a variable holds
+-- the value of a variable
 abbrev pub variable_value : Readings → AVariable → ℤ
 variable_value readings (Global i) = slice_index_or readings.variables i (pos 0)
 variable_value readings (Local i) = slice_index_or readings.locals i (pos 0)
 variable_value readings Clock = readings.clock
 
--- each part from the left; x is the value of what stands before further terms or factors, and the greatest or the least
--- of the arguments before further ones
+-- each part from the left; x is the value of the part before further terms or factors, and the
+-- greatest or the least of the arguments before further ones
 abbrev mutual
   -- an expression
   pub value_of : Readings → Expr → Result ℤ RunFault
@@ -163,13 +163,13 @@ abbrev mutual
 
 -- ---- assignments
 
--- what a target holds
+-- the value of a target
 abbrev pub target_value : Readings → Target → Result ℤ RunFault
 target_value readings (Variable x) = Ok (variable_value readings x)
 target_value readings (Attribute c a i) =
     subscript_value readings i >>= λ x. attribute_of readings.store c a (number_of x)
 
--- what is assigned: the value; of ADD and SUBTRACT the target's old value with it
+-- the assigned value: for LET the value, for ADD and SUBTRACT the target's old value with it
 abbrev pub assigned_value : Readings → Assign → Result ℤ RunFault
 assigned_value readings (Let written t e) = value_of readings e
 assigned_value readings (Add e t) =
@@ -184,7 +184,7 @@ abbrev pub values_of : Readings → List Expr → Result (List ℤ) RunFault
 values_of readings [] = Ok []
 values_of readings (e ∷ es) = value_of readings e >>= λ x. values_of readings es >>= λ xs. Ok (x ∷ xs)
 
--- a fault is what was got in place of values; want of memory says nothing of them
+-- a fault comes in place of the values; missing memory says nothing of them
 abbrev pub FaultIs : {A : Type 0} → StepFault → Result A RunFault → Type 0
 FaultIs (Fault f) got = got ≡ Err f
 FaultIs Memory got = Unit {0}

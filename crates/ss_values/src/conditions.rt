@@ -1,3 +1,4 @@
+//! The truth of conditions, from the left.
 ghost use Rattle.std.specs.Prelude.{◌≡◌};
 ghost use Rattle.ss_program.specs.ProgramCondition.{condition_of, conjunction_of, relation_of};
 ghost use Rattle.ss_program.specs.ProgramSound.{IsSoundCondition, IsSoundConjunction, IsSoundRelation, IsSoundExpr};
@@ -33,7 +34,7 @@ fn affirm(copula: Copula, truth: bool) -> bool
     }
 }
 
-/// Whether a list has no member, or F3 where its owner does not exist.
+/// Whether a list has no member, or F3 if its owner does not exist.
 fn is_empty<S: SetBoard>(view: &View<'_, S>, set: &SetRef) -> Result<bool, RunFault>
     requires { InView view.now IsSoundSetRef set.now }
     ensures { result ≡ conditions.is_empty_list (view_readings view.now) set.now }
@@ -42,7 +43,7 @@ fn is_empty<S: SetBoard>(view: &View<'_, S>, set: &SetRef) -> Result<bool, RunFa
     Ok(view.store.count(set.set, owner)? == 0)
 }
 
-/// Whether a list has the member that a value names, or F3 where one of them does not exist.
+/// Whether a list has the member that a value names, or F3 if the owner or member does not exist.
 fn is_in<S: SetBoard>(view: &View<'_, S>, member: &Expr, set: &SetRef) -> Result<bool, RunFault>
     requires member { InView view.now IsSoundExpr member.now }
     requires set { InView view.now IsSoundSetRef set.now }
@@ -53,7 +54,7 @@ fn is_in<S: SetBoard>(view: &View<'_, S>, member: &Expr, set: &SetRef) -> Result
     view.store.is_in(set.set, owner, x)
 }
 
-/// Whether a condition holds, or its first fault. AND and OR stop where they are decided.
+/// Whether a condition holds, or its first fault. AND and OR stop when they are decided.
 pub fn holds<S: SetBoard>(view: View<'_, S>, condition: &Condition) -> Result<bool, RunFault>
     requires { InView view IsSoundCondition condition.now }
     ensures { result ≡ conditions.holds (view_readings view.entry) condition.now }

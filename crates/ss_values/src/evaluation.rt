@@ -1,3 +1,4 @@
+//! The values of expressions, targets and assignments, or the fault that a statement ends with.
 ghost use Rattle.std.specs.Prelude.{◌≡◌, ◌<◌, ℤ, pos, neg_ℤ, ◌+ℤ◌, ◌-ℤ◌, ◌*ℤ◌, unsigned_abs, length, Ok, OnOk, IfErr};
 ghost use Rattle.ss_program.specs.ProgramExpr.{expr_of, arguments_of, term_of, factor_of, subscript_of};
 ghost use Rattle.ss_program.specs.ProgramExpr as tree;
@@ -149,7 +150,7 @@ pub fn variable_value<S: SetBoard>(view: View<'_, S>, variable: Variable) -> i64
     variable_seen(&view, variable)
 }
 
-/// The same of a view that is lent.
+/// As the function before it, for a borrowed view.
 #[inline(always)]
 pub(crate) fn variable_seen<S: SetBoard>(view: &View<'_, S>, variable: Variable) -> i64
     requires { InView view.now IsSoundVariable variable }
@@ -171,7 +172,7 @@ pub fn value<S: SetBoard>(view: View<'_, S>, e: &Expr) -> Result<i64, RunFault>
     value_seen(&view, e)
 }
 
-/// The same of a view that is lent.
+/// As the function before it, for a borrowed view.
 #[inline(always)]
 pub fn value_seen<S: SetBoard>(view: &View<'_, S>, e: &Expr) -> Result<i64, RunFault>
     requires { InView view.now IsSoundExpr e.now }
@@ -183,7 +184,7 @@ pub fn value_seen<S: SetBoard>(view: &View<'_, S>, e: &Expr) -> Result<i64, RunF
     }
 }
 
-/// The same from the tree, which finds a fault too.
+/// The value of an expression from its tree, or its first fault.
 #[cold]
 #[inline(never)]
 fn value_or_fault<S: SetBoard>(view: &View<'_, S>, e: &Expr) -> Result<i64, RunFault>
@@ -193,7 +194,7 @@ fn value_or_fault<S: SetBoard>(view: &View<'_, S>, e: &Expr) -> Result<i64, RunF
     sum_seen(view, e.sum())
 }
 
-/// The value of a sum. One factor alone is read as such.
+/// The value of a sum. A sum of one factor only is read directly as the factor.
 #[cycle(value)]
 #[tactic(auto, using(crate::proofs::Factors::lone_factor))]
 #[inline(always)]
@@ -335,7 +336,7 @@ pub fn subscript_value<S: SetBoard>(view: View<'_, S>, index: &Index) -> Result<
     subscript_seen(&view, index)
 }
 
-/// The same of a view that is lent.
+/// As the function before it, for a borrowed view.
 pub fn subscript_seen<S: SetBoard>(view: &View<'_, S>, index: &Index) -> Result<i64, RunFault>
     requires { InView view.now IsSoundSubscript index.now }
     ensures { result ≡ terms.subscript_value (view_readings view.now) index.now }
@@ -346,7 +347,7 @@ pub fn subscript_seen<S: SetBoard>(view: &View<'_, S>, index: &Index) -> Result<
     }
 }
 
-/// What a target holds.
+/// The value of a target.
 #[inline(always)]
 pub fn target_value<S: SetBoard>(view: View<'_, S>, target: &Target) -> Result<i64, RunFault>
     requires { InView view IsTarget target.now }
@@ -355,7 +356,7 @@ pub fn target_value<S: SetBoard>(view: View<'_, S>, target: &Target) -> Result<i
     target_seen(&view, target)
 }
 
-/// The same of a view that is lent.
+/// As the function before it, for a borrowed view.
 #[inline]
 fn target_seen<S: SetBoard>(view: &View<'_, S>, target: &Target) -> Result<i64, RunFault>
     requires { InView view.now IsTarget target.now }
@@ -394,8 +395,8 @@ pub fn assigned_value<S: SetBoard>(view: View<'_, S>, assign: &Assign) -> Result
     }
 }
 
-/// Puts the values of expressions in order in place of what was in `values`, or answers the first
-/// fault.
+/// Puts the values of expressions in order into `values`, in place of its old ones, or answers the
+/// first fault.
 pub fn values<S: SetBoard>(
     view: View<'_, S>,
     es: &Values,

@@ -1,5 +1,5 @@
-//! Values that come back in registers: a number, or none. None says nothing. Where there is a fault,
-//! it is for `evaluation` to find it.
+//! Values that come back in registers: a number, or none. None says nothing. If there is a fault,
+//! `evaluation` finds it.
 ghost use Rattle.std.specs.Prelude.{◌≡◌, ◌<◌, ℤ, pos, neg_ℤ, ◌+ℤ◌, ◌-ℤ◌, ◌*ℤ◌, unsigned_abs, length, Ok, IfSome};
 ghost use Rattle.ss_program.specs.ProgramExpr.{expr_of, arguments_of, term_of, factor_of, subscript_of};
 ghost use Rattle.ss_program.specs.ProgramExpr as tree;
@@ -90,7 +90,7 @@ pub(crate) fn value_or_none<S: SetBoard>(view: &View<'_, S>, e: &Expr) -> Option
     run_ops(view, code)
 }
 
-/// The value of a sum, from its tree. One factor alone is read as such.
+/// The value of a sum, from its tree. A sum of one factor only is read directly as the factor.
 #[cycle(fast)]
 #[tactic(auto, using(crate::proofs::Factors::lone_factor))]
 #[inline(always)]
@@ -145,7 +145,26 @@ fn factor_or_none<S: SetBoard>(view: &View<'_, S>, f: &Factor) -> Option<i64>
     match f {
         Factor::Number(n) => number(*n),
         Factor::Variable(x) => Some(variable_seen(view, *x)),
+        Factor::Attribute { .. } => attribute_or_none(view, f),
         _ => far_factor_or_none(view, f),
+    }
+}
+
+/// The value of an attribute, or none if the factor is none. It is short, so that reading an
+/// attribute costs no more than it must.
+#[cycle(fast)]
+#[inline(never)]
+fn attribute_or_none<S: SetBoard>(view: &View<'_, S>, f: &Factor) -> Option<i64>
+    requires { InView view.now IsSoundFactor (factor_of f.now) }
+    ensures { IfSome result
+        (λ x. terms.factor_value (view_readings view.now) (factor_of f.now) ≡ Ok x) }
+{
+    match f {
+        Factor::Attribute { class, attribute } => {
+            let entity = entity_or_none(view, &attribute.subscript)?;
+            view.store.get(*class, attribute.number, entity).ok()
+        }
+        _ => None,
     }
 }
 
@@ -170,10 +189,7 @@ fn far_factor_or_none<S: SetBoard>(view: &View<'_, S>, f: &Factor) -> Option<i64
             let x = sum_or_none(view, dividend)?;
             remainder(x, sum_or_none(view, divisor)?)
         }
-        Factor::Attribute { class, attribute } => {
-            let entity = entity_or_none(view, &attribute.subscript)?;
-            view.store.get(*class, attribute.number, entity).ok()
-        }
+        Factor::Attribute { .. } => None,
         Factor::OwnerKept { kept, set } => {
             let owner = entity_or_none(view, &set.subscript)?;
             owner_kept(view, *kept, set.number, owner).ok()
@@ -186,7 +202,7 @@ fn far_factor_or_none<S: SetBoard>(view: &View<'_, S>, f: &Factor) -> Option<i64
     }
 }
 
-/// The number that a subscript means: where none is written, that of the class's variable.
+/// The number that a subscript means: if none is written, that of the class's variable.
 #[cycle(fast)]
 #[inline(always)]
 pub(crate) fn entity_or_none<S: SetBoard>(view: &View<'_, S>, subscript: &Subscript) -> Option<i64>

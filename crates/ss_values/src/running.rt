@@ -1,3 +1,4 @@
+//! Runs the operations of a linear expression on one accumulator.
 ghost use Rattle.std.specs.Prelude.{◌≡◌, pos, Ok, IfSome};
 ghost use Rattle.std.specs.List.{All};
 ghost use Rattle.ss_values.specs.Seen.{view_readings, scope_of, InView};
@@ -8,7 +9,7 @@ use crate::view::View;
 use ss_links::SetBoard;
 use ss_program::Op;
 
-/// What an operation makes of the accumulator. None says nothing.
+/// The value of the accumulator after an operation. None says nothing.
 #[inline(always)]
 fn act<S: SetBoard>(view: &View<'_, S>, op: Op, x: i64) -> Option<i64>
     requires { InView view.now IsSoundOp op }
@@ -52,7 +53,7 @@ fn act<S: SetBoard>(view: &View<'_, S>, op: Op, x: i64) -> Option<i64>
     }
 }
 
-/// What operations make of 0, in order. None says nothing.
+/// The value of an accumulator that is 0, after operations in order. None says nothing.
 #[inline(never)]
 pub(crate) fn run_ops<S: SetBoard>(view: &View<'_, S>, code: &[Op]) -> Option<i64>
     requires { All (IsSoundOp (scope_of (view_readings view.now))) code.now }

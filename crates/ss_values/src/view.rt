@@ -1,8 +1,9 @@
+//! The part of a run that values are read from, as one value that is cheap to hand on.
 use ss_links::SetBoard;
 use ss_store::Store;
 use std::alloc::AllocError;
 
-/// What values are read from: the store, the global variables, the locals of the last frame, and
+/// The sources of values: the store, the global variables, the locals of the last frame, and
 /// the clock.
 pub struct View<'a, S: SetBoard> {
     pub store: &'a Store<S>,

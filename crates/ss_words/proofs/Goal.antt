@@ -1,4 +1,4 @@
--- What the laws of a reading give for a whole text.
+-- The facts on a whole text that follow from the laws of a reading.
 use Rattle.std.proofs.Common.{◌≡◌, ℕ, ◌+◌, ◌-◌, ◌≤◌, ◌<◌, List, [], ◌∷◌, ◌++◌, length, length-append, take, drop, Some}
 use Rattle.std.proofs.Common.{None, Result, Ok, Err, refl, sym, ap, subst, ◌∙◌, append_assoc, arith}
 use Rattle.std.proofs.lemmas.List.{append-nil, take_at, drop_at, take-append-drop, take-append-le}
@@ -78,7 +78,7 @@ module _ {A : Type 0} (fits : A → Type 0) (sp : A → List Plain) (p : Reading
       at (Ok e) (w ∷ r) = tt
       at (Err f) r = tt
 
-  -- what is read keeps the limits and is spelled so
+  -- a tree that is read keeps the limits, and its spelling is the text
   pub found : (ws r : List Plain) (t : A) → whole p ws ≡ (Ok t, r) → fits t × (ws ≡ sp t)
   found ws r t e =
       let (f, q, h, k) = subst (λ (x : Read A). IsRead fits sp [] x.0 ws x.1) e (whole_good.read ws) in
@@ -96,7 +96,7 @@ module _ {A : Type 0} (fits : A → Type 0) (sp : A → List Plain) (p : Reading
       let (q, k, a, f, x, v) = subst (λ (y : Read A). IsRead fits sp [] y.0 ws y.1) e (whole_good.read ws) in
       (a, f, x, v ∙ ap (λ (u : List Plain). u ++ x) (sym (front_is ws q r k)))
 
-  -- what is left is the text's end
+  -- the words that are left are the text's end
   pub left : (ws r : List Plain) (g : Refusal) → whole p ws ≡ (Err g, r) → (q : List Plain) × (ws ≡ q ++ r)
   left ws r g e =
       let (q, k, a, f, x, v) = subst (λ (y : Read A). IsRead fits sp [] y.0 ws y.1) e (whole_good.read ws) in (q, k)
@@ -118,7 +118,7 @@ module _ {A : Type 0} (sp : A → List Plain) where
       loc
 
   module _ (fits : A → Type 0) (p : Reading A) (good : Good fits sp [] p) where
-    -- what is refused is refused at the farthest place, where each tree is read by some reading with more room
+    -- a refusal is at the farthest place, if for each tree some reading with more room reads it
     pub farthest : ((t : A) → (p' : Reading A) × (Local more p p') × (p' (sp t) ≡ (Ok t, []))) → (ws r : List Plain)
         → whole p ws ≡ (Err Unexpected, r) → IsFarthest sp ws (length ws - length r)
     farthest larger ws r e = record {

@@ -1,6 +1,6 @@
--- What each step of a reading keeps: what is read is spelled so and keeps the limits, and where reading fails the
--- spelling of some tree
--- within the limits begins with the words read.
+-- The facts that each step of a reading keeps. The words that are read are the spelling of the
+-- tree, and the tree keeps the limits. If reading fails, the spelling of some tree within the
+-- limits begins with the words read.
 use Rattle.std.proofs.Common.{◌≡◌, ℕ, zero, suc, List, [], ◌∷◌, ◌++◌, length, Option, Some, None, Result, Ok, Err, refl}
 use Rattle.std.proofs.Common.{sym, ap, subst, ◌∙◌, append_assoc}
 use Rattle.std.proofs.lemmas.List.{append-nil}
@@ -8,7 +8,7 @@ use Rattle.ss_words.specs.declared.refusal.Refusal.{Refusal}
 use Rattle.ss_words.specs.Plain.{Plain, first}
 use Rattle.ss_words.specs.Reading.{Reading, goes_on, bind, pure, refuse, look, skip, many_from, many}
 
--- The words ws, behind pre, are read up to r; fits says which trees keep the limits, sp spells them.
+-- The words ws, after pre, are read up to r; fits says which trees keep the limits, sp spells them.
 abbrev pub IsRead : {A : Type 0} → (A → Type 0) → (A → List Plain) → List Plain → Result A Refusal → List Plain
     → List Plain → Type 0
 IsRead {A} fits sp pre (Ok a) ws r = fits a × (q : List Plain) × (ws ≡ q ++ r) × (sp a ≡ pre ++ q)
@@ -20,7 +20,7 @@ pub record Good {A : Type 0} (fits : A → Type 0) (sp : A → List Plain) (pre 
   -- each beginning has an end
   pub some : (a : A) × fits a × (x : List Plain) × (sp a ≡ pre ++ x)
 
--- where there is no limit
+-- each tree fits, if there is no limit
 abbrev pub Any : {A : Type 0} → A → Type 0
 Any a = Unit {0}
 
@@ -74,7 +74,7 @@ module _ {A B : Type 0} (fitsA : A → Type 0) (fitsB : B → Type 0) (spA : A �
         (b, fb, spA h.some.0 ++ y, k ∙ append_assoc pre (spA h.some.0) y));
   }
 
--- A reading that goes on with what stood before, and another behind it.
+-- A reading that goes on with the result before it, and another reading after it.
 module _ {A B : Type 0} (fitsA : A → Type 0) (fitsB : B → Type 0) (spA : A → List Plain) (spB : B → List Plain)
     (pre : List Plain) (f : A → Reading B)
     (good : (a : A) → fitsA a → Good fitsB spB (spA a) (f a)) where

@@ -1,4 +1,4 @@
--- What the readings of lists of names keep.
+-- The facts that the readings of lists of names keep.
 use Rattle.std.proofs.Common.{◌≡◌, ℕ, zero, suc, ◌<◌, true, false, List, [], ◌∷◌, ◌++◌, length, Option, Some, None, Ok}
 use Rattle.std.proofs.Common.{refl, ◌∙◌, arith}
 use Rattle.ss_words.specs.declared.mark.Mark.{Mark}
@@ -18,14 +18,14 @@ use Rattle.ss_words.proofs.ReadBack.{then, many_ends, many_goes}
 abbrev pub spell_next_name : Name → List Plain
 spell_next_name n = mark (m.Sign s.Comma) ∷ name n ∷ []
 
--- names behind the first
+-- names after the first
 abbrev pub spell_other_names : List Name → List Plain
 spell_other_names ns = spell_others (λ n. name n ∷ []) ns
 
 abbrev no_name : Name
 no_name = []
 
--- ---- what is read is spelled so
+-- ---- names that are read are spelled so
 
 pub next_name-good : Good (fits_option Any) (spell_option spell_next_name) [] next_name
 unfolding next_name
@@ -92,7 +92,7 @@ module _ (rooms : Rooms) where
         | false ↦ pure_local rooms None
       ]) (eat k) (eat k) (eat_local rooms k)
 
--- ---- what is spelled is read again, where no comma follows it
+-- ---- names that are spelled are read again, if no comma follows them
 
 abbrev pub no_comma : List Plain → Type 0
 no_comma y = is (m.Sign s.Comma) (first y) ≡ false

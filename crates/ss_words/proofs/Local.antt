@@ -1,6 +1,6 @@
--- A reading looks no further than the word at which it stops: another text that agrees so far is read the same, also by
--- a reading with more
--- room; where a limit refuses a word, a reading with more room goes past it.
+-- A reading looks no further than the word at which it stops. Another text that agrees so far is
+-- read the same, also by a reading with more room. If a limit refuses a word, a reading with more
+-- room goes past it.
 use Rattle.std.proofs.Common.{◌≡◌, ℕ, zero, suc, ◌-◌, ◌≤◌, ◌<◌, Bool, true, false, List, [], ◌∷◌, ◌++◌, length}
 use Rattle.std.proofs.Common.{length-append, Option, Some, None, Result, Ok, Err, refl, sym, ap, subst, ◌∙◌}
 use Rattle.std.proofs.Common.{append_assoc, arith}
@@ -23,7 +23,7 @@ IsLimited None = ⊥
 IsLimited (Some (mark (m.Reserved r.End))) = ⊥
 IsLimited (Some _) = Unit {0}
 
--- behind q, p' stops as it did on each text that goes on with the same word
+-- after q, p' stops as it did on each text that goes on with the same word
 abbrev pub Alike : {A : Type 0} → Reading A → Result A Refusal → List Plain → List Plain → Type 0
 Alike p' o q r = (r' : List Plain) → first r' ≡ first r → p' (q ++ r') ≡ (o, r')
 
@@ -38,7 +38,7 @@ Kept (Err Memory) rooms p' ws q r = Alike p' (Err Memory) q r
 Kept (Err PastLimit) same p' ws q r = Alike p' (Err PastLimit) q r
 Kept (Err PastLimit) more p' ws q r = Further p' ws r
 
--- the words q before the place r where a reading stopped, and what p' gives
+-- the words q before the place r at which a reading stopped, and the result of p'
 abbrev pub Stops : {A : Type 0} → Rooms → Reading A → Result A Refusal → List Plain → List Plain → Type 0
 Stops {A} rooms p' o ws r = (q : List Plain) × (ws ≡ q ++ r) × (length (p' ws).1 ≤ length ws) × Kept o rooms p' ws q r
 
@@ -90,7 +90,7 @@ module _ {A B : Type 0} (rooms : Rooms) (f f' : A → Reading B) (loc : (a : A) 
   unfolding bind
   failed e q r g = λ r' is. ap (λ (x : Read A). goes_on f' x.0 x.1) (g r' is)
 
-  -- what stands behind takes no words back
+  -- the reading after it takes no words back
   shorter_with : (o : Result A Refusal) (r : List Plain) → length (goes_on f' o r).1 ≤ length r
   shorter_with (Ok a) r = ((loc a).at r).2
   shorter_with (Err e) r = omega arith
@@ -126,7 +126,7 @@ module _ {A B : Type 0} (rooms : Rooms) (f f' : A → Reading B) (loc : (a : A) 
   unfolding bind
   bind_local p h = record { at = λ ws. bound (p ws).0 ws (p ws).1 (h.at ws) }
 
-  -- where the next word is w
+  -- if the next word is w
   pub bind_at : (w : Option Plain) (p : Reading A)
       → ((ws : List Plain) → first ws ≡ w → Stops rooms p' (p ws).0 ws (p ws).1) → (ws : List Plain) → first ws ≡ w
       → Stops rooms (bind p' f') (bind p f ws).0 ws (bind p f ws).1
@@ -265,7 +265,7 @@ module _ {A B : Type 0} (rooms : Rooms) (fits : Option A → Type 0) (spA : A �
         → length (goes_on (next m item') o r).1 ≤ length r
     next_shorter m o r = next_from m (from_shorter m) o r
 
-    -- where the turn fails, or is the last
+    -- if the turn fails, or is the last
     last : (o : Result (Option A) Refusal) (f : Result B Refusal) (ws q r : List Plain)
         → ((m : ℕ) (r' : List Plain) → goes_on (next m item') o r' ≡ (f, r')) → Alike item' o q r
         → AlikeWithin (many_from item' none one) f q r
@@ -284,7 +284,7 @@ module _ {A B : Type 0} (rooms : Rooms) (fits : Option A → Type 0) (spA : A �
       g.1,
     )
 
-    -- a turn with an item, and those behind it
+    -- a turn with an item, and the turns after it
     turned : (a : A) (o : Result B Refusal) (ws r r2 q q2 : List Plain) → ws ≡ q ++ r → r ≡ q2 ++ r2
         → length r < length ws → Alike item' (Ok (Some a)) q r → AlikeWithin (many_from item' none one) o q2 r2
         → AlikeWithin (many_from item' none one) (goes_on (grow a) o r2).0 (q ++ q2) r2

@@ -12,7 +12,7 @@ abbrev pub on_ok : {A B : Type 0} → (A → B) → Result A Refusal → Result 
 on_ok f (Ok a) = Ok (f a)
 on_ok f (Err e) = Err e
 
--- what was read before, and what is still read
+-- the items that were read before, and the rest that is still read
 abbrev pub read_behind : {A B : Type 0} → (A → B → B) → List A → Read B → Read B
 read_behind one front r = (on_ok (prepend one front) r.0, r.1)
 
@@ -83,7 +83,7 @@ fails item none one total front ws r f e (suc k, lt, so_far) =
     let step : many_from item none one (suc k) ws ≡ (Err f, r) = rw e refl in
     so_far ∙ ap (read_behind one front) step
 
--- what fails in a part fails in the whole
+-- a part that fails makes the whole fail
 pub passes_on : {Y Y' : Type 0} (e : Refusal) (ws : List Plain) (part : Read Y) (whole : Read Y')
     → ((f : Refusal) → part ≡ (Err f, ws) → whole ≡ (Err f, ws)) → Fails e ws part → Fails e ws whole
 passes_on Unexpected ws part whole h g = h Unexpected g

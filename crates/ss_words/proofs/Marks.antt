@@ -1,4 +1,4 @@
--- What the readings of one word keep, for all words at once.
+-- The facts that the readings of one word keep, for all words at once.
 use Rattle.std.proofs.Common.{◌≡◌, ℕ, ◌<◌, Bool, true, false, List, [], ◌∷◌, ◌++◌, length, Option, Some, None}
 use Rattle.std.proofs.Common.{Ok, refl, sym, ap, arith}
 use denote.Enum.Bare.{same_true, true_same}

@@ -1,4 +1,4 @@
--- A rule over a list, word by word: what the loop that follows a rule keeps.
+-- A rule over a list, word by word: the facts that the loop that follows a rule keeps.
 use Rattle.std.proofs.Common.{◌≡◌, ℕ, Bool, true, false, List, [], ◌∷◌, ◌++◌, map, length, Option, Some, None, cond}
 use Rattle.std.proofs.Common.{refl, sym, ap, subst, ◌∙◌, append_assoc, append-nil, arith, ◌+◌, ◌≤◌, ◌<◌, take, drop}
 use Rattle.std.proofs.Common.{slice_set}
@@ -11,8 +11,8 @@ use Rattle.ss_words.specs.PlainRules.{mark_in, beside, governing_word, is_govern
 use Rattle.ss_words.specs.PlainRules.{PlainRule}
 use Rattle.ss_words.specs.PlainRules.{ruled_word, follow_behind, follow}
 
--- behind some words whose last one and whose governing word these are, the rule makes of the rest what is left of the
--- whole
+-- after some words with this last word and this governing word, the rule makes of the rest the part
+-- of the whole that is left
 pub record IsFollowed (q : PlainRule) (total : List PlainAt) (last governs : Option Mark)
     (kept rest : List PlainAt) : Type 0 where
   pub before : List PlainAt
@@ -64,7 +64,7 @@ pub following_ends : (q : PlainRule) (total : List PlainAt) (last governs : Opti
     → IsFollowed q total last governs kept [] → kept ≡ total
 following_ends q total last governs kept h = sym (append-nil kept) ∙ h.whole
 
--- the same where the words that are kept take the place of the first ones, and the rest still stands at its place
+-- `IsFollowed` in place: the kept words replace the first ones, and the rest is still at its place
 pub record IsFollowedInPlace (q : PlainRule) (words : List PlainWord) (last governs : Option Mark)
     (now : List PlainWord) (kept index : ℕ) : Type 0 where
   pub followed : IsFollowed q (follow q (map plain_at words)) last governs (map plain_at (take kept now))

@@ -1,4 +1,4 @@
--- A reading that goes on with what it is given.
+-- A reading that goes on with the value that it is given.
 use Rattle.std.proofs.Common.{◌≡◌, ℕ, suc, List, Option, Some, None, Ok, ap, ◌∙◌}
 use Rattle.ss_words.specs.Plain.{Plain}
 use Rattle.ss_words.specs.Reading.{Reading, goes_on, bind, pure, many_from}

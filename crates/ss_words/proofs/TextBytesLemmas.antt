@@ -1,4 +1,4 @@
--- Bytes told apart.
+-- Which tests a byte passes and which it fails.
 use Rattle.std.proofs.Common.{◌≡◌, ℕ, ◌<◌, ◌≤◌, nat_lt, true, false, ◌==◌, ◌||◌, None, refl, ap, arith, ◌⊎◌, inl, inr}
 use Rattle.std.proofs.lemmas.Bool.Decides.{nat_tests, Decides-eqb, Decides-ltb}
 use Rattle.std.specs.Prelude.{is_some}
@@ -20,7 +20,7 @@ eqb-run b c runs stops = elim (b == c) as (λ t. (b == c) ≡ t → t ≡ false)
   | false ↦ λ differ. refl
 ] refl
 
--- a byte of a run may stand in a line
+-- a byte of a run is allowed in a line
 pub is_allowed-run : (b : ℕ) → in_run b ≡ true → is_allowed b ≡ true
 unfolding in_run is_allowed
 is_allowed-run b h = grind (arith, nat_tests)
@@ -57,7 +57,7 @@ in_run-greater : in_run 62 ≡ false
 unfolding in_run
 in_run-greater = refl
 
--- a run goes on with a byte of a run alone
+-- a run goes on only with a byte of a run
 pub is_joined-run : (last b : ℕ) → in_run last ≡ true → is_joined last b ≡ in_run b
 unfolding is_joined
 is_joined-run last b h =

@@ -1,4 +1,4 @@
--- Comments, and what the rest of a line behind a call of a picture holds.
+-- Comments, and the contents of the rest of a line after a call of a picture.
 use Rattle.std.proofs.Common.{◌≡◌, ℕ, suc, ◌+◌, ◌<◌, ◌≤◌, Bool, true, false, ◌==◌, ◌&&◌, ◌||◌, not, nat_le, List, []}
 use Rattle.std.proofs.Common.{◌∷◌, ◌++◌, take, drop, length, get_or, Some, refl, sym, ap, ◌∙◌, subst, arith, inl, inr}
 use Rattle.std.specs.Prelude.{slice_index, is_some}
@@ -46,7 +46,7 @@ hidden_len-end [] h = absurd cc
 hidden_len-end (b ∷ []) h = absurd cc
 hidden_len-end (b ∷ c ∷ bs) h = ap (λ (t : Bool). elim t [ true ↦ 2 | false ↦ suc (hidden_len (c ∷ bs)) ]) h
 
--- a line of number n with so many lines below it
+-- a line of number n with `below` lines below it
 module _ (n below : ℕ) where
   hidden_at : (before : List Kind) (b : ℕ) (bs ps : List ℕ)
       → found_at n below before 32 (b ∷ bs) (32 ∷ ps) ≡ breach_if StrayByte n (not (is_allowed b))
@@ -69,7 +69,7 @@ module _ (n below : ℕ) where
       place-stray n below before 32 b bs 32 ps
       (ap (λ (t : Bool). not (t && (in_run 32 || is_blank 32 || is_some (one_byte_sign 32)))) stray)
 
-  -- the bytes of a comment give nothing where each is allowed
+  -- the bytes of a comment give nothing if each is allowed
   hidden-pass : (before : List Kind) (bs : List ℕ) → list_all is_allowed (take (hidden_len bs) bs) ≡ true
       → found_from_place n below before 32 bs (with_blank_comments true bs)
       ≡ found_in_line n below before (drop (hidden_len bs) bs)
@@ -180,7 +180,7 @@ first-comment n below before line len begins size some =
     → first_breach (found_in_line n below before l) ≡ Some (Refused StrayByte n) in
     subst P (sym q.1) (λ s a. comment-first n below before q.0 len (two_more len (hidden_len q.0) s) a) size some
 
--- what a line has left behind the blanks at its front
+-- the rest of a line after the blanks at its front
 abbrev pub behind_blanks : List ℕ → List ℕ
 behind_blanks line = drop (length (take_while is_blank line)) line
 
@@ -215,7 +215,7 @@ unfolding comment_count begins_comment
 comments-begun b c bs h = ap
     (λ (t : Bool). elim t [ true ↦ 1 + comment_count true bs | false ↦ comment_count false (c ∷ bs) ]) h
 
--- only blanks and, with those before, so many comments
+-- only blanks and comments, and with the k comments before them at most one comment
 abbrev holds_only : ℕ → List ℕ → Bool
 holds_only k rest = list_all is_blank (with_blank_comments false rest) && nat_le (k + comment_count false rest) 1
 
@@ -261,7 +261,7 @@ holds_only-blanks k (b ∷ bs) =
       | false ↦ λ h. ap (holds_only k) (sym (behind_blanks-no b bs h))
     ] refl
 
--- behind the blanks stands no blank
+-- no blank follows directly after the blanks
 behind_blanks-head : (rest : List ℕ) → is_blank (slice_index (behind_blanks rest) 0) ≡ false
 behind_blanks-head [] = is_blank-none
 behind_blanks-head (b ∷ bs) =
@@ -270,7 +270,7 @@ behind_blanks-head (b ∷ bs) =
       | false ↦ λ h. ap (λ (l : List ℕ). is_blank (slice_index l 0)) (behind_blanks-no b bs h) ∙ h
     ] refl
 
--- without a comment the rest behind the blanks is empty or the line is not bare
+-- without a comment the rest after the blanks is empty or the line is not bare
 some_length : (bs : List ℕ) → (suc (length bs) == 0) ≡ false
 some_length bs = eqb-not (suc (length bs)) 0 (λ e. omega arith)
 
@@ -316,7 +316,7 @@ hidden-comments (b ∷ c ∷ bs) =
       | false ↦ hidden-comments (c ∷ bs)
     ]
 
--- a comment at the front counts, and what is behind it remains
+-- a comment at the front counts, and the bytes after it remain
 holds_only-comment : (bs : List ℕ) → holds_only 0 (39 ∷ 39 ∷ bs) ≡ holds_only 1 (drop (hidden_len bs) bs)
 unfolding with_blank_comments comment_count
 holds_only-comment bs =
@@ -350,7 +350,7 @@ holds_only-second (b ∷ c ∷ bs) h =
 same_more : (a b : ℕ) → (a == b) ≡ (suc a == suc b)
 same_more a b = grind (arith, nat_tests)
 
--- behind one comment only blanks may stand
+-- after one comment only blanks are allowed
 holds_only-last : (rest : List ℕ) → holds_only 1 rest ≡ (length (take_while is_blank rest) == length rest)
 holds_only-last [] = holds_only-none_more
 holds_only-last (b ∷ bs) =

@@ -1,4 +1,4 @@
--- What is found, in parts: the words so far, and what is still to be found.
+-- The findings in parts: the words so far, and the findings that are still to come.
 use Rattle.std.proofs.Common.{◌≡◌, ℕ, List, [], ◌∷◌, ◌++◌, map, Some, Ok, Err, refl, sym, ap, ◌∙◌, subst, append_assoc}
 use Rattle.std.proofs.Common.{append-nil}
 use Rattle.ss_words.specs.declared.fault.TextRule.{TextRule}
@@ -27,7 +27,7 @@ nearest_first-words : (ws : List WordAt) (fs : List Finding) (ks : List Kind)
 nearest_first-words [] fs ks = refl
 nearest_first-words (w ∷ ws) fs ks = nearest_first-words ws fs (w.kind ∷ ks)
 
--- where nothing is left to be found, the words are those before and those found
+-- if no finding is left, the words are those before and those found
 pub nearest-after : (old : List WordAt) (todo : List Finding) (new : List WordAt) → SameFindings old todo new []
     → nearest new ≡ nearest_first todo (nearest old)
 unfolding nearest

@@ -1,4 +1,4 @@
--- What is kept of the words stays true of them.
+-- The tracked facts about the words stay true of them.
 use Rattle.std.proofs.Common.{◌≡◌, ℕ, Bool, true, false, cond, List, [], ◌∷◌, ◌++◌, Option, Some, None, codes, refl}
 use Rattle.std.proofs.Common.{sym, ap, ◌∙◌, subst}
 use Rattle.ss_words.specs.Words.{Kind, WordAt}

@@ -32,7 +32,7 @@ use Rattle.ss_words.proofs.TextPictureLines.{nat_le-true, line_count-some}
 abbrev WordKeeps : WordAt → Type 0
 WordKeeps w = KeepsLimits w.kind
 
--- where no rule is broken each word keeps the limits
+-- if no rule is broken, each word keeps the limits
 abbrev Keeps : List Finding → Type 0
 Keeps fs = breaches_in fs ≡ [] → All WordKeeps (words_in fs)
 
@@ -86,7 +86,7 @@ unfolding without_stops
 without_stops-within [] = omega arith
 without_stops-within (b ∷ bs) = without_stops-one b bs (without_stops bs) (without_stops-within bs)
 
--- what is kept of a run: a byte in front of what is kept of the bytes behind it, and no stop where nothing is
+-- the kept bytes of a run: a byte before those kept after it, and no stop if none of those is kept
 abbrev front : ℕ → List ℕ → List ℕ
 front b kept = elim kept [ [] ↦ cond (b == STOP) [] (b ∷ []) | c ∷ cs ↦ b ∷ c ∷ cs ]
 
@@ -216,7 +216,7 @@ taken-in_run (b ∷ bs) =
 
 -- ---- a line outside pictures
 
--- a line of number n with so many lines below it
+-- a line of number n with `below` lines below it
 module _ (n below : ℕ) where
   keeps-word_found : (before : List Kind) (rest : List ℕ) (o : Option Kind) → ((k : Kind) → o ≡ Some k → KeepsLimits k)
       → Keeps (word_found n below before rest o)
@@ -292,11 +292,11 @@ nearest_first-append [] gs before = refl
 nearest_first-append (word w ∷ fs) gs before = nearest_first-append fs gs (w.kind ∷ before)
 nearest_first-append (breach r n ∷ fs) gs before = nearest_first-append fs gs before
 
--- a picture that the words call has its lines, where so many are below
+-- a picture that the words call has its lines among the `below` lines below
 abbrev IsMet : ℕ → List Kind → Type 0
 IsMet below words = calls_picture words ≡ true → is_met (picture_lines words) below ≡ true
 
--- where no rule is broken what is found keeps it so
+-- if no rule is broken, `IsMet` stays true after the findings
 abbrev Meets : ℕ → List Kind → List Finding → Type 0
 Meets below before fs = breaches_in fs ≡ [] → IsMet below before → IsMet below (nearest_first fs before)
 
@@ -409,7 +409,7 @@ module _ (n below : ℕ) where
       meets-append before here (found_from_place n below (nearest_first here before) p bs ps)
       (meets-at before last (b ∷ bs) (p ∷ ps)) (meets-from_place (nearest_first here before) p bs ps) none met
 
--- how many lines are drawn of a count, where one is called and where none may be
+-- how many lines a count gives: if a picture is called, and (`lines_called`) if perhaps none is
 abbrev lines_counted : Option ℕ → ℕ
 lines_counted o = elim o [ None ↦ 0 | Some k ↦ k ]
 
@@ -508,8 +508,8 @@ take-few (suc k) (l ∷ ls) = let few = take-few k ls in omega arith
 abbrev IsShort : List ℕ → Type 0
 IsShort l = length l ≤ LONGEST_PICTURE_LINE
 
--- from each place on whose words call no picture, what is found in these lines keeps the limits, and so do the lines of
--- the picture before
+-- from each place on whose words call no picture, the findings in these lines keep the limits, and
+-- so do the lines of the picture before
 abbrev LinesKeep : List (List ℕ) → Type 0
 LinesKeep ls =
     (before : List Kind) (n k : ℕ) → calls_picture before ≡ false

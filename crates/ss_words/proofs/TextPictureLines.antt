@@ -99,8 +99,8 @@ take_none : (k : ℕ) → take {A = List ℕ} k [] ≡ []
 take_none zero = refl
 take_none (suc k) = refl
 
--- how far a picture of so many lines has come: `left` of them are still to be taken, behind line number `taken` of the
--- text
+-- how far a picture of `count` lines has come: `left` of them are still to be taken, after line
+-- number `taken` of the text
 pub record Drawn (first count : ℕ) (all : List (List ℕ)) (taken left : ℕ) (lines drawn : List (List ℕ)) : Type 0 where
   pub picture : take count all ≡ drawn ++ take left lines
   pub found : (before : List Kind)
@@ -211,7 +211,7 @@ drawn_below words n zero ls some size = absurd (omega arith)
 drawn_below words n (suc k) ls some size =
     ap (λ (m : ℕ). picture_found m n ls ++ found_from_line (nearest_first (picture_found m n ls) words) n m ls) size
 
--- words that call a picture of so many lines
+-- words that call a picture of k lines
 pub below-picture : (words : List Kind) (n k : ℕ) (ls : List (List ℕ)) → calls_picture words ≡ true
     → picture_lines words ≡ Some k
     → found_below words n ls ≡ word (on_line n (picture (take k ls)))

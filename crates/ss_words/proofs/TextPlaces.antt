@@ -1,4 +1,4 @@
--- What is found from a place of a line on: a blank, a run or a sign, and then the rest.
+-- The findings from a place of a line on: a blank, a run or a sign, and then the rest.
 use Rattle.std.proofs.Common.{◌≡◌, ℕ, suc, ◌<◌, ◌≤◌, Bool, true, false, ◌==◌, ◌&&◌, ◌||◌, cond, List, [], ◌∷◌, ◌++◌}
 use Rattle.std.proofs.Common.{take, drop, length, Option, Some, None, ◌⊎◌, inl, inr, refl, sym, ap, ◌∙◌, subst, arith}
 use Rattle.std.specs.Prelude.{slice_index, is_some}
@@ -76,7 +76,7 @@ take_while-none : (xs : List ℕ) → in_run (slice_index xs 0) ≡ false → ta
 take_while-none [] h = refl
 take_while-none (x ∷ xs) h = take_while-no in_run x xs h
 
--- what a line has left behind the run at its front
+-- the rest of a line after the run at its front
 abbrev pub behind_run : List ℕ → List ℕ
 behind_run line = drop (length (take_while in_run line)) line
 
@@ -108,7 +108,7 @@ joined-blank : (p : ℕ) → is_joined 32 p ≡ false
 unfolding is_joined in_run
 joined-blank p = refl
 
--- a line of number n with so many lines below it
+-- a line of number n with `below` lines below it
 module _ (n below : ℕ) where
   pub from-here : (before : List Kind) (last b : ℕ) (bs : List ℕ) (p : ℕ) (ps : List ℕ) (here : List Finding)
       → found_at n below before last (b ∷ bs) (p ∷ ps) ≡ here
@@ -142,7 +142,7 @@ module _ (n below : ℕ) where
       ap (λ (t : Bool). breach_if StrayByte n (is_stray b p)
       ++ (elim t [ true ↦ [] | false ↦ begun_at n below before (b ∷ bs) (p ∷ ps) ])) (apart ∙ sym (joined-blank p))
 
-  -- where a place is not joined to the byte before it, that byte does not matter
+  -- if a place is not joined to the byte before it, that byte does not matter
   pub fresh : (before : List Kind) (last : ℕ) (line plain : List ℕ) → is_joined last (slice_index plain 0) ≡ false
       → found_from_place n below before last line plain ≡ found_from_place n below before 32 line plain
   unfolding found_from_place
@@ -152,7 +152,7 @@ module _ (n below : ℕ) where
       from-here before last b bs p ps (found_at n below before 32 (b ∷ bs) (p ∷ ps))
       (found_at-fresh before last b bs p ps apart)
 
-  -- from inside a run the scan goes on behind it
+  -- from inside a run the scan goes on after it
   joined_run : (before : List Kind) (last : ℕ) (line : List ℕ) → in_run last ≡ true
       → found_from_place n below before last line (with_blank_comments false line)
       ≡ found_in_line n below before (behind_run line)
@@ -188,7 +188,7 @@ module _ (n below : ℕ) where
       ∙ ap (λ (r : List ℕ). run_found n below before (drop (length r) (b ∷ bs)) r)
       (sym (ap (take_while in_run) (blanked-run b bs run)) ∙ take_while-blanked (b ∷ bs))
 
-  -- a run, and what is found behind it
+  -- a run, and the findings after it
   pub found-run : (before : List Kind) (b : ℕ) (bs : List ℕ) → in_run b ≡ true → found_in_line n below before (b ∷ bs)
       ≡ run_found n below before (behind_run (b ∷ bs)) (take_while in_run (b ∷ bs))
       ++ found_in_line n below (nearest_first
@@ -219,7 +219,7 @@ module _ (n below : ℕ) where
       (blanked-plain 9 bs (begins_comment-other 9 bs refl))
       ∙ fresh before 9 bs (with_blank_comments false bs) refl
 
-  -- a blank or a tab, and what is found behind it
+  -- a blank or a tab, and the findings after it
   pub found-blank : (before : List Kind) (b : ℕ) (bs : List ℕ) → is_blank b ≡ true
       → found_in_line n below before (b ∷ bs) ≡ found_in_line n below before bs
   found-blank before b bs h = elim (is_blank-cases b h) [
@@ -227,7 +227,7 @@ module _ (n below : ℕ) where
     | inr same ↦ ap (λ (x : ℕ). found_in_line n below before (x ∷ bs)) same ∙ blank_9 before bs
   ]
 
--- the byte behind a place is an equal sign or not, also with the comments made blank
+-- the byte after a place is an equal sign or not, also with the comments made blank
 next-blanked : (bs : List ℕ) → (slice_index (with_blank_comments false bs) 0 == 61) ≡ (slice_index bs 0 == 61)
 unfolding with_blank_comments
 next-blanked [] = refl
@@ -269,7 +269,7 @@ sign_cases b next g e =
           ] refl)
     ] refl e
 
--- where no sign of one or two bytes begins, the byte is no sign
+-- if no sign of one or two bytes begins, the byte is no sign
 one_byte_sign-none : (b next : ℕ) → sign_from b next ≡ None → one_byte_sign b ≡ None
 unfolding sign_from
 one_byte_sign-none b next e =
@@ -422,7 +422,7 @@ module _ (n below : ℕ) where
       behind_two before b bs g (ap (λ (x : ℕ). is_joined x 61) greater.0 ∙ is_joined-greater) (ap sign_len greater.1)
       equal
 
-  -- a sign, and what is found behind it
+  -- a sign, and the findings after it
   pub found-sign : (before : List Kind) (b : ℕ) (bs : List ℕ) (g : Sign) → begins_comment (b ∷ bs) ≡ false
       → in_run b ≡ false → sign_from b (slice_index bs 0) ≡ Some g
       → found_in_line n below before (b ∷ bs)

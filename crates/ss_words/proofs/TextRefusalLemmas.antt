@@ -1,4 +1,4 @@
--- The first breach of a text stands at its first place with one, and is the lowest of that place.
+-- The first breach of a text is at its first place with one, and is the lowest of that place.
 use Rattle.std.proofs.Common.{◌≡◌, ℕ, zero, suc, ◌+◌, ◌<◌, ◌≤◌, Bool, true, false, ◌&&◌, List, [], ◌∷◌, ◌++◌, map}
 use Rattle.std.proofs.Common.{length, refl, sym, ap, subst, ◌∙◌, ◌==◌, cond, append_assoc, length-append, arith, Result}
 use Rattle.std.proofs.Common.{Ok, Err}
@@ -24,7 +24,7 @@ use Rattle.ss_words.specs.TextRefusal.{WordsBreakNoRule, PlacesAreBytes}
 use Rattle.ss_words.proofs.TextOrderLemmas.{lowest_first}
 use Rattle.ss_words.proofs.TextPlaces.{and-left, and-right}
 
--- ---- the places joined are what is found
+-- ---- the places joined are the findings
 
 abbrev joined : List (List TextFault) → List TextFault
 joined [] = []
@@ -224,7 +224,7 @@ rises-at (fs ∷ ps) (suc i) h = rises-at ps i h.1
 
 -- ---- the first and lowest
 
--- what stands behind a rising start is above it
+-- the faults after a rising start are above it
 above : (last : ℕ) (fs : List TextFault) (q : TextRule) (m : ℕ) → Rises last fs → Contains fs (Refused q m)
     → last < rule_number q
 above last [] q m h (k, lt, e) = absurd (omega arith)
@@ -244,7 +244,7 @@ empty_place last [] h none = refl
 empty_place last (Memory ∷ fs) h none = absurd h
 empty_place last (Refused r n ∷ fs) h none = absurd (none r n (0, omega arith, refl))
 
--- the lowest rule of a place stands first
+-- the lowest rule of a place is first
 lowest_place : (last : ℕ) (fs : List TextFault) (r : TextRule) (n : ℕ) → Rises last fs → Contains fs (Refused r n)
     → ((q : TextRule) (m : ℕ) → Contains fs (Refused q m) → rule_number r ≤ rule_number q)
     → (tail : List TextFault) × (fs ≡ Refused r n ∷ tail)

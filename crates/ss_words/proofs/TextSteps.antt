@@ -30,7 +30,7 @@ goes-word left old w new todo e is =
     (sym (ap (map word) is ∙ map-append word old (w ∷ [])))
     ∙ ap (λ (ks : List Kind). map word new ++ left ks) (sym (ap nearest is ∙ nearest-push old w))
 
--- a part that is found, and what is left behind it
+-- a part that is found, and the findings that are left after it
 pub goes-part : (left : List Kind → List Finding) (old : List WordAt) (part : List Finding) (new : List WordAt)
     (todo : List Finding) → todo ≡ part ++ left (nearest_first part (nearest old)) → SameFindings old part new []
     → SameFindings old todo new (left (nearest new))
@@ -74,7 +74,7 @@ module _ (n : ℕ) (below : List ℕ) where
       ap (λ (fs : List Finding). map word words ++ fs)
       (found-blank n (length (text_lines below)) (nearest words) b bs blank)
 
-  -- a run is what it gives and then the line behind it
+  -- a run gives its own findings and then those of the line after it
   run_parts : (words : List WordAt) (rest : List ℕ) (len : ℕ) → 0 < length rest → in_run (slice_index rest 0) ≡ true
       → len ≡ length (take_while in_run rest)
       → left_in_line n below words rest
@@ -133,7 +133,7 @@ unfolding found_from_place
 left_in_line-none n below words [] none = refl
 left_in_line-none n below words (b ∷ bs) none = absurd (omega arith)
 
--- what is found in a line, and below it
+-- the findings in a line, and below it
 next_line : (t t' : ℕ) (old : List WordAt) (rest line below : List ℕ) → text_lines rest ≡ line ∷ text_lines below
     → t' ≡ t + 1
     → found_from_line (nearest old) (t + 1) 0 (text_lines rest)

@@ -52,7 +52,7 @@ unfolding word_of_run
 word_of_run-none [] none = refl
 word_of_run-none (b ∷ bs) none = absurd (omega arith)
 
--- a line of number n with so many lines below it
+-- a line of number n with `below` lines below it
 module _ (n below : ℕ) (before : List Kind) (rest run : List ℕ) where
   -- a bad number is the first breach of its run
   pub first-bad : is_bad_number (without_stops run) ≡ true
@@ -85,7 +85,7 @@ module _ (n below : ℕ) (before : List Kind) (rest run : List ℕ) where
       ++ word_found n below before rest (word_of_run (without_stops run))) short
       ∙ ap (λ (k : Option Kind). word_found n below before rest k) e
 
--- a line of number n with so many lines below it
+-- a line of number n with `below` lines below it
 module _ (n below : ℕ) (rest : List ℕ) (old new : List WordAt) (kind : Kind) (is : new ≡ old ++ on_line n kind ∷ [])
   where
     lacks : lacks_picture (nearest new) rest below ≡ lacks_picture (kind ∷ nearest old) rest below

@@ -11,7 +11,7 @@ use Rattle.ss_words.specs.Lists.{names, names_behind}
 use Rattle.ss_words.specs.Reading.{bind, look, skip, pure, refuse}
 use Rattle.ss_words.specs.Marks.{expect, eat, a_name, a_number, a_picture}
 
--- what a byte is
+-- the kinds of a byte
 unfoldable pub bytes_together : ⊤
 unfolding is_allowed is_blank in_run one_byte_sign sign_from
 bytes_together = tt
@@ -32,12 +32,12 @@ unfolding bytes_together lines_together runs_together is_joined is_stray run_fou
     found_from_place found_in_picture picture_size found_from_line found_in_text answer_of words_of
 text_together = tt
 
--- what a cursor reads
+-- the words that a cursor reads
 unfoldable pub cursor_together : ⊤
 unfolding look skip pure refuse expect eat a_name a_number a_picture
 cursor_together = tt
 
--- what a cursor reads of names with commas between
+-- the names with commas between that a cursor reads
 unfoldable pub names_together : ⊤
 unfolding bind pure names names_behind
 names_together = tt

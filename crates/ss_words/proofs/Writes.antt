@@ -10,7 +10,7 @@ use Rattle.ss_words.specs.Noting.{Noting, repeat_from, repeat, line, here}
 use Rattle.ss_words.proofs.Laws.{IsRead, Good, spell_option}
 use Rattle.ss_words.proofs.Loop.{on_ok}
 
--- p' answers what out makes of what p reads, from word number k of a text of so many words
+-- p' gives `out` of the result of p, from word number k on of a text with `words` words
 pub record Writes {A B : Type 0} (words : ℕ) (out : A → B) (k : ℕ) (p : Reading A) (p' : Reading B) : Type 0 where
   pub at : (ws : List Plain) → k + length ws ≡ words → p' ws ≡ (on_ok out (p ws).0, (p ws).1)
 

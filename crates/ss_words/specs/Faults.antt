@@ -1,4 +1,4 @@
--- What refusals and faults are called in the answers.
+-- The names of refusals and faults in the answers.
 use Rattle.std.specs.Prelude.{ℕ, List, codes}
 use Rattle.ss_words.specs.declared.fault.TextRule.{TextRule}
 use Rattle.ss_words.specs.declared.fault.TextRule.TheVariants as t
@@ -16,7 +16,7 @@ text_rule_code t.UnexpectedWord = codes "P1"
 text_rule_code t.UnexpectedEnd = codes "P2"
 text_rule_code t.PastLimit = codes "P3"
 
--- the number behind the F of a run fault
+-- the number after the F of a run fault
 abbrev pub run_fault_number : RunFault → ℕ
 run_fault_number f.OutOfRange = 1
 run_fault_number f.ZeroDivisor = 2

@@ -1,3 +1,5 @@
+-- The definitions of this crate: refusals and faults, readings, plain words, and the words of a
+-- text.
 pub mod Faults
 pub mod Outcomes
 pub mod Ranges

@@ -17,18 +17,18 @@ Name = List ℕ
 pub record Several (A : Type 0) : Type 0 where
   -- the first
   pub first : A
-  -- those behind it
+  -- the items after the first
   pub others : List A
 
--- the same as a list
+-- one or more items as a plain list
 abbrev pub all_of : {A : Type 0} → Several A → List A
 all_of xs = xs.first ∷ xs.others
 
--- what one or more stand for, each seen by f
+-- one or more items of the code as a list of the definitions, each seen by f
 abbrev pub several_view : {X A : Type 0} → (X → A) → CodeSeveral X → Several A
 several_view f xs = record { first = f xs.first; others = map f xs.others.items }
 
--- each behind a comma
+-- each after a comma
 abbrev pub spell_others : {A : Type 0} → (A → List Plain) → List A → List Plain
 spell_others spell xs = flat_map (λ x. mark (m.Sign s.Comma) ∷ spell x) xs
 
@@ -40,7 +40,7 @@ spell_several spell xs = spell xs.first ++ spell_others spell xs.others
 abbrev pub spell_names : Several Name → List Plain
 spell_names ns = spell_several (λ n. name n ∷ []) ns
 
--- one or more names behind a mark, or nothing
+-- one or more names after a mark, or nothing
 abbrev pub spell_names_behind : Mark → Option (Several Name) → List Plain
 spell_names_behind wanted None = []
 spell_names_behind wanted (Some ns) = mark wanted ∷ spell_names ns
@@ -49,7 +49,7 @@ spell_names_behind wanted (Some ns) = mark wanted ∷ spell_names ns
 unfoldable pub next_name : Reading (Option Name)
 next_name = eat (m.Sign s.Comma) >>= λ b. elim b [ true ↦ (a_name >>= λ n. pure (Some n)) | false ↦ pure None ]
 
--- names, each behind its comma
+-- names, each after its comma
 unfoldable pub other_names : Reading (List Name)
 other_names = many next_name [] (λ n ns. n ∷ ns)
 

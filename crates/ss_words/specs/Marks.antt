@@ -21,7 +21,7 @@ abbrev pub is : Mark → Option Plain → Bool
 is wanted (Some (mark j)) = same_mark wanted j
 is wanted _ = false
 
--- passes this mark, or refuses what stands in its place
+-- passes this mark, or refuses the word in its place
 unfoldable pub expect : Mark → Reading (Unit {0})
 expect wanted = look (λ w. elim (is wanted w) [ true ↦ skip (pure tt) | false ↦ refuse Unexpected ])
 
@@ -29,7 +29,7 @@ expect wanted = look (λ w. elim (is wanted w) [ true ↦ skip (pure tt) | false
 unfoldable pub eat : Mark → Reading Bool
 eat wanted = look (λ w. elim (is wanted w) [ true ↦ skip (pure true) | false ↦ pure false ])
 
--- passes a name, or refuses what stands in its place
+-- passes a name, or refuses the word in its place
 abbrev pub name_by : Option Plain → Reading (List ℕ)
 name_by (Some (name n)) = skip (pure n)
 name_by _ = refuse Unexpected
@@ -38,7 +38,7 @@ name_by _ = refuse Unexpected
 unfoldable pub a_name : Reading (List ℕ)
 a_name = look name_by
 
--- passes a number, or refuses what stands in its place
+-- passes a number, or refuses the word in its place
 abbrev pub number_by : Option Plain → Reading ℕ
 number_by (Some (number n)) = skip (pure n)
 number_by _ = refuse Unexpected
@@ -47,7 +47,7 @@ number_by _ = refuse Unexpected
 unfoldable pub a_number : Reading ℕ
 a_number = look number_by
 
--- passes a picture, or refuses what stands in its place
+-- passes a picture, or refuses the word in its place
 abbrev pub picture_by : Option Plain → Reading (List (List ℕ))
 picture_by (Some (picture ls)) = skip (pure ls)
 picture_by _ = refuse Unexpected

@@ -1,4 +1,4 @@
--- Plain words without where they lie in memory.
+-- Plain words without their places in memory.
 use Rattle.std.specs.Prelude.{ℕ, List, [], ◌∷◌, map, Option, Some, None}
 use Rattle.ss_words.specs.declared.mark.Mark.{Mark}
 use Rattle.ss_words.specs.declared.plain_word.Plain.{Plain as Code}
@@ -31,14 +31,14 @@ plain_of (c.Number n) = number n
 plain_of (c.Mark m) = mark m
 plain_of (c.Picture ls) = picture (map (λ l. l.items) ls.now)
 
--- a word of the text, where a name is none of the reserved ones
+-- a word of the text, if a name is none of the reserved ones
 abbrev pub unreserved_word : Kind → Plain
 unreserved_word (w.name n) = name n
 unreserved_word (w.number n) = number n
 unreserved_word (w.sign s) = mark (Sign s)
 unreserved_word (w.picture ls) = picture ls
 
--- the same where the word is this reserved word or sign, if it is one
+-- this reserved word or sign if there is one, and else the word as `unreserved_word` gives it
 abbrev pub mark_or_word : Option Mark → Kind → Plain
 mark_or_word None kind = unreserved_word kind
 mark_or_word (Some m) kind = mark m
@@ -47,7 +47,7 @@ mark_or_word (Some m) kind = mark m
 abbrev pub plain_in : PlainWord → Plain
 plain_in word = mark_or_word word.mark (kind_of word.word.now.kind)
 
--- the same with its line and place
+-- a plain word of a list of the code, with its line and place
 abbrev pub plain_at : PlainWord → PlainAt
 plain_at word = record { line = word.word.now.line; index = word.index; word = plain_in word }
 
@@ -59,7 +59,7 @@ plains_of ws = map plain_in ws
 abbrev pub word_lines : List PlainWord → List ℕ
 word_lines ws = map (λ w. w.word.now.line) ws
 
--- the words alone
+-- the words without their lines and places
 abbrev pub plains : List PlainAt → List Plain
 plains ws = map (λ w. w.word) ws
 

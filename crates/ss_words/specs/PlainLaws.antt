@@ -1,4 +1,5 @@
--- What the rules of the plain words come to on lists of words that are written out: for the laws of src/plain_laws.rt.
+-- The results of the rules of the plain words on lists of words that are written out: for the laws
+-- of src/plain_laws.rt.
 use Rattle.std.specs.Prelude.{◌≡◌, ℕ, List, ◌++◌, map, codes, bytes_eq, if◌then◌else◌, ◌==◌}
 use Rattle.std.specs.List.{slice_split}
 use Rattle.ss_words.specs.declared.characters.TheConstants.{BLANK}
@@ -29,7 +30,7 @@ words_on line text = map (λ p. record { line = line; kind = kind_of_piece p }) 
 abbrev pub Becomes : List ℕ → List ℕ → Type 0
 Becomes from to = plains (plain_words_of (words_on 1 from)) ≡ plains (unruled_words (words_on 1 to))
 
--- the same for each of these words, where it stands before the two texts
+-- `Becomes` for each of the words `heads`, put before the two texts
 abbrev pub BecomeBehind : List ℕ → List ℕ → List ℕ → Type 0
 BecomeBehind heads from to =
     map (λ h. plains (plain_words_of (words_on 1 (h ++ from)))) (pieces heads)

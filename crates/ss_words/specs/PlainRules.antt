@@ -11,7 +11,7 @@ use Rattle.ss_words.specs.Words.{Kind, WordAt}
 use Rattle.ss_words.specs.Plain.{Plain, PlainAt, plains, first, name, number, mark, picture}
 use Rattle.ss_words.specs.Spellings.{mark_of}
 
--- ---- what stands round a word
+-- ---- the words around a word
 
 -- the reserved word or sign that a word is
 abbrev pub mark_in : Plain → Option Mark
@@ -22,7 +22,7 @@ mark_in _ = None
 abbrev pub beside : List Plain → Option Mark
 beside ws = option_and_then mark_in (first ws)
 
--- the words that govern the AND and AT behind them
+-- the words that govern the AND and AT after them
 abbrev pub is_governing : Option Mark → Bool
 is_governing (Some (Reserved r.Preamble)) = true
 is_governing (Some (Reserved r.Main)) = true
@@ -51,26 +51,26 @@ is_governing (Some (Reserved r.Print)) = true
 is_governing (Some (Reserved r.Skip)) = true
 is_governing _ = false
 
--- the word that governs what stands behind these words, the nearest of them first
+-- the word that governs the words after these, the nearest of these first
 abbrev pub governing_word : List Plain → Option Mark
 governing_word ws = option_and_then mark_in (find (λ w. is_governing (mark_in w)) ws)
 
--- what stands round a word, each where it is a reserved word or a sign: what is directly before it, its governing word,
--- and what is directly behind it
+-- the words around a word, each if it is a reserved word or a sign: the word directly before it,
+-- its governing word, and the word directly after it
 pub record Surroundings : Type 0 where
   -- the word directly before it
   pub before : Option Mark
   -- the word that governs it
   pub governing : Option Mark
-  -- the word directly behind it
+  -- the word directly after it
   pub behind : Option Mark
 
--- what stands round a word between these; the words before it go backwards
+-- the surroundings of a word between these; the words before it go backwards
 abbrev pub surroundings : List Plain → List Plain → Surroundings
 surroundings before behind =
     record { before = beside before; governing = governing_word before; behind = beside behind }
 
--- what a rule makes of a reserved word or sign among its surroundings, and none where it drops it
+-- the result of a rule on a reserved word or sign in its surroundings; none if the rule drops it
 abbrev pub PlainRule : Type 0
 PlainRule = Surroundings → Mark → Option Mark
 
@@ -118,8 +118,8 @@ as_follows around (Reserved r.As) = Some (Reserved (if is_follows around.behind 
 as_follows around (Reserved r.Follows) = if is_as around.before then None else Some (Reserved r.Follows)
 as_follows around m = Some m
 
--- directly behind SCHEDULE, A and AN are A, THE and THIS are THE; elsewhere these four are dropped, and everywhere MAY,
--- OUTPUT, and TO or FOR directly behind ROUTINE
+-- directly after SCHEDULE, A and AN are A, THE and THIS are THE; elsewhere these four are dropped,
+-- and everywhere MAY, OUTPUT, and TO or FOR directly after ROUTINE
 abbrev pub without_fillers : PlainRule
 without_fillers around (Reserved r.A) = if is_schedule around.before then Some (Reserved r.A) else None
 without_fillers around (Reserved r.An) = if is_schedule around.before then Some (Reserved r.A) else None
@@ -138,7 +138,7 @@ by_governing_word around (Reserved r.And) =
 by_governing_word around (Reserved r.At) = Some (Reserved (if is_schedule around.governing then r.At else r.In))
 by_governing_word around m = Some m
 
--- of commas that stand together the first one stays
+-- the first one of adjacent commas stays
 abbrev pub single_commas : PlainRule
 single_commas around (Sign s.Comma) = if is_comma around.before then None else Some (Sign s.Comma)
 single_commas around m = Some m
@@ -150,14 +150,14 @@ parting_commas around m = Some m
 
 -- ---- a rule over a whole list
 
--- a word under a rule, or nothing: names, numbers and pictures stay, and what stays keeps its line and place
+-- a word under a rule, or nothing: other kinds stay, and a word that stays keeps its line and place
 abbrev pub ruled_word : PlainRule → Surroundings → PlainAt → List PlainAt
 ruled_word rule surroundings word = elim word.word [
   | mark m ↦ option_to_list (option_map (λ n. record word { word = mark n }) (rule surroundings m))
   | _ ↦ word ∷ []
 ]
 
--- a rule over the words of a list that stand behind these, which go backwards
+-- a rule over the words of a list that follow these, which go backwards
 abbrev pub follow_behind : PlainRule → List PlainAt → List PlainAt → List PlainAt
 follow_behind rule before [] = []
 follow_behind rule before (w ∷ behind) =
@@ -181,7 +181,7 @@ plain_kind (w.number n) = number n
 plain_kind (w.sign s) = mark (Sign s)
 plain_kind (w.picture ls) = picture ls
 
--- the same with its line, and with its place in the list of words
+-- the plain word with its line, and with its place in the list of words
 abbrev pub plain_from : ℕ → WordAt → PlainAt
 plain_from i word = record { line = word.line; index = i; word = plain_kind word.kind }
 

@@ -1,4 +1,4 @@
--- What the code's rules of the plain words stand for.
+-- The rules of the definitions that the code's rules of the plain words mean.
 use Rattle.ss_words.specs.declared.plain_rules.Around.{Around}
 use Rattle.ss_words.specs.declared.plain_rules.Rule.{Rule}
 use Rattle.ss_words.specs.declared.plain_rules.Rule.TheVariants as code
@@ -6,7 +6,7 @@ use Rattle.ss_words.specs.PlainRules.{Surroundings, PlainRule, as_follows, witho
 use Rattle.ss_words.specs.PlainRules.{single_commas}
 use Rattle.ss_words.specs.PlainRules.{parting_commas}
 
--- what stands round a word, as the code keeps it
+-- the surroundings of a word, as the code keeps them
 abbrev pub surroundings_of : Around → Surroundings
 surroundings_of around = record { before = around.before; governing = around.governing; behind = around.behind }
 

@@ -7,12 +7,12 @@ use Rattle.ss_words.specs.declared.spelling.TheConstants.{SPELLINGS}
 unfoldable pub spellings : List (List ℕ × Mark)
 spellings = map (λ row. (row.0.now, row.1)) SPELLINGS
 
--- the mark beside this spelling in a table
+-- the mark next to this spelling in a table
 abbrev pub mark_beside : List ℕ → List (List ℕ × Mark) → Option Mark
 mark_beside name [] = None
 mark_beside name (row ∷ rows) = if bytes_eq row.0 name then Some row.1 else mark_beside name rows
 
--- what a name is reserved for, if it is
+-- the mark for which a name is reserved, if it is
 unfoldable pub mark_of : List ℕ → Option Mark
 mark_of name = mark_beside name spellings
 

@@ -1,4 +1,4 @@
--- What the bytes of a text are.
+-- The kinds of the bytes of a text.
 use Rattle.std.specs.Prelude.{ℕ, Bool, ◌&&◌, ◌||◌, not, ◌==◌, nat_le, Option, Some, None, if◌then◌else◌, is_some}
 use Rattle.std.specs.Char.{is_ascii_alphabetic, is_ascii_digit}
 use Rattle.ss_words.specs.declared.characters.TheConstants.{TAB, BLANK, TILDE, STOP, PLUS_SIGN, MINUS_SIGN, ASTERISK}
@@ -8,7 +8,7 @@ use Rattle.ss_words.specs.declared.word.Sign.{Sign}
 use Rattle.ss_words.specs.declared.word.Sign.TheVariants.{Plus, Minus, Star, Open, Close, Comma, Equal, Less, Greater}
 use Rattle.ss_words.specs.declared.word.Sign.TheVariants.{LessEqual, GreaterEqual}
 
--- a byte that may stand in a line: a tab, or a blank to `~`
+-- a byte that is allowed in a line: a tab, or a blank to `~`
 unfoldable pub is_allowed : ℕ → Bool
 is_allowed b = b == TAB || (nat_le BLANK b && nat_le b TILDE)
 
@@ -34,7 +34,7 @@ one_byte_sign b =
     else (if b == GREATER_SIGN then Some Greater
     else None))))))))
 
--- the sign that begins at a byte before the byte `next`: `<` and `>` take an `=` directly behind them
+-- the sign that begins at a byte before the byte `next`: `<` and `>` take an `=` directly after
 unfoldable pub sign_from : ℕ → ℕ → Option Sign
 sign_from b next =
     if b == LESS_SIGN && next == EQUALS_SIGN then Some LessEqual
@@ -55,10 +55,10 @@ sign_len Equal = 1
 sign_len Less = 1
 sign_len Greater = 1
 
--- a byte goes on with what the byte `last` before it belongs to: a run, or a sign of two bytes
+-- a byte continues the run, or the sign of two bytes, of the byte `last` before it
 unfoldable pub is_joined : ℕ → ℕ → Bool
 is_joined last b = (in_run last && in_run b) || ((last == LESS_SIGN || last == GREATER_SIGN) && b == EQUALS_SIGN)
 
--- a byte of a line that may not stand in it, or that is outside comments, where it is `plain`, no blank, run or sign
+-- a byte that is not allowed in a line; or, outside comments (`plain`), of no blank, run or sign
 unfoldable pub is_stray : ℕ → ℕ → Bool
 is_stray b plain = not (is_allowed b && (in_run plain || is_blank plain || is_some (one_byte_sign plain)))

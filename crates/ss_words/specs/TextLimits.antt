@@ -1,4 +1,4 @@
--- What each word of a text keeps to.
+-- The limits that each word of a text keeps.
 use Rattle.std.specs.Prelude.{◌≡◌, ◌≤◌, ℕ, true, List, length, map, All, Ok}
 use Rattle.std.specs.Char.{to_ascii_uppercase}
 use Rattle.std.specs.List.{list_all}

@@ -10,7 +10,7 @@ without_return [] = []
 without_return (b ∷ []) = if b == CARRIAGE_RETURN then [] else b ∷ []
 without_return (b ∷ c ∷ bs) = b ∷ without_return (c ∷ bs)
 
--- an empty piece behind the last line feed is no line
+-- an empty piece after the last line feed is no line
 unfoldable pub without_empty_last : List (List ℕ) → List (List ℕ)
 without_empty_last [] = []
 without_empty_last ([] ∷ []) = []
@@ -21,7 +21,7 @@ without_empty_last (l ∷ m ∷ ls) = l ∷ without_empty_last (m ∷ ls)
 unfoldable pub text_lines : List ℕ → List (List ℕ)
 text_lines text = without_empty_last (map without_return (slice_split (λ b. b == LINE_FEED) text))
 
--- a line with its comments made blank, where two quotes begin or end one; it begins inside one or not
+-- a line with its comments made blank; two quotes begin or end one; it begins inside one or not
 unfoldable pub with_blank_comments : Bool → List ℕ → List ℕ
 with_blank_comments inside [] = []
 with_blank_comments inside (b ∷ []) = (if inside then BLANK else b) ∷ []

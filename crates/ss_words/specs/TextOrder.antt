@@ -7,7 +7,7 @@ use Rattle.ss_words.specs.declared.fault.TextRule.TheVariants.{PastLimit}
 use Rattle.ss_words.specs.Words.{Kind}
 use Rattle.ss_words.specs.TextWords.{Finding, word, breach, found_at, picture_head}
 
--- the number behind the L of a rule on the words; the rules on the grammar have none
+-- the number after the L of a rule on the words; the rules on the grammar have none
 abbrev pub rule_number : TextRule → ℕ
 rule_number StrayByte = 1
 rule_number BadNumber = 2

@@ -1,5 +1,5 @@
--- At which places of a text which rules are broken, and where a text is refused. The places of a text are the bytes of
--- its lines, counted from 0 over all lines.
+-- Which rules are broken at which places of a text, and the place at which a text is refused. The
+-- places of a text are the bytes of its lines, counted from 0 over all lines.
 use Rattle.std.specs.Prelude.{◌≡◌, ◌≤◌, ◌<◌, ℕ, zero, suc, ◌+◌, false, List, [], ◌∷◌, ◌++◌, map, length, sum_by}
 use Rattle.std.specs.Prelude.{Contains, Ok, Err}
 use Rattle.ss_words.specs.declared.characters.TheConstants.{BLANK}
@@ -12,7 +12,7 @@ use Rattle.ss_words.specs.TextWords.{breaches_in, nearest_first, found_at, found
 use Rattle.ss_words.specs.TextWords.{picture_size, picture_found, words_of}
 use Rattle.ss_words.specs.TextOrder.{rule_number}
 
--- a line of number n outside pictures, with so many lines below it
+-- a line of number n outside pictures, with `below` lines below it
 module _ (n below : ℕ) where
   -- the breaches at each of its places from one on; `last` is the byte before it, `plain` has the comments made blank
   unfoldable pub breaches_from_place : List Kind → ℕ → List ℕ → List ℕ → List (List TextFault)
@@ -27,7 +27,7 @@ unfoldable pub breaches_in_picture : ℕ → List ℕ → List (List TextFault)
 breaches_in_picture n [] = []
 breaches_in_picture n (b ∷ bs) = breaches_in (picture_head n b bs) ∷ map (λ c. breaches_in (picture_byte n c)) bs
 
--- the breaches at each place of the lines from line n on, where so many of them belong to the picture before
+-- the breaches at each place of the lines from line n on; the first k belong to the picture before
 unfoldable pub breaches_from_line : List Kind → ℕ → ℕ → List (List ℕ) → List (List TextFault)
 breaches_from_line before n zero [] = []
 breaches_from_line before n (suc k) [] = []
@@ -42,7 +42,7 @@ breaches_from_line before n zero (l ∷ ls) =
 unfoldable pub breaches_by_place : List ℕ → List (List TextFault)
 breaches_by_place text = breaches_from_line [] 1 0 (text_lines text)
 
--- what stands at place i, and nothing behind the last place
+-- the breaches at place i, and nothing after the last place
 abbrev pub at_place : List (List TextFault) → ℕ → List TextFault
 at_place [] i = []
 at_place (fs ∷ rest) zero = fs
@@ -66,12 +66,12 @@ pub record IsRefusedAt (text : List ℕ) (i : ℕ) (rule : TextRule) (n : ℕ) :
   -- none with a lower number is broken there
   pub none_lower : (q : TextRule) (m : ℕ) → IsBroken text i q m → rule_number rule ≤ rule_number q
 
--- where the answer is a refusal, it has its place
+-- if the answer is a refusal, it has its place
 abbrev pub RefusalHasAPlace : Type 0
 RefusalHasAPlace =
     (text : List ℕ) (r : TextRule) (n : ℕ) → words_of text ≡ Err (Refused r n) → (i : ℕ) × IsRefusedAt text i r n
 
--- where a text is refused by a rule, that rule and its line are the answer
+-- if a text is refused by a rule, that rule and its line are the answer
 abbrev pub RefusalIsAnswered : Type 0
 RefusalIsAnswered =
     (text : List ℕ) (i : ℕ) (r : TextRule) (n : ℕ) → IsRefusedAt text i r n → words_of text ≡ Err (Refused r n)

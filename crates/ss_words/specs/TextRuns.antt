@@ -48,7 +48,7 @@ unfoldable pub calls_picture : List Kind → Bool
 calls_picture [] = false
 calls_picture (k ∷ ks) = is_name (codes "THUS") k || (is_name (codes "FOLLOWS") k && ends_in (codes "AS") ks)
 
--- the word directly behind the nearest PRINT, where `behind` stands directly behind the words
+-- the word directly after the nearest PRINT; `behind` is the word directly after the words
 unfoldable pub behind_print : Option Kind → List Kind → Option Kind
 behind_print behind [] = None
 behind_print behind (k ∷ ks) = elim (is_name (codes "PRINT") k) [ true ↦ behind | false ↦ behind_print (Some k) ks ]
@@ -65,7 +65,7 @@ line_count (Some (picture ls)) = None
 abbrev pub picture_lines : List Kind → Option ℕ
 picture_lines words = line_count (behind_print None words)
 
--- a count that so many lines below meet
+-- a count that the `below` lines below meet
 abbrev pub is_met : Option ℕ → ℕ → Bool
 is_met None below = false
 is_met (Some n) below = nat_le n below

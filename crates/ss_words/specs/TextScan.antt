@@ -19,7 +19,7 @@ nearest_before (w ∷ ws) before = nearest_before ws (w.kind ∷ before)
 unfoldable pub nearest : List WordAt → List Kind
 nearest ws = nearest_before ws []
 
--- what was found before and what is still to be found are together the same before and after
+-- the earlier findings and those still to come are together the same before and after
 abbrev pub SameFindings : List WordAt → List Finding → List WordAt → List Finding → Type 0
 SameFindings old todo new left = map word old ++ todo ≡ map word new ++ left
 
@@ -29,24 +29,24 @@ first_breach [] = None
 first_breach (word w ∷ fs) = first_breach fs
 first_breach (breach r n ∷ fs) = Some (Refused r n)
 
--- the fault is the first breach among what is still to be found, or memory was refused
+-- the fault is the first breach among the findings still to come, or memory was refused
 abbrev pub IsFirstIn : TextFault → List Finding → Type 0
 IsFirstIn Memory todo = Unit {0}
 IsFirstIn (Refused r n) todo = first_breach todo ≡ Some (Refused r n)
 
--- two quotes stand at the front
+-- two quotes are at the front
 unfoldable pub begins_comment : List ℕ → Bool
 begins_comment [] = false
 begins_comment (b ∷ []) = false
 begins_comment (b ∷ c ∷ bs) = b == QUOTE && c == QUOTE
 
--- how many bytes of a line are in the comment that has begun: to behind the next two quotes, or to the line's end
+-- how many bytes a begun comment has in a line: past the next two quotes, or to the line's end
 unfoldable pub hidden_len : List ℕ → ℕ
 hidden_len [] = 0
 hidden_len (b ∷ []) = 1
 hidden_len (b ∷ c ∷ bs) = elim (b == QUOTE && c == QUOTE) [ true ↦ 2 | false ↦ suc (hidden_len (c ∷ bs)) ]
 
--- what is kept of the words: whether they end in AS, end in PRINT or call a picture, and how many lines it has
+-- facts on the words: whether they end in AS, end in PRINT, call a picture, and its count of lines
 pub record IsTracked (behind_as behind_print called : Bool) (count : Option ℕ) (words : List Kind) : Type 0 where
   -- whether they end in AS
   pub as_last : behind_as ≡ ends_in (codes "AS") words
@@ -66,12 +66,12 @@ abbrev pub count_after : Kind → Bool → Option ℕ → Option ℕ
 count_after kind behind_print count =
     if is_name (codes "PRINT") kind then None else (if behind_print then line_count (Some kind) else count)
 
--- what is found below a line: the picture that the words call, if they call one, and the lines from line n on
+-- the findings below a line: the picture that the words call, if any, and the lines from line n on
 abbrev pub found_below : List Kind → ℕ → List (List ℕ) → List Finding
 found_below words n ls =
     let drawn = picture_found (picture_size words) n ls in
     drawn ++ found_from_line (nearest_first drawn words) n (picture_size words) ls
 
--- what is found in the rest of a line, with the text below it and the words before it
+-- the findings in the rest of a line, with the text below it and the words before it
 abbrev pub left_in_line : ℕ → List ℕ → List WordAt → List ℕ → List Finding
 left_in_line n below words rest = found_in_line n (length (text_lines below)) (nearest words) rest

@@ -1,4 +1,4 @@
--- What a run spells, as the scan says it.
+-- The spelling of a run, as the scan gives it.
 use Rattle.std.specs.Prelude.{ℕ, List, map, Option, Some, None, if◌then◌else◌}
 use Rattle.std.specs.Char.{to_ascii_uppercase}
 use Rattle.ss_words.specs.declared.scan.run.Spelling.{Spelling}

@@ -16,7 +16,7 @@ use Rattle.ss_words.specs.TextLines.{with_blank_comments, text_lines}
 use Rattle.ss_words.specs.TextRuns.{without_stops, is_bad_number, word_of_run, calls_picture, picture_lines}
 use Rattle.ss_words.specs.TextRuns.{lacks_picture}
 
--- what is found at a place: a word that begins there, or a rule that is broken there, with its line
+-- a finding at a place: a word that begins there, or a rule that is broken there, with its line
 pub data Finding : Type 0 where
   word : WordAt → Finding
   breach : TextRule → ℕ → Finding
@@ -25,13 +25,13 @@ pub data Finding : Type 0 where
 abbrev pub on_line : ℕ → Kind → WordAt
 on_line line kind = record { line = line; kind = kind }
 
--- the words among what is found
+-- the words among the findings
 abbrev pub words_in : List Finding → List WordAt
 words_in [] = []
 words_in (word w ∷ fs) = w ∷ words_in fs
 words_in (breach r n ∷ fs) = words_in fs
 
--- the breaches among what is found
+-- the breaches among the findings
 abbrev pub breaches_in : List Finding → List TextFault
 breaches_in [] = []
 breaches_in (word w ∷ fs) = breaches_in fs
@@ -52,9 +52,9 @@ abbrev pub sign_found : ℕ → Option Sign → List Finding
 sign_found n None = []
 sign_found n (Some g) = word (on_line n (sign g)) ∷ []
 
--- a line of number n with so many lines below it
+-- a line of number n with `below` lines below it
 module _ (n below : ℕ) where
-  -- the word of a run, if it is one, behind the words before it and in front of the rest of its line
+  -- the word of a run, if it is one, after the words before it and in front of the rest of its line
   abbrev pub word_found : List Kind → List ℕ → Option Kind → List Finding
   word_found before rest None = []
   word_found before rest (Some k) =
@@ -67,7 +67,7 @@ module _ (n below : ℕ) where
       ++ breach_if LongRun n (nat_lt LONGEST_RUN (length run))
       ++ word_found before rest (word_of_run (without_stops run))
 
-  -- what begins at a place that is not joined to the byte before it; `plain` is the line with comments made blank
+  -- the findings of a place that is not joined to the byte before it; `plain` has blank comments
   unfoldable pub begun_at : List Kind → List ℕ → List ℕ → List Finding
   begun_at before line plain =
       elim (in_run (slice_index plain 0)) [
@@ -75,13 +75,13 @@ module _ (n below : ℕ) where
         | false ↦ sign_found n (sign_from (slice_index plain 0) (slice_index plain 1))
       ]
 
-  -- what is found at a place, the lowest number first
+  -- the findings at a place, the lowest number first
   unfoldable pub found_at : List Kind → ℕ → List ℕ → List ℕ → List Finding
   found_at before last line plain =
       breach_if StrayByte n (is_stray (slice_index line 0) (slice_index plain 0))
       ++ (elim (is_joined last (slice_index plain 0)) [ true ↦ [] | false ↦ begun_at before line plain ])
 
-  -- what is found at each place of a line from one on; `last` is the byte before it
+  -- the findings at each place of a line from one on; `last` is the byte before it
   unfoldable pub found_from_place : List Kind → ℕ → List ℕ → List ℕ → List Finding
   found_from_place before last [] plain = []
   found_from_place before last (b ∷ bs) [] = []
@@ -89,7 +89,7 @@ module _ (n below : ℕ) where
       let here = found_at before last (b ∷ bs) (p ∷ ps) in
       here ++ found_from_place (nearest_first here before) p bs ps
 
-  -- what is found in a line outside pictures
+  -- the findings in a line outside pictures
   abbrev pub found_in_line : List Kind → List ℕ → List Finding
   found_in_line before line = found_from_place before BLANK line (with_blank_comments false line)
 
@@ -97,11 +97,11 @@ module _ (n below : ℕ) where
 abbrev pub picture_byte : ℕ → ℕ → List Finding
 picture_byte n b = breach_if StrayByte n (not (is_allowed b))
 
--- what is found at the first byte of line n of a picture, with the bytes behind it, the lowest number first
+-- the findings at the first byte of line n of a picture before its other bytes, lowest number first
 abbrev pub picture_head : ℕ → ℕ → List ℕ → List Finding
 picture_head n b bs = picture_byte n b ++ breach_if LongPictureLine n (nat_lt LONGEST_PICTURE_LINE (length (b ∷ bs)))
 
--- what is found in line n of a picture
+-- the findings in line n of a picture
 unfoldable pub found_in_picture : ℕ → List ℕ → List Finding
 found_in_picture n [] = []
 found_in_picture n (b ∷ bs) = picture_head n b bs ++ flat_map (picture_byte n) bs
@@ -113,12 +113,12 @@ picture_size words = elim (calls_picture words) [
   | false ↦ 0
 ]
 
--- the picture of so many lines, the first of number n
+-- the picture of k lines, the first of them line n
 abbrev pub picture_found : ℕ → ℕ → List (List ℕ) → List Finding
 picture_found zero n lines = []
 picture_found (suc k) n lines = word (on_line n (picture (take (suc k) lines))) ∷ []
 
--- what is found in the lines from line n on, where so many of them belong to the picture before
+-- the findings in the lines from line n on; the first k of them belong to the picture before
 unfoldable pub found_from_line : List Kind → ℕ → ℕ → List (List ℕ) → List Finding
 found_from_line before n zero [] = []
 found_from_line before n (suc k) [] = []
@@ -133,7 +133,7 @@ found_from_line before n zero (l ∷ ls) =
 unfoldable pub found_in_text : List ℕ → List Finding
 found_in_text text = found_from_line [] 1 0 (text_lines text)
 
--- the words where nothing is broken, and else the first breach
+-- the words if nothing is broken, and else the first breach
 unfoldable pub answer_of : List Finding → Result (List WordAt) TextFault
 answer_of fs = elim (breaches_in fs) [ [] ↦ Ok (words_in fs) | b ∷ bs ↦ Err b ]
 

@@ -1,4 +1,4 @@
--- Words without where they lie in memory.
+-- Words without their places in memory.
 use Rattle.std.specs.Prelude.{ℕ, List, map}
 use Rattle.ss_words.specs.declared.word.Sign.{Sign}
 use Rattle.ss_words.specs.declared.word.Word.{Word}
@@ -16,7 +16,7 @@ pub data Kind : Type 0 where
 pub record WordAt : Type 0 where
   -- its line
   pub line : ℕ
-  -- what it is
+  -- its kind: a name, a number, a sign or a picture
   pub kind : Kind
 
 -- the bytes of each line

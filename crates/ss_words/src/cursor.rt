@@ -35,14 +35,14 @@ impl<'a> Model for Cursor<'a> {
 }
 
 impl<'a> Cursor<'a> {
-    /// A cursor before these words. What its reader allocates comes from `alloc`.
+    /// A cursor before these words. Its reader allocates from `alloc`.
     pub fn new(alloc: Global, words: &'a [PlainWord<'a>]) -> Self
         ensures { result ≡ plains_of words.now }
     {
         Cursor { alloc, rest: words }
     }
 
-    /// Where its reader allocates.
+    /// The allocator of its reader.
     pub fn alloc(&self) -> Global {
         self.alloc
     }
@@ -61,7 +61,7 @@ impl<'a> Cursor<'a> {
         self.rest.is_empty()
     }
 
-    /// The next word, which stays the next one; `None` where none is left.
+    /// The next word, which stays the next one; `None` if none is left.
     pub fn peek(&self) -> Option<Plain<'a>>
         ensures { first self.now ≡ option_map plain_of result }
     {
@@ -71,7 +71,7 @@ impl<'a> Cursor<'a> {
         }
     }
 
-    /// Whether the next word is this mark; false where none is left.
+    /// Whether the next word is this mark; false if none is left.
     pub fn is_next(&self, mark: Mark) -> bool
         ensures { result ≡ marks.is mark (first self.now) }
     {
@@ -91,7 +91,7 @@ impl<'a> Cursor<'a> {
         }
     }
 
-    /// Passes this mark. `Unexpected` where another word or none stands in its place.
+    /// Passes this mark. `Unexpected` if another word or none is in its place.
     pub fn expect(&mut self, mark: Mark) -> Result<(), Refusal>
         ensures exact { Gives (λ x. tt) result self.new (marks.expect mark self.old) }
         // No memory is taken, so no other refusal; of `Memory` `exact` says nothing.
@@ -119,11 +119,11 @@ impl<'a> Cursor<'a> {
         found
     }
 
-    /// Passes a name and gives a copy of it. `Unexpected` where the next word is no name or none is
-    /// left, `Memory` where the copy was refused.
+    /// Passes a name and gives a copy of it. `Unexpected` if the next word is no name or none is
+    /// left, `Memory` if the copy was refused.
     pub fn name(&mut self) -> Result<Name, Refusal>
         ensures exact { Gives (λ n. n) result self.new (marks.a_name self.old) }
-        // Also where memory is refused, of which `exact` says nothing.
+        // Also if memory is refused, of which `exact` says nothing.
         ensures stays { OnErr result (self.new ≡ self.old) }
         ensures shorter { length self.new ≤ length self.old }
         ensures taken { IfOk result (λ _. length self.new < length self.old) }
@@ -136,7 +136,7 @@ impl<'a> Cursor<'a> {
         Ok(name)
     }
 
-    /// Passes a number. `Unexpected` where the next word is no number or none is left.
+    /// Passes a number. `Unexpected` if the next word is no number or none is left.
     pub fn number(&mut self) -> Result<u64, Refusal>
         ensures exact { Gives (λ n. n) result self.new (marks.a_number self.old) }
         // No memory is taken, so no other refusal; of `Memory` `exact` says nothing.
@@ -151,12 +151,12 @@ impl<'a> Cursor<'a> {
         Ok(number)
     }
 
-    /// Passes a picture and gives a copy of its lines. `Unexpected` where the next word is no
-    /// picture or none is left, `Memory` where the memory for the copy was refused.
+    /// Passes a picture and gives a copy of its lines. `Unexpected` if the next word is no picture
+    /// or none is left, `Memory` if the memory for the copy was refused.
     pub fn picture(&mut self) -> Result<Vec<Vec<u8>>, Refusal>
         ensures exact { Gives (λ v. map (λ l. l.items) v.items) result self.new
             (marks.a_picture self.old) }
-        // Also where memory is refused, of which `exact` says nothing.
+        // Also if memory is refused, of which `exact` says nothing.
         ensures stays { OnErr result (self.new ≡ self.old) }
         ensures shorter { length self.new ≤ length self.old }
         ensures taken { IfOk result (λ _. length self.new < length self.old) }
@@ -169,8 +169,8 @@ impl<'a> Cursor<'a> {
         Ok(lines)
     }
 
-    /// The line of the next word, from 1, where the words that are left are the last ones of
-    /// `text`; 0 where none is left.
+    /// The line of the next word, from 1, if the words that are left are the last ones of `text`; 0
+    /// if none is left.
     pub fn line(&self, text: &[PlainWord<'_>]) -> usize
         ensures { result ≡ line (word_lines text.now) (length text.now - length self.now) }
     {

@@ -12,8 +12,8 @@ use crate::several::Several;
 use crate::word::Sign;
 
 impl<'a> Cursor<'a> {
-    /// Passes `name {"," name}` and gives copies of the names. `Unexpected` where the next word
-    /// is no name, or the one behind a comma is none; `Memory` where memory for them was refused.
+    /// Passes `name {"," name}` and gives copies of the names. `Unexpected` if the next word is no
+    /// name, or no name follows a comma; `Memory` if memory for them was refused.
     #[tactic(auto, unfolding(crate::proofs::Unfoldings::names_together))]
     pub fn names(&mut self) -> Result<Several<Name>, Refusal>
         ensures exact { Gives (several_view (λ n. n)) result self.new (lists.names self.old) }
@@ -25,8 +25,8 @@ impl<'a> Cursor<'a> {
         Ok(Several { first, others })
     }
 
-    /// Passes `[mark name {"," name}]`: this mark and the names behind it, or nothing where the
-    /// next word isn't this mark. `Unexpected` and `Memory` as for [`Cursor::names`].
+    /// Passes `[mark name {"," name}]`: this mark and the names after it, or nothing if the next
+    /// word isn't this mark. `Unexpected` and `Memory` as for [`Cursor::names`].
     #[tactic(auto, unfolding(crate::proofs::Unfoldings::names_together))]
     pub fn names_behind(&mut self, mark: Mark) -> Result<Option<Several<Name>>, Refusal>
         ensures exact { Gives (option_view (several_view (λ n. n))) result self.new

@@ -1,10 +1,11 @@
+//! The rules that a text breaks, the faults that stop a run, and the codes that print them.
 use std::alloc::{AllocError, AllocFailed};
 use thiserror::Error;
 
 /// A rule that a model's text breaks (docs/LANGUAGE.md, "Refusals of the text").
 #[derive(Clone, Copy, Debug, PartialEq, Eq)]
 pub enum TextRule {
-    /// L1: a byte that may not stand where it stands.
+    /// L1: a byte that is not allowed at its place.
     StrayByte,
     /// L2: a number above 2^63 - 1, or digits with a stop left in them.
     BadNumber,
@@ -16,7 +17,7 @@ pub enum TextRule {
     LongPictureLine,
     /// P1: a word with which no program goes on.
     UnexpectedWord,
-    /// P2: the text ends where no program ends.
+    /// P2: the text ends at a place at which no program ends.
     UnexpectedEnd,
     /// P3: a word that passes a limit.
     PastLimit,
@@ -76,8 +77,8 @@ impl<T: Drop> From<AllocFailed<T>> for TextFault {
     }
 }
 
-/// What stops a run: the place stays, and the status keeps the fault (docs/LANGUAGE.md, "Run
-/// faults").
+/// A fault that stops a run: the place stays, and the status keeps the fault (docs/LANGUAGE.md,
+/// "Run faults").
 #[derive(Clone, Copy, Debug, Drop, PartialEq, Eq, Error)]
 pub enum RunFault {
     #[error("a value out of range")]
@@ -161,7 +162,7 @@ impl RunFault {
     }
 }
 
-/// What a part of a step answers where it can fault or want memory.
+/// The error of a part of a step that can fault or want memory.
 #[derive(Clone, Copy, Debug, Drop, PartialEq, Eq, Error)]
 pub enum StepFault {
     #[error("{0}")]

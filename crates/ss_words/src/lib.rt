@@ -1,4 +1,4 @@
-//! The words of a model's text, its plain words, and what its refusals and faults are called.
+//! The words of a model's text, its plain words, and the names of its refusals and faults.
 #![tactic(auto)]
 
 pub mod characters;

@@ -1,3 +1,4 @@
+//! Names in upper case, for all parts of the program: a copy takes no new block of bytes.
 ghost use Rattle.std.specs.Prelude.{◌≡◌, IfOk};
 
 use std::alloc::{AllocError, Global};

@@ -50,7 +50,7 @@ pub fn as_follows()
     ensures alone { Becomes (codes "AS AS FOLLOWS FOLLOWS X") (codes "AS THUS FOLLOWS X") }
 {}
 
-/// What is dropped, and where an article or TO or FOR stays.
+/// The words that are dropped, and the places at which an article or TO or FOR stays.
 pub fn fillers()
     ensures dropped { Becomes (codes "X A AN THE THIS MAY OUTPUT Y A THE") (codes "X Y") }
     ensures articles { Becomes

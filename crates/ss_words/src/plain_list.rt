@@ -96,7 +96,7 @@ fn governed_by(mark: Option<Mark>, governing: Option<Mark>) -> Option<Mark>
     }
 }
 
-// What the rule makes of the word; `None` where it drops it.
+// The result of the rule on the word; `None` if it drops it.
 fn ruled<'a>(rule: Rule, around: Around, word: PlainWord<'a>) -> Option<PlainWord<'a>>
     ensures { map plain_at (option_to_list result)
         ≡ ruled_word (rule_of rule) (surroundings_of around) (plain_at word.entry) }

@@ -1,5 +1,4 @@
-//! The rules by which the plain words come from the words, each on one word and what stands round
-//! it.
+//! The rules by which the plain words come from the words, each on one word and its surroundings.
 ghost use Rattle.std.specs.Prelude.{◌≡◌, if◌then◌else◌};
 ghost use Rattle.ss_words.specs.PlainRules as spec;
 ghost use Rattle.ss_words.specs.PlainRulesView.{surroundings_of};
@@ -8,7 +7,7 @@ use crate::mark::Mark;
 use crate::reserved::Reserved;
 use crate::word::Sign;
 
-/// What stands round a word: its neighbours, where they are reserved words or signs, and its
+/// The surroundings of a word: its neighbours, if they are reserved words or signs, and its
 /// governing word.
 #[derive(Clone, Copy, Debug)]
 pub struct Around {
@@ -31,7 +30,7 @@ impl Rule {
     ghost use Rattle.std.specs.Prelude.{◌≡◌};
     ghost use Rattle.ss_words.specs.PlainRulesView.{rule_of, surroundings_of};
 
-    /// What this rule makes of a reserved word or sign; `None` where it drops it.
+    /// The result of this rule on a reserved word or sign; `None` if it drops it.
     pub fn apply(self, around: Around, mark: Mark) -> Option<Mark>
         ensures { result ≡ rule_of self (surroundings_of around) mark }
     {
@@ -82,7 +81,7 @@ fn is_comma(mark: Option<Mark>) -> bool
     matches!(mark, Some(Mark::Sign(Sign::Comma)))
 }
 
-/// Whether it is a word that governs the AND and AT behind it.
+/// Whether it is a word that governs the AND and AT after it.
 pub fn is_governing(mark: Mark) -> bool
     ensures { result ≡ spec.is_governing (Some mark) }
 {

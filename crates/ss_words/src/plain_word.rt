@@ -1,9 +1,10 @@
+//! Plain words: the words as the grammar sees them, each still next to the word that it comes from.
 use crate::mark::Mark;
 use crate::name::Name;
 use crate::word::{Word, WordKind};
 
-/// What a plain word is (docs/LANGUAGE.md, "Plain words"). A name and a picture are those of the
-/// word that it comes from.
+/// The kind of a plain word (docs/LANGUAGE.md, "Plain words"). A name and a picture are those of
+/// the word that it comes from.
 #[derive(Clone, Copy, Debug)]
 pub enum Plain<'a> {
     /// A name that is no reserved word, in upper case.
@@ -21,7 +22,7 @@ impl<'a> Plain<'a> {
     ghost use Rattle.ss_words.specs.Plain.{plain_of};
     ghost use Rattle.ss_words.specs.PlainRules.{mark_in};
 
-    /// The reserved word or sign that it is; `None` where it is a name, a number or a picture.
+    /// The reserved word or sign that it is; `None` if it is a name, a number or a picture.
     pub fn mark(&self) -> Option<Mark>
         ensures { result ≡ mark_in (plain_of self.now) }
     {
@@ -45,14 +46,14 @@ impl<'a> PlainWord<'a> {
     ghost use Rattle.std.specs.Prelude.{◌≡◌};
     ghost use Rattle.ss_words.specs.Plain.{plain_of, plain_in};
 
-    /// The line on which it stands, from 1.
+    /// The line that it is on, from 1.
     pub fn line(&self) -> usize
         ensures { result ≡ self.now.word.now.line }
     {
         self.word.line
     }
 
-    /// What it is.
+    /// Its kind.
     pub fn kind(&self) -> Plain<'a>
         ensures { plain_of result ≡ plain_in self.now }
     {

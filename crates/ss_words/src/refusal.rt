@@ -1,3 +1,4 @@
+//! The reasons for which a reading of plain words stops, each without its line.
 use std::alloc::{AllocError, AllocFailed};
 
 /// Why a reading of plain words stops; the word that it stops at is the next one.
@@ -7,7 +8,7 @@ pub enum Refusal {
     Unexpected,
     /// This word passes a limit.
     PastLimit,
-    /// The memory for what was read was refused.
+    /// The memory for the words that were read was refused.
     Memory,
 }
 

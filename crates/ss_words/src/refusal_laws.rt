@@ -1,8 +1,8 @@
 //! Laws on the definitions. Each function does nothing, and its contract says the law.
 ghost use Rattle.ss_words.specs.TextRefusal.{RefusalHasAPlace, RefusalIsAnswered, WordsBreakNoRule, PlacesAreBytes};
 
-/// Where a text is refused by a rule, there is the place of the refusal: the rule is broken there,
-/// no rule is broken at an earlier place, and none of a lower number there.
+/// If a text is refused by a rule, the refusal has a place: the rule is broken there, no rule is
+/// broken at an earlier place, and none of a lower number there.
 pub fn refusal_has_a_place()
     ensures { RefusalHasAPlace }
 {}
@@ -12,7 +12,7 @@ pub fn refusal_is_answered()
     ensures { RefusalIsAnswered }
 {}
 
-/// Where a text has words, no rule is broken at any place.
+/// If a text has words, no rule is broken at any place.
 pub fn words_break_no_rule()
     ensures { WordsBreakNoRule }
 {}

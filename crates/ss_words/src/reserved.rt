@@ -1,3 +1,5 @@
+//! The reserved words, by meaning and not by spelling.
+
 /// A reserved word, one variant for all the spellings that mean the same (docs/LANGUAGE.md,
 /// "Plain words").
 #[derive(Clone, Copy, Debug, PartialEq, Eq)]

@@ -22,8 +22,8 @@ use std::alloc::Global;
 
 /// The words of a model's text, or its refusal: of all rules from L1 to L5 that the text breaks,
 /// the one at the earliest place, and at one place the one of the lowest number, with the line of
-/// that place; lines count from 1. `Memory` comes only where the memory for the words was
-/// refused. Reads each byte a fixed number of times.
+/// that place; lines count from 1. `Memory` comes only if the memory for the words was refused.
+/// Reads each byte a fixed number of times.
 pub fn words(alloc: Global, text: &[u8]) -> Result<Words, TextFault>
     ensures { MatchResult result (λ ws. words_of text.now ≡ Ok ws)
         (λ f. IsRefusalOf f (words_of text.now)) }

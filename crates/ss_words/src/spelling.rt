@@ -143,8 +143,8 @@ pub const SPELLINGS: [(&[u8], Mark); 130] = [
     (b"OUTPUT", Mark::Reserved(Reserved::Output)),
 ];
 
-/// What a name in upper case is reserved for; `None` where it is free (docs/LANGUAGE.md, "Plain
-/// words").
+/// The mark for which a name in upper case is reserved; `None` if it is free (docs/LANGUAGE.md,
+/// "Plain words").
 #[tactic(auto, unfolding(crate::specs::Spellings::mark_of, crate::specs::Spellings::spellings))]
 pub fn reserved(name: &[u8]) -> Option<Mark>
     ensures { result ≡ mark_of name.now }

@@ -1,4 +1,4 @@
-//! What the text and the program share of a statement: words that stand in both as they are
+//! The parts of a statement that the text and the program share: words that are in both as they are
 //! written, with no name in them (docs/LANGUAGE.md, "Grammar").
 
 /// The sign before a term of an expression.
@@ -19,7 +19,7 @@ pub enum Comparison {
     AtLeast,
 }
 
-/// Whether NOT stands behind IS.
+/// Whether NOT follows IS.
 #[derive(Clone, Copy, Debug, PartialEq, Eq)]
 pub enum Copula {
     Is,
@@ -43,7 +43,7 @@ pub enum QualifierWord {
     Until,
 }
 
-/// What COMPUTE tells of the values that it has gathered.
+/// The result that COMPUTE gives of the values that it has gathered.
 #[derive(Clone, Copy, Debug, PartialEq, Eq)]
 pub enum Statistic {
     Number,
@@ -82,7 +82,7 @@ pub enum OwnerKept {
 pub enum MemberKept {
     /// `P.set`: the member directly before, 0 for none.
     Predecessor,
-    /// `S.set`: the member directly behind, 0 for none.
+    /// `S.set`: the member directly after, 0 for none.
     Successor,
     /// `M.set`: 1 for a member and else 0.
     Membership,

@@ -1,5 +1,5 @@
-//! What the definition of a text's words gives on small texts: each function is a law, proved by
-//! computing.
+//! The results of the definition of a text's words on small texts: each function is a law, proved
+//! by computing.
 #![tactic(auto, unfolding(crate::proofs::Unfoldings::text_together))]
 
 ghost use Rattle.std.specs.Prelude.{◌≡◌, [], ◌∷◌, ◌++◌, Ok, Err, codes, replicate};

@@ -1,3 +1,4 @@
+//! Words of a text as the scan gives them, with their lines.
 use crate::name::Name;
 use std::marker::Model;
 
@@ -17,7 +18,7 @@ pub enum Sign {
     GreaterEqual,
 }
 
-/// What a word is (docs/LANGUAGE.md, "Words").
+/// The kind of a word (docs/LANGUAGE.md, "Words").
 #[derive(Debug, Drop)]
 pub enum WordKind {
     /// Letters in upper case, digits and stops, with a letter and no stop at the end; at most 80

@@ -41,7 +41,7 @@ starts model text path counting stops d k l =
     let same = same_state d.machine.input _ (debugger_state_of d) _ k _ l.input l.start l.desk in
     (d.machine.input.program, l.program, same)
 
--- what launch says of the run that it leaves, and of what it posts
+-- the run that launch leaves, and the messages that it posts
 abbrev Launches : Request → List ℕ → List ℕ → List ℕ → Counting → Stops → PostView → PostView →
     Option (DebuggerView × DeskView) → Type 0
 Launches request path model text counting stops old new run =
@@ -50,7 +50,7 @@ Launches request path model text counting stops old new run =
     (λ r. IsLaunched model text path counting stops r.0 r.1
     × (new ≡ posted_all request old (answer_to_launch (warnings_told r.0.machine.input.program model))))
 
--- that is one opening
+-- a launch that leaves this run and posts these messages is one opening
 opens : (files : Option (List ℕ → Option (List ℕ))) (request : Request) (path : List ℕ)
     (data_path : Option (List ℕ)) (counting : Counting) (stops : Stops) (model text : List ℕ) (old new : PostView)
     (run : Option (DebuggerView × DeskView)) → Stands files path (Some model) → Given files data_path (Some text) →
@@ -69,7 +69,7 @@ opens files request path data_path counting stops model text old new (Some r) s 
   run_is = refl;
 }
 
--- the same of what launch returned, of these texts
+-- an opening, from the result of launch on texts that are equal to these
 pub launch_opens : (files : Option (List ℕ → Option (List ℕ))) (request : Request) (path : List ℕ)
     (data_path : Option (List ℕ)) (counting : Counting) (stops : Stops) (model text : List ℕ) (old new : PostView)
     {E : Type 0} (result : Result (Option (DebuggerView × DeskView)) E) (at over held : List ℕ) → at ≡ path →

@@ -1,4 +1,4 @@
--- What answers the requests of an editor: before a run is launched, and about that run.
+-- The answers to the requests of an editor: before a run is launched, and about that run.
 use Rattle.std.specs.Prelude.{ℕ, ◌≡◌, ◌≢◌, Bool, true, false, not, List, [], ◌∷◌, codes, Option, Some, None}
 use Rattle.std.specs.Prelude.{Result}
 use Rattle.ss_program.specs.Program.{ProgramTable}
@@ -31,18 +31,18 @@ use Rattle.ssdap.specs.Shelves.{Stands, Given, IsSame}
 
 -- ---- the state
 
--- what stands at each path, where it is told, how the editor counts, and the run, once one is launched
+-- the files, if they are known, how the editor counts, and the run, once one is launched
 pub record EditingState : Type 0 where
   -- the bytes at each path, or none that can be read
   pub files : Option (List ℕ → Option (List ℕ))
-  -- whether the files at two paths are one, where it is told
+  -- whether the files at two paths are one, if that is known
   pub same : Option (List ℕ → List ℕ → Bool)
   -- from which numbers the editor counts lines and columns
   pub counting : Counting
   -- the run
   pub run : Option AdapterState
 
--- the same, of its parts
+-- the state from its parts
 abbrev pub editing_state : Option (List ℕ → Option (List ℕ)) → Option (List ℕ → List ℕ → Bool) → Counting →
     Option AdapterState → EditingState
 editing_state files same counting run = record { files = files; same = same; counting = counting; run = run }
@@ -54,14 +54,14 @@ counting_after counting other = counting
 
 -- ---- launch
 
--- what launch leads to: the model can't be read, or the data can't; the model is refused; a run
+-- the outcome of launch: the model or the data can't be read; the model is refused; or a run
 pub data Opening : Type 0 where
   no_model : Opening
   no_data : Opening
   refused : LoadFault → List ℕ → Opening
   opened : AdapterState → Opening
 
--- the start of the run of the program that a model is, over its data, on a desk on which nothing is set or told
+-- the start of the run of a model's program over its data; on its desk nothing is set or shown
 abbrev pub IsStart : List ℕ → List ℕ → List ℕ → Counting → Stops → AdapterState → Type 0
 IsStart path model text counting stops state =
     (program : ProgramTable) × IsOutcome model (accepted program)
@@ -81,7 +81,7 @@ IsStart path model text counting stops state =
       };
     })
 
--- what launch leads to, by what stands at the path of the model and at that of the data
+-- the outcome of launch, by the files at the path of the model and at that of the data
 abbrev pub Opens : Option (List ℕ → Option (List ℕ)) → List ℕ → Option (List ℕ) → Counting → Stops → Opening → Type 0
 Opens files path data_path counting stops no_model = Stands files path None
 Opens files path data_path counting stops no_data =
@@ -93,14 +93,14 @@ Opens files path data_path counting stops (opened s) =
     (model : List ℕ) × (text : List ℕ) × Stands files path (Some model) × Given files data_path (Some text)
     × IsStart path model text counting stops s
 
--- what launch is answered with
+-- the messages that answer launch
 abbrev pub opening_messages : Opening → List Sent
 opening_messages no_model = failure (codes "cannot read the model") ∷ []
 opening_messages no_data = failure (codes "cannot read the data") ∷ []
 opening_messages (refused fault said) = answer_to_refused_launch (fault_line fault) said
 opening_messages (opened s) = answer_to_launch (warnings_told s.input.program s.desk.model)
 
--- the run behind it
+-- the run after an outcome of launch
 abbrev pub opening_run : Opening → Option AdapterState
 opening_run (opened s) = Some s
 opening_run other = None
@@ -126,12 +126,12 @@ IsElsewhere same model None elsewhere = elsewhere ≡ false
 IsElsewhere same model (Some path) elsewhere =
     (is_model : Bool) × IsSame same model path is_model × (elsewhere ≡ not is_model)
 
--- what a request about a run is answered with: one that speaks of another file is not heeded
+-- the answer to a request about a run; a request that names another file is not heeded
 abbrev pub messages_by : AdapterState → Command → Bool → List Sent
 messages_by s command true = answers_elsewhere command
 messages_by s command false = answers s command
 
--- the run after it: such a request changes nothing
+-- the run after a request about it; a request that names another file changes nothing
 abbrev pub run_by : AdapterState → Command → Bool → AdapterState
 run_by s command true = s
 run_by s command false = state_after s command
@@ -143,7 +143,7 @@ AnswersAt same s command sent run =
     (elsewhere : Bool) × IsElsewhere same s.desk.path (source_path command) elsewhere
     × (sent ≡ messages_by s command elsewhere) × (run ≡ Some (run_by s command elsewhere))
 
--- a request is, where a run may be launched
+-- the answer to a request, before a run is launched or about that run
 abbrev pub AnswersIn : EditingState → Option AdapterState → Command → List Sent → Option AdapterState → Type 0
 AnswersIn e None command sent run = AnswersBefore e.files e.counting command sent run
 AnswersIn e (Some s) command sent run = AnswersAt e.same s command sent run
@@ -159,11 +159,11 @@ abbrev pub is_ended : Further → Bool
 is_ended On = false
 is_ended Ended = true
 
--- the same, where it goes on or not
+-- the same, as the order to go on or to quit
 abbrev pub go_behind : Further → Go
 go_behind further = go_of (is_ended further)
 
--- what answers the requests of an editor
+-- the meaning of the requests of an editor: their answers, and those that end the session
 abbrev pub editor_meaning : Meaning
 editor_meaning = record {
   State = EditingState;
@@ -171,27 +171,27 @@ editor_meaning = record {
   ends = λ request. is_ended (further_of request.command);
 }
 
--- ---- what launch did
+-- ---- the effect of launch
 
--- what was posted for a launch, and the run that it left, are those of one opening
+-- the messages that were posted for a launch, and the run that it left, are those of one opening
 pub record IsOpened (files : Option (List ℕ → Option (List ℕ))) (request : Request) (path : List ℕ)
     (data_path : Option (List ℕ)) (counting : Counting) (stops : Stops) (old new : PostView)
     (run : Option AdapterState) : Type 0 where
-  -- what it leads to
+  -- the outcome of launch
   pub opening : Opening
-  -- by what stands at the paths
+  -- it follows from the files at the paths
   pub opens : Opens files path data_path counting stops opening
   -- its messages were posted
   pub posted : new ≡ posted_all request old (opening_messages opening)
   -- the run is its
   pub run_is : run ≡ opening_run opening
 
--- ---- what a turn did
+-- ---- the effect of a turn
 
--- what was posted for a request about a run, and the run that it left, are those of its answer
+-- the messages posted for a request about a run, and the run that it left, are those of its answer
 pub record IsTurned (same : Option (List ℕ → List ℕ → Bool)) (s to : AdapterState) (request : Request)
     (old new : PostView) (go : Go) : Type 0 where
-  -- whether the request speaks of another file than the model
+  -- whether the request speaks of a file other than the model
   pub elsewhere : Bool
   -- by the path that it names
   pub is_elsewhere : IsElsewhere same s.desk.path (source_path request.command) elsewhere

@@ -17,10 +17,11 @@ use ss_serve::Answerer;
 use std::alloc::{AllocError, Global};
 use std::mem;
 
-/// A run that was launched, and what the adapter keeps beside it.
+/// A run that was launched, and the desk of the adapter, which goes with it.
 type Run = (Debugger<LinkedSets>, Desk);
 
-/// What answers the requests of an editor: before a run is launched, and about that run.
+/// The adapter, which answers the requests of an editor: before a run is launched, and about that
+/// run.
 #[derive(Drop)]
 pub struct Adapter<'a, F: Shelf> {
     shelf: &'a F,
@@ -55,7 +56,7 @@ fn let_go(run: Option<Run>) {
     }
 }
 
-/// The bytes of the data, none where no path is named. `None` where they can't be read.
+/// The bytes of the data; none if no path is named. `None` if they can't be read.
 fn data_at<F: Shelf>(
     alloc: Global,
     shelf: &F,
@@ -167,7 +168,7 @@ fn is_elsewhere<F: Shelf>(shelf: &F, desk: &Desk, path: Option<&[u8]>) -> bool
     }
 }
 
-/// Answers a request about a run; one that speaks of another file than the model is not heeded.
+/// Answers a request about a run; one that speaks of a file other than the model is not heeded.
 #[tactic(auto, using(crate::proofs::Openings::turned))]
 fn answer_about_run<F: Shelf>(
     shelf: &F,

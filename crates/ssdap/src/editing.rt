@@ -9,9 +9,11 @@ use crate::shelf::Shelf;
 use ss_serve::{Channel, SessionFault, serve};
 use std::alloc::Global;
 
-/// Answers the requests of an editor, until one ends the session or the stream ends. Whatever bytes
-/// come and whatever stands at the paths that launch names, each request is answered, whole, before
-/// the next is read, and what is written is a function of the requests, the model and the data.
+/// Answers the requests of an editor, until one ends the session or the stream ends.
+///
+/// Any bytes may come, and any files may be at the paths that launch names. Each request is
+/// answered, whole, before the next is read. The bytes that are written are a function of the
+/// requests, the model and the data.
 pub fn serve_editor<F: Shelf, C: Channel>(
     alloc: Global,
     shelf: &F,

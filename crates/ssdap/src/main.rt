@@ -16,7 +16,7 @@ use std::process::ExitCode;
 use stop::{Stop, tell};
 use words::read_words;
 
-/// Reads the words, and serves where they are none.
+/// Reads the words, and serves if there are none.
 fn run(rt: &HostRuntime) -> Result<(), Stop> {
     let Ok(words) = read_arguments(rt) else {
         return Err(Stop::Words(1));

@@ -1,4 +1,4 @@
-//! Where models and data are read from.
+//! The files from which models and data are read.
 ghost use Rattle.std.specs.Prelude.{ℕ, Bool, None, List, Option, option_map, IfOk};
 ghost use Rattle.ssdap.specs.Shelves.{Stands, IsSame};
 
@@ -8,26 +8,26 @@ use std::os::unix::fs::MetadataExt;
 use std::rt::Files;
 use std::{fs, str};
 
-/// Where models and data are read from.
+/// The files from which models and data are read.
 pub trait Shelf {
-    // what stands at each path, its bytes or nothing that can be read, where the shelf tells it
+    // the file at each path, as its bytes, or nothing that can be read; if the shelf knows its
+    // files
     ghost files: { Self → Option (List ℕ → Option (List ℕ)) };
 
-    // whether the files at two paths are one, where the shelf tells it
+    // whether the files at two paths are one, if the shelf knows its files
     ghost same: { Self → Option (List ℕ → List ℕ → Bool) };
 
     /// Whether the files at two paths are one.
     fn is_same(&self, path: &[u8], other: &[u8]) -> bool
         ensures { IsSame (same self.now) path.now other.now result };
 
-    /// The bytes at a path; `None` where none can be read.
+    /// The bytes at a path; `None` if none can be read.
     fn bytes_at(&self, path: &[u8]) -> Result<Option<Vec<u8>>, AllocError>
         ensures { IfOk result
             (λ bytes. Stands (files self.now) path.now (option_map (λ b. b.items) bytes)) };
 }
 
-/// Where the file at a path is kept, by the numbers of its device and its node; `None` where there is
-/// none.
+/// The numbers of the device and the node of the file at a path; `None` if there is none.
 fn place_of<R: Files>(rt: &R, path: &[u8]) -> Option<(u64, u64)> {
     let Ok(path) = str::from_utf8(path) else {
         return None;
@@ -38,7 +38,7 @@ fn place_of<R: Files>(rt: &R, path: &[u8]) -> Option<(u64, u64)> {
     }
 }
 
-/// The files of the system, of which nothing is told.
+/// The files of the system, whose bytes are not known.
 #[derive(Drop)]
 pub struct Disk<'a, R: Files + AllocGlobal> {
     rt: &'a R,

@@ -1,10 +1,10 @@
-//! What stops the program before its end.
+//! The reasons for which the program stops before its end.
 ghost use Rattle.std.specs.Prelude.{◌≡◌};
 ghost use Rattle.ssdap.specs.Stops.{stop_status};
 
 use ss_serve::SessionFault;
 
-/// What stops the program before its end.
+/// A reason for which the program stops before its end.
 #[derive(Clone, Copy, Debug, Drop, PartialEq, Eq)]
 pub enum Stop {
     /// The words are none that the program takes, or ask for its help or version: it has said so,
@@ -40,7 +40,7 @@ impl From<SessionFault> for Stop {
     }
 }
 
-/// Says on standard error what stopped the program.
+/// Says on standard error why the program stopped.
 pub fn tell<R: Eprint>(rt: &R, stop: Stop) {
     let _ = match stop {
         Stop::Words(_) => Ok(()),

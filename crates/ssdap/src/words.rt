@@ -4,7 +4,7 @@ use clap::error::ErrorKind;
 use clap::{Command, Error};
 use std::alloc::Global;
 
-/// The version that is told.
+/// The version that `--version` prints.
 const VERSION: &str = "1.0";
 
 /// Reads the words: there are none.
@@ -17,7 +17,7 @@ fn parse(alloc: Global, words: &[String]) -> Result<(), Error> {
     Ok(())
 }
 
-/// Says what the words ask for, or what is wrong with them.
+/// Prints the help or version that the words ask for, or the error of wrong words.
 fn tell<R: Print + Eprint>(rt: &R, error: &Error) -> Stop {
     match error.kind() {
         ErrorKind::OutOfMemory => Stop::Memory,
@@ -32,8 +32,10 @@ fn tell<R: Print + Eprint>(rt: &R, error: &Error) -> Stop {
     }
 }
 
-/// Reads the words. Where there are some, the program has said what is wrong with them, or what
-/// `--help` and `--version` ask for.
+/// Reads the words.
+///
+/// If there are some, the program has said why they are wrong, or has printed the help or the
+/// version that `--help` and `--version` ask for.
 pub fn read_words<R: Print + Eprint + AllocGlobal>(rt: &R, words: &[String]) -> Result<(), Stop> {
     match parse(rt.alloc(), words) {
         Ok(()) => Ok(()),

@@ -45,7 +45,7 @@ pub breaks : (from to : PromptState) (c : Seen) (told : Option (List Event)) (fa
     StopsFrom from c fault
 breaks from to c told fault g a = inl (record { told = told; greets = g; to = to; answers = a })
 
--- what cuts a dialogue short does not depend on what had happened before the greeting
+-- the cause that cuts a dialogue short does not depend on the events before the greeting
 fails_behind : (from to : PromptState) (t : Bool) (b a : Option (List (List ℕ))) (o m n : Option (List Event))
     (fault : PromptFault) → HoldFails from to m (seen_of t b a m n) fault →
     HoldFails from to m (seen_of t b a o n) fault
@@ -55,7 +55,7 @@ fails_behind from to t b a o m n (Cut Count) h = h
 fails_behind from to t b a o m n Refused h = h
 fails_behind from to t b a o m n Memory h = h
 
--- a dialogue that was cut short behind its greeting, of which no line was read within that
+-- a dialogue that was cut short after its greeting; no line was read within the greeting
 pub breaks_behind : (from to : PromptState) (t u : Bool) (b d a : Option (List (List ℕ)))
     (o m n : Option (List Event)) (fault : PromptFault) → u ≡ t → d ≡ b → Adds o m (write_events (greeting_at t from)) →
     HoldFails from to m (seen_of u d a m n) fault → StopsFrom from (seen_of t b a o n) fault

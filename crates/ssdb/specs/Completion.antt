@@ -1,4 +1,4 @@
--- What is written where the words for completion are asked for.
+-- The texts that are written when the words for completion are asked for.
 use Rattle.std.specs.Prelude.{ℕ, ◌≡◌, ◌⊎◌, List}
 use Rattle.ss_program.specs.Program.{ProgramTable}
 use Rattle.ss_console.specs.Event.{Adds, write_events}

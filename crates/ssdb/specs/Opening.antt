@@ -20,7 +20,7 @@ use Rattle.ssdb.specs.Refused.{IsRefusalWritten}
 use Rattle.ssdb.specs.Seen.{Seen}
 use Rattle.ss_prompt.specs.Source.{source_lines}
 
--- what is told before the first line: at a terminal a greeting
+-- the text before the first line: at a terminal a greeting
 abbrev pub greeting_at : Bool → PromptState → List ℕ
 greeting_at terminal state = if terminal then greeting state else []
 
@@ -43,13 +43,13 @@ abbrev pub IsStart : List ℕ → List ℕ → PromptState → Type 0
 IsStart model data_text from =
     (program : ProgramTable) × IsOutcome model (accepted program) × (from ≡ start_over model data_text program)
 
--- how a dialogue ends behind the greeting: by the end of input, or by a line
+-- how a dialogue ends after the greeting: by the end of input, or by a line
 abbrev pub EndsWell : PromptState → PromptState → Option (List Event) → Seen → Type 0
 EndsWell from to told seen =
     EndsByInput prompt_meaning seen.terminal from to seen.before seen.after told seen.new
     ⊎ EndsByLine prompt_meaning seen.terminal from to seen.before seen.after told seen.new
 
--- what cut it short behind the greeting: a reading, a writing, or the count of lines
+-- the cause that cut it short after the greeting: a reading, a writing, or the count of lines
 abbrev pub HoldFails : PromptState → PromptState → Option (List Event) → Seen → PromptFault → Type 0
 HoldFails from to told seen (Cut Read) = EndsByRead prompt_meaning seen.terminal from to seen.before told seen.new
 HoldFails from to told seen (Cut Write) =
@@ -59,33 +59,33 @@ HoldFails from to told seen (Cut Count) =
     EndsByCount prompt_meaning seen.terminal from to seen.before seen.after told seen.new
 HoldFails from to told seen fault = ⊥
 
--- what cut it short within the greeting: a prefix of that is written, or nothing where memory was refused
+-- the cause that cut it short within the greeting: a prefix is written, or nothing without memory
 abbrev pub GreetingFails : List ℕ → Option (List Event) → Option (List Event) → PromptFault → Type 0
 GreetingFails text old new (Cut Write) = AddsPart text old new
 GreetingFails text old new Memory = Adds old new []
 GreetingFails text old new fault = ⊥
 
--- a whole dialogue from a state on: the greeting is told, the answers are, and the run is faulted or not where they
--- lead
+-- a whole dialogue from a state on: the greeting and the answers are written; the end says whether
+-- the run is faulted in the state to which they lead
 pub record HoldsFrom (from : PromptState) (seen : Seen) (end : PromptEnd) : Type 0 where
-  -- what had happened behind the greeting
+  -- the events until after the greeting
   pub told : Option (List Event)
   -- a terminal is greeted
   pub greets : Adds seen.old told (write_events (greeting_at seen.terminal from))
-  -- where the answers led
+  -- the state to which the answers led
   pub to : PromptState
   -- the answers, up to the end of input or a line that ends
   pub answers : EndsWell from to told seen
   -- whether the run is faulted there
   pub end_is : end ≡ end_of_status (run to.input to.debugger.position).status
 
--- one that was cut short behind its greeting
+-- a dialogue that was cut short after its greeting
 pub record BreaksFrom (from : PromptState) (seen : Seen) (fault : PromptFault) : Type 0 where
-  -- what had happened behind the greeting
+  -- the events until after the greeting
   pub told : Option (List Event)
   -- a terminal is greeted
   pub greets : Adds seen.old told (write_events (greeting_at seen.terminal from))
-  -- where the answers led
+  -- the state to which the answers led
   pub to : PromptState
   -- the answers, and the call that failed
   pub answers : HoldFails from to told seen fault

@@ -1,4 +1,4 @@
--- What is said of a refused model.
+-- The text that is written for a refused model.
 use Rattle.std.specs.Prelude.{ℕ, ◌≡◌, ◌⊎◌, List, [], ◌++◌}
 use Rattle.ss_words.specs.declared.fault.TextRule.{TextRule}
 use Rattle.ss_words.specs.Faults.{text_rule_code}
@@ -15,16 +15,16 @@ use Rattle.ssdb.specs.declared.end.PromptFault.{PromptFault}
 use Rattle.ssdb.specs.declared.end.PromptFault.TheVariants.{Refused, Cut, Memory}
 use Rattle.ssdb.specs.Seen.{Seen}
 
--- what is said of a model that the checker refuses: the rule and the line, and what explains that
+-- the text for a model that the checker refuses: the rule and the line, and their explanation
 abbrev pub refused_model_text : List ℕ → List ℕ → ℕ → List ℕ
 refused_model_text model code line = refusal_line code line ++ check_explanation model code line
 
--- what is said of a model whose text is refused: the rule and the line, and what is said of the word, its place and
--- what could stand there
+-- the text for a model whose text is refused: the rule and the line, and lines about the word, its
+-- place and the words that could be there
 abbrev pub IsTextTold : List ℕ → List ℕ → ℕ → List ℕ → Type 0
 IsTextTold model code line text = (said : List ℕ) × IsSaid model said × (text ≡ refusal_line code line ++ said)
 
--- what is said of a refused model: of the one rule that refuses it, and its line
+-- the text for a refused model is that of the one rule that refuses it, and its line
 abbrev pub IsTold : List ℕ → List ℕ → Type 0
 IsTold model text =
     ((rule : TextRule) × (line : ℕ) × IsOutcome model (refused_text rule line)
@@ -32,14 +32,14 @@ IsTold model text =
     ⊎ ((rule : CheckRule) × (line : ℕ) × IsOutcome model (refused_check rule line)
     × (text ≡ refused_model_text model (check_rule_code rule) line))
 
--- what was written of a refused model, by what stopped the program: all that is said of it, a prefix of that where
--- writing failed, nothing where memory was refused
+-- the part of the text for a refused model that was written, by the stop of the program: all of it,
+-- a prefix of it if writing failed, nothing if memory was refused
 abbrev pub IsRefusalTold : List ℕ → Seen → PromptFault → Type 0
 IsRefusalTold model seen Refused = (text : List ℕ) × IsTold model text × Adds seen.old seen.new (write_events text)
 IsRefusalTold model seen (Cut cut.Write) = (text : List ℕ) × IsTold model text × AddsPart text seen.old seen.new
 IsRefusalTold model seen (Cut other) = ⊥
 IsRefusalTold model seen Memory = Adds seen.old seen.new []
 
--- the same, where no line was read
+-- the written part of the text for a refused model; no line was read
 abbrev pub IsRefusalWritten : List ℕ → Seen → PromptFault → Type 0
 IsRefusalWritten model seen fault = IsRefusalTold model seen fault × (seen.after ≡ seen.before)

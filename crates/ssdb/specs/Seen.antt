@@ -1,21 +1,21 @@
--- What is seen of a console before and behind a call.
+-- The states of a console that are seen before and after a call.
 use Rattle.std.specs.Prelude.{ℕ, Bool, List, Option}
 use Rattle.ss_console.specs.Event.{Event}
 
--- what is seen of a console before and behind a call
+-- the terminal, the lines and the events of a console before and after a call
 pub record Seen : Type 0 where
   -- whether it is a terminal
   pub terminal : Bool
-  -- the lines that were left to read, where they are told
+  -- the lines that were left to read, if they are known
   pub before : Option (List (List ℕ))
   -- those that are left
   pub after : Option (List (List ℕ))
-  -- what had happened, where it is told
+  -- the events before the call, if they are known
   pub old : Option (List Event)
-  -- what has happened
+  -- the events until after the call
   pub new : Option (List Event)
 
--- the same, of its parts
+-- the same record from its parts
 abbrev pub seen_of : Bool → Option (List (List ℕ)) → Option (List (List ℕ)) → Option (List Event) →
     Option (List Event) → Seen
 seen_of terminal before after old new =

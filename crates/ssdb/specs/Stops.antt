@@ -6,8 +6,8 @@ use Rattle.ssdb.specs.declared.end.PromptFault.{PromptFault}
 use Rattle.ssdb.specs.declared.end.PromptFault.TheVariants.{Refused, Cut as Broken, Memory}
 use Rattle.std.specs.Prelude.{Bool, if◌then◌else◌}
 
--- a run that is faulted where input that is no terminal ends: 4, else 0; a failed reading or writing 2, a refused model
--- 3, no memory 5
+-- 4 for a run that is faulted when input that is no terminal ends, else 0; a failed reading or
+-- writing 2, a refused model 3, no memory 5
 abbrev pub prompt_status : Bool → Result PromptEnd PromptFault → ℕ
 prompt_status terminal (Ok Done) = 0
 prompt_status terminal (Ok Faulted) = if terminal then 0 else 4

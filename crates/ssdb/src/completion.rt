@@ -11,8 +11,10 @@ use ss_prompt::push_completions;
 use ss_session::load_program;
 use std::alloc::Global;
 
-/// Writes the words that may stand in a line of a dialogue about a model (docs/PROMPT.md), a line
-/// each; a refused model is told as before a dialogue. `Memory` where memory was refused; then
+/// Writes the words that may be in a line of a dialogue about a model (docs/PROMPT.md), a line
+/// each.
+///
+/// A refused model is reported as before a dialogue. Gives `Memory` if memory was refused; then
 /// nothing is written.
 #[tactic(auto, using(ss_console::proofs::Parts::no_prompt))]
 pub fn tell_words<C: Console>(

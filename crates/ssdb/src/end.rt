@@ -12,7 +12,7 @@ pub enum PromptEnd {
     Faulted,
 }
 
-/// Why there was no dialogue, or what cut it short.
+/// Why there was no dialogue, or why it was cut short.
 #[derive(Clone, Copy, Debug, Drop, PartialEq, Eq, Error)]
 pub enum PromptFault {
     /// The model is refused, and its line is written.

@@ -1,4 +1,4 @@
-//! `ssdb [--words] MODEL [DATA]`: debugs a model at a prompt, or tells words for its completion.
+//! `ssdb [--words] MODEL [DATA]`: debugs a model at a prompt, or prints words for its completion.
 #![tactic(auto)]
 
 ghost use Rattle.std.specs.Prelude.{◌≡◌};
@@ -26,7 +26,7 @@ use words::{Words, read_words};
 /// The words that the program takes.
 const USAGE: &str = "ssdb MODEL [DATA], ssdb --words MODEL";
 
-/// Reads the files that the words name, and holds the dialogue, or tells the words for completion.
+/// Reads the files that the words name, and holds the dialogue, or prints the words for completion.
 fn run<'a>(
     rt: &HostRuntime,
     words: &Words<'a>,
@@ -41,7 +41,7 @@ fn run<'a>(
     Ok(open_prompt(rt.alloc(), &model, &data, &mut console))
 }
 
-/// The exit status behind a dialogue.
+/// The exit status after a dialogue.
 fn status(terminal: bool, ended: Result<PromptEnd, PromptFault>) -> u8
     ensures { result ≡ prompt_status terminal ended }
 {
@@ -54,7 +54,7 @@ fn status(terminal: bool, ended: Result<PromptEnd, PromptFault>) -> u8
     }
 }
 
-/// Says on standard error what cut a dialogue short.
+/// Says on standard error why a dialogue was cut short.
 fn tell_end(rt: &HostRuntime, ended: Result<PromptEnd, PromptFault>) {
     match ended {
         Err(PromptFault::Cut(cut)) => {
@@ -65,7 +65,7 @@ fn tell_end(rt: &HostRuntime, ended: Result<PromptEnd, PromptFault>) {
     }
 }
 
-/// Says what stopped the program, and gives its exit status.
+/// Explains the stop of the program, and gives its exit status.
 fn stopped(rt: &HostRuntime, stop: Stop<'_>) -> u8
     ensures { result ≡ stop_status stop.entry }
 {
@@ -81,8 +81,8 @@ fn shown(rt: &HostRuntime, error: &Error) -> u8 {
     }
 }
 
-/// What is said of words that name no model, and the exit status: 0 where help or version was asked
-/// for.
+/// Explains words that name no model, and gives the exit status: 0 if the words ask for help or
+/// version.
 fn explained(rt: &HostRuntime, error: &Error) -> u8 {
     match error.kind() {
         ErrorKind::OutOfMemory => stopped(rt, Stop::Memory),
@@ -92,7 +92,7 @@ fn explained(rt: &HostRuntime, error: &Error) -> u8 {
     }
 }
 
-/// Does what the words say, and gives the exit status.
+/// Does the work that the words name, and gives the exit status.
 fn started(rt: &HostRuntime, arguments: &[String]) -> u8 {
     let terminal = rt.stdin().is_terminal();
     let words = match read_words(rt.alloc(), arguments) {

@@ -28,7 +28,7 @@ fn end(status: Status) -> PromptEnd
     }
 }
 
-/// Tells where the debugger stands.
+/// Writes the position of the debugger.
 #[tactic(auto, using(ss_console::proofs::Parts::no_prompt))]
 fn put_greeting<S: SetBoard, C: Console>(
     alloc: Global,
@@ -52,7 +52,7 @@ fn put_greeting<S: SetBoard, C: Console>(
     }
 }
 
-/// Tells at a terminal where the debugger stands, before the first line is read.
+/// Writes the position of the debugger at a terminal, before the first line is read.
 #[tactic(auto, using(ss_console::proofs::Parts::no_prompt))]
 fn greet<S: SetBoard, C: Console>(
     alloc: Global,
@@ -76,7 +76,7 @@ fn greet<S: SetBoard, C: Console>(
     Ok(())
 }
 
-/// Answers the lines of a console, and says how the run stands then.
+/// Answers the lines of a console, and says whether the run is faulted then.
 fn hold<S: SetBoard, C: Console>(
     alloc: Global,
     prompt: &mut Prompt<'_, S>,
@@ -128,8 +128,10 @@ fn greet_and_hold<S: SetBoard, C: Console>(
     ended
 }
 
-/// Reads a model and answers the lines of a console about its run over its data (docs/PROMPT.md); a
-/// refused model is told there. `Memory` where memory was refused before anything was written.
+/// Reads a model and answers the lines of a console about its run over its data (docs/PROMPT.md).
+///
+/// A refused model is reported there. Gives `Memory` if memory was refused before anything was
+/// written.
 #[tactic(auto, using(crate::proofs::Openings::none, ss_console::proofs::Parts::no_prompt))]
 pub fn open_prompt<C: Console>(
     alloc: Global,

@@ -1,4 +1,4 @@
-//! What is told of a refused model.
+//! The text that is written for a refused model.
 ghost use Rattle.std.specs.Prelude.{◌≡◌, ◌-◌, ◌^◌, ◌<◌, IfOk};
 ghost use Rattle.ss_session.specs.Load.{IsLoadFault};
 ghost use Rattle.ssdb.specs.Refused.{refused_model_text, IsTextTold, IsTold, IsRefusalWritten};
@@ -12,7 +12,7 @@ use ss_sentences::text_refusal;
 use ss_session::{LoadFault, refusal_text};
 use std::alloc::{AllocError, Global};
 
-/// What is said of a model that a rule of the checker refuses.
+/// The text for a model that a rule of the checker refuses.
 fn check_told(alloc: Global, model: &[u8], code: &str, line: usize) -> Result<Vec<u8>, AllocError>
     ensures { IfOk result (λ text. text.items ≡ refused_model_text model.now code.now line) }
 {
@@ -21,7 +21,7 @@ fn check_told(alloc: Global, model: &[u8], code: &str, line: usize) -> Result<Ve
     Ok(text)
 }
 
-/// What is said of a model whose text is refused.
+/// The text for a model whose text is refused.
 fn text_told(alloc: Global, model: &[u8], code: &str, line: usize) -> Result<Vec<u8>, AllocError>
     ensures { IfOk result (λ text. IsTextTold model.now code.now line text.items) }
 {
@@ -31,7 +31,7 @@ fn text_told(alloc: Global, model: &[u8], code: &str, line: usize) -> Result<Vec
     Ok(told)
 }
 
-/// What is said of a refused model.
+/// The text for a refused model.
 fn told(alloc: Global, model: &[u8], fault: LoadFault) -> Result<Vec<u8>, AllocError>
     requires { IsLoadFault fault model.now }
     ensures { IfOk result (λ text. IsTold model.now text.items) }
@@ -43,7 +43,7 @@ fn told(alloc: Global, model: &[u8], fault: LoadFault) -> Result<Vec<u8>, AllocE
     }
 }
 
-/// Writes what is said of a refused model, and gives what that is.
+/// Writes the text for a refused model, and gives the reason for which there is no dialogue.
 #[tactic(auto, using(ss_console::proofs::Parts::no_prompt))]
 pub fn refuse<C: Console>(
     alloc: Global,

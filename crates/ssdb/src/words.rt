@@ -2,23 +2,23 @@
 use clap::{Arg, ArgAction, Command, Error};
 use std::alloc::Global;
 
-/// What the program is called with.
+/// The words with which the program is called.
 #[derive(Drop)]
 pub struct Words<'a> {
     /// The path of the model.
     pub model: &'a str,
-    /// The path of its data, where one is named.
+    /// The path of its data, if one is named.
     pub data: Option<&'a str>,
     /// Whether the words for completion are asked for, and no dialogue.
     pub tells_words: bool,
 }
 
-/// The version that is told.
+/// The version that `--version` prints.
 const VERSION: &str = "1.0";
 
-/// The words that the program takes, for `--help` and the line that tells of wrong ones.
+/// The words that the program takes, for `--help` and the line that reports wrong ones.
 ///
-/// An argument is made where the program takes it, so that no end lets go of others.
+/// An argument is made only when the program takes it. So an early return has no others to let go.
 fn command<'a>(alloc: Global) -> Result<Command<'a>, Error> {
     let tells = Arg::new(alloc, "words")
         .long("words")
@@ -40,8 +40,8 @@ fn command<'a>(alloc: Global) -> Result<Command<'a>, Error> {
     Ok(command)
 }
 
-/// The words behind the program's name, or why they name no model: also where help or version is
-/// asked for.
+/// The words after the program's name, or why they name no model; the reason may be that help or
+/// version is asked for.
 pub fn read_words<'a>(alloc: Global, arguments: &'a [String]) -> Result<Words<'a>, Error> {
     let matches = command(alloc)?.try_get_matches_from(arguments)?;
     Ok(Words {

@@ -4,7 +4,7 @@ use Rattle.ss_host.specs.Stops.{stop_status}
 use Rattle.ssrun.specs.declared.cause.Cause.{Cause}
 use Rattle.ssrun.specs.declared.cause.Cause.TheVariants.{Stop, NoQuestion, Unnamed}
 
--- that of what stops a program; 1 for words that are no question, or name nothing
+-- the status of the stop that stops a program; 1 for words that are no question, or name nothing
 abbrev pub cause_status : Cause → ℕ
 cause_status (Stop stop) = stop_status stop
 cause_status (NoQuestion text) = 1

@@ -13,13 +13,13 @@ use Rattle.ss_run.specs.Watched.{with_question}
 use Rattle.ssrun.specs.declared.cause.Cause.{Cause}
 use Rattle.ssrun.specs.declared.cause.Cause.TheVariants.{Stop, NoQuestion, Unnamed}
 
--- what WHY asks, or which of its names the program hasn't
+-- the question that WHY asks, or the name in it that the program hasn't
 abbrev pub watched_by : PromptCommand → Option (Result Question NoName)
 watched_by (Why question) = Some (Ok question)
 watched_by (Missing m) = Some (Err m)
 watched_by _ = None
 
--- what a text asks about a program: what the prompt reads of it after WHY
+-- the question that a text asks about a program: the one that the prompt reads in it after WHY
 abbrev pub watched_of : ProgramTable → List ℕ → Option (Result Question NoName)
 watched_of program text = watched_by (prompt_command_of program (codes "WHY " ++ text))
 
@@ -32,16 +32,16 @@ with_watched xs _ = xs
 abbrev pub questions_of : ProgramTable → List (List ℕ) → List Question
 questions_of program texts = fold (λ xs text. with_watched xs (watched_of program text)) [] texts
 
--- what is said of a text whose names the program hasn't
+-- the line for a text with a name that the program hasn't
 abbrev pub missing_said : Option (Result Question NoName) → List ℕ
 missing_said (Some (Err m)) = missing_text m
 missing_said _ = []
 
--- the same of some texts, a line for each
+-- the lines for some texts, one for each that has such a name
 abbrev pub missing_lines : ProgramTable → List (List ℕ) → List ℕ
 missing_lines program texts = flat_map (λ text. missing_said (watched_of program text)) texts
 
--- why some texts are not all questions on a program: this one is none; some name what it hasn't; memory was refused
+-- why some texts are not all questions: one is none; some have names unknown; memory was refused
 abbrev pub IsUnasked : ProgramTable → List (List ℕ) → Cause → Type 0
 IsUnasked program texts (NoQuestion text) = watched_of program text.now ≡ None
 IsUnasked program texts (Unnamed lines) = lines.items ≡ missing_lines program texts

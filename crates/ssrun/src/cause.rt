@@ -1,10 +1,11 @@
+//! The reasons for which a call of the program makes no run.
 use ss_host::Stop;
 use std::alloc::AllocError;
 
 /// Why no run is made.
 #[derive(Drop)]
 pub enum Cause<'a> {
-    /// What stops a program before its work.
+    /// A stop that stops a program before its work.
     Stop(Stop<'a>),
     /// This text is no question.
     NoQuestion(&'a str),

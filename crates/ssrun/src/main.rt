@@ -97,8 +97,9 @@ fn run_traced<'a>(
     ))
 }
 
-/// Reads model and data, in that order, and runs the model where both were read and each question
-/// is one on it; gives its warnings too.
+/// Reads model and data, in that order, and runs the model; gives its warnings too.
+///
+/// The model runs only if both were read and each question is one on it.
 fn run<'a>(rt: &HostRuntime, words: &Words<'a>) -> Result<Ran, Cause<'a>> {
     let model = read_file(rt, words.model).map_err(Cause::Stop)?;
     let input = read_or(rt, words.input, b"").map_err(Cause::Stop)?;
@@ -132,8 +133,8 @@ fn run_measured<'a>(
     }
 }
 
-/// Writes the results of a run to a file: a row of names, and the row of the run. Of a refused model
-/// there are none.
+/// Writes the results of a run to a file: a row of names, and the row of the run. A refused model
+/// has none.
 fn with_results(
     alloc: Global,
     file: &mut File,
@@ -151,7 +152,7 @@ fn with_results(
     }
 }
 
-/// Runs a model over its data, and traces it where that is asked for.
+/// Runs a model over its data, and traces it if the words name a trace.
 fn run_over<'a>(
     rt: &HostRuntime,
     words: &Words<'a>,
@@ -167,7 +168,7 @@ fn run_over<'a>(
     Ok(run_model(rt.alloc(), model, input, asked, &mut meter, &mut out))
 }
 
-/// What is suspicious in a model that was run; nothing where memory was refused.
+/// The warnings of a model that was run; none if memory was refused.
 fn warnings_of(alloc: Global, model: &[u8], outcome: &Result<WholeRun, RunCut>) -> Vec<u8> {
     let none = Vec::new(alloc);
     match outcome {
@@ -178,7 +179,7 @@ fn warnings_of(alloc: Global, model: &[u8], outcome: &Result<WholeRun, RunCut>) 
     }
 }
 
-/// Says what stopped the program, and gives its exit status.
+/// Explains the stop of the program, and gives its exit status.
 fn stopped<R: Eprint>(rt: &R, stop: Stop<'_>) -> u8
     ensures { result ≡ stop_status stop.entry }
 {
@@ -220,7 +221,7 @@ fn ended(rt: &HostRuntime, outcome: Result<WholeRun, RunCut>) -> u8
     run_status(&end)
 }
 
-/// Says where a run did not end well, what explains that, and how many values did not fit.
+/// Says why a run did not end well, the explanation of that, and how many values did not fit.
 fn tell_whole(rt: &HostRuntime, whole: &WholeRun) {
     match &whole.end {
         RunEnd::Done => {}
@@ -235,7 +236,7 @@ fn tell_whole(rt: &HostRuntime, whole: &WholeRun) {
     }
 }
 
-/// Says what cut a run short.
+/// Says why a run was cut short.
 fn tell_cut(rt: &HostRuntime, cut: RunCut) {
     match cut {
         RunCut::Write => tell(rt, Stop::CannotWrite, USAGE),
@@ -248,8 +249,8 @@ fn put_lines(rt: &HostRuntime, lines: &[u8]) {
     let _ = rt.stderr().write_all(lines);
 }
 
-/// What is said of words that name no model, and the exit status: 0 where help or version was asked
-/// for.
+/// Explains words that name no model, and gives the exit status: 0 if the words ask for help or
+/// version.
 fn explained(rt: &HostRuntime, error: &Error) -> u8 {
     match error.kind() {
         ErrorKind::OutOfMemory => stopped(rt, Stop::Memory),
@@ -267,7 +268,7 @@ fn shown(rt: &HostRuntime, error: &Error) -> u8 {
     }
 }
 
-/// Runs what the words name, and gives the exit status.
+/// Runs the model that the words name, and gives the exit status.
 fn started(rt: &HostRuntime, arguments: &[String]) -> u8 {
     let words = match read_words(rt.alloc(), arguments) {
         Ok(words) => words,

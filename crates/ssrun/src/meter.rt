@@ -1,6 +1,7 @@
+//! The meter of a run, which somebody at a terminal sees.
 use ss_run::Progress;
 
-/// Says on standard error how far a run is, where somebody looks at it.
+/// Says on standard error how far a run is, if somebody looks at it.
 #[derive(Drop)]
 pub struct Meter<'a, R: Eprint> {
     rt: &'a R,
@@ -8,7 +9,7 @@ pub struct Meter<'a, R: Eprint> {
 }
 
 impl<'a, R: Eprint> Meter<'a, R> {
-    /// A meter that says something where `is_seen`.
+    /// A meter that prints if `is_seen`.
     pub fn new(rt: &'a R, is_seen: bool) -> Self {
         Meter { rt, is_seen }
     }

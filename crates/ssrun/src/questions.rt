@@ -9,7 +9,7 @@ use ss_run::push_question;
 use ss_trace::Question;
 use std::alloc::{AllocError, Global};
 
-/// What a command of the prompt asks that is WHY, or which of its names the model hasn't.
+/// The question of a command of the prompt that is WHY, or the name in it that the model hasn't.
 fn watched_by(command: PromptCommand) -> Option<Result<Question, Missing>>
     ensures { result ≡ watched_by command }
 {
@@ -20,8 +20,8 @@ fn watched_by(command: PromptCommand) -> Option<Result<Question, Missing>>
     }
 }
 
-/// The question that a text asks about a program after WHY at the prompt, or which of its names the
-/// program hasn't; none where it asks nothing.
+/// The question that a text asks about a program after WHY at the prompt, or the name in it that
+/// the program hasn't; none if the text asks nothing.
 fn watched(
     alloc: Global,
     program: &Program,
@@ -34,8 +34,10 @@ fn watched(
     Ok(watched_by(prompt_command(program, &line)))
 }
 
-/// The questions that some texts ask about a program, each once. The error is the first text that is
-/// no question; or else what is said of all names that the program hasn't, a line for each.
+/// The questions that some texts ask about a program, each once.
+///
+/// The error is the first text that is no question; or else a line for each name that the program
+/// hasn't.
 pub fn read_questions<'a>(
     alloc: Global,
     program: &Program,

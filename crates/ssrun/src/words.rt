@@ -1,19 +1,20 @@
+//! The words that the program is started with, and the options that it takes.
 ghost use Rattle.std.specs.Prelude.{◌≡◌, ◌≢◌};
 ghost use Rattle.clap.specs.Words.{kind_of};
 
 use clap::{Arg, ArgAction, Command, Error};
 use std::alloc::Global;
 
-/// What the program is called with.
+/// The words with which the program is called.
 #[derive(Drop)]
 pub struct Words<'a> {
     /// The path of the model.
     pub model: &'a str,
-    /// The path of its data, where one is named.
+    /// The path of its data, if one is named.
     pub input: Option<&'a str>,
     /// The questions that are traced.
     pub watched: Vec<&'a str>,
-    /// The path of their trace, where one is named.
+    /// The path of their trace, if one is named.
     pub trace: Option<&'a str>,
     /// The questions whose values in the last state are results.
     pub measured: Vec<&'a str>,
@@ -59,9 +60,9 @@ fn with_result<'a>(alloc: Global) -> Result<Command<'a>, Error> {
     Ok(command)
 }
 
-/// The words that the program takes, for `--help` and the line that tells of wrong ones.
+/// The words that the program takes, for `--help` and the line that reports wrong ones.
 ///
-/// An argument is made where the program takes it, so that no end lets go of others.
+/// An argument is made only when the program takes it. So an early return has no others to let go.
 pub fn command<'a>(alloc: Global) -> Result<Command<'a>, Error> {
     let results = Arg::new(alloc, "results")
         .long("results")
@@ -89,8 +90,8 @@ fn all_of<'a>(alloc: Global, texts: Option<&[&'a str]>) -> Result<Vec<&'a str>, 
     }
 }
 
-/// The words behind the program's name, or why they name no model: also where help or version is
-/// asked for.
+/// The words after the program's name, or why they name no model; the reason may be that help or
+/// version is asked for.
 pub fn read_words<'a>(alloc: Global, arguments: &'a [String]) -> Result<Words<'a>, Error> {
     let matches = command(alloc)?.try_get_matches_from(arguments)?;
     let watched = all_of(alloc, matches.get_strs("watch"))?;

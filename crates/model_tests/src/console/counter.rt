@@ -1,3 +1,4 @@
+//! A small answerer of lines for the tests of dialogues.
 ghost use Rattle.std.specs.Prelude.{◌≡◌, ◌++◌, codes, decimal, OnOk};
 ghost use Rattle.model_tests.specs.Counting.{counter_meaning};
 
@@ -5,8 +6,9 @@ use itoa::Buffer;
 use ss_console::{Answerer, Console, Go, PutFault, put_all};
 use std::alloc::AllocError;
 
-/// A small answerer for the tests: it says each line again, behind the number of those before it. A
-/// blank line has no answer, and QUIT ends the dialogue.
+/// A small answerer for the tests: it repeats each line, after the number of lines before it.
+///
+/// A blank line has no answer, and QUIT ends the dialogue.
 #[derive(Drop)]
 pub struct Counter {
     count: u64,

@@ -1,15 +1,15 @@
-//! What an agenda's reading calls answer.
+//! The comparison of the answers of an agenda's reading calls.
 use crate::compare::same;
 use ss_events::Agenda;
 use ss_links::SetBoard;
 use std::process::Abort;
 
-// Compares what stands at a place of the order.
+// Compares the notice at a place of the order.
 fn stands<S: SetBoard>(rt: &impl Abort, agenda: &Agenda<S>, number: usize, notice: Option<u32>) {
     same(rt, agenda.in_order(number), notice);
 }
 
-/// Compares the notice of a seat on the board, and gives the seat behind it.
+/// Compares the notice of a seat on the board, and gives the seat after it.
 pub fn behind_seat<S: SetBoard>(
     rt: &impl Abort,
     agenda: &Agenda<S>,

@@ -71,7 +71,7 @@ fn linked(alloc: Global) -> Result<Agenda<LinkedSets>, AllocError> {
     started(alloc, LinkedSets::new(alloc))
 }
 
-/// The same, made again where memory was refused.
+/// An agenda of four classes on linked sets, made again if memory was refused.
 pub fn linked_again(rt: &impl Abort, alloc: Global) -> Agenda<LinkedSets> {
     match linked(alloc) {
         Ok(agenda) => agenda,

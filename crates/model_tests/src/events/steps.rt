@@ -11,7 +11,7 @@ use ss_words::{RunFault, StepFault};
 use std::alloc::AllocError;
 use std::process::Abort;
 
-/// One step that schedules a notice, or the fault where that is refused.
+/// One step that schedules a notice, or the fault if that is refused.
 pub fn schedule<S: SetBoard>(
     rt: &impl Abort,
     agenda: &mut Agenda<S>,
@@ -40,7 +40,7 @@ pub fn schedule<S: SetBoard>(
     }
 }
 
-/// The same where no memory is refused.
+/// One step that schedules a notice, for which no memory is refused.
 pub fn schedules<S: SetBoard>(
     rt: &impl Abort,
     agenda: &mut Agenda<S>,
@@ -56,7 +56,7 @@ pub fn schedules<S: SetBoard>(
     schedule(rt, agenda, journal, notice, clock).expect(rt, "a step")
 }
 
-/// One step back; false where there is none.
+/// One step back; false if there is none.
 pub fn back<S: SetBoard>(agenda: &mut Agenda<S>, journal: &mut Journal<AgendaChange>) -> bool
     requires closed { journal.old.current ≡ [] }
     requires fits { FitsSteps Fits unapply journal.old.steps agenda.old }

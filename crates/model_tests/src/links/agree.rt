@@ -1,4 +1,4 @@
-//! A board's reading calls beside lists.
+//! The comparison of a board's reading calls with lists.
 use crate::compare::same;
 use crate::links::changes::Lists;
 use ss_links::SetBoard;
@@ -19,7 +19,7 @@ fn seat_of(byte: u8) -> Option<u32> {
     }
 }
 
-/// The seat at a place of a list, none behind its end.
+/// The seat at a place of a list; none after its end.
 fn seat_at(list: &[u8], place: usize) -> Option<u32> {
     match list.get(place) {
         Some(byte) => seat_of(*byte),
@@ -60,7 +60,7 @@ pub fn agrees<S: SetBoard>(rt: &impl Abort, board: &S, lists: &Lists) {
     }
 }
 
-/// Compares the reading calls of a seat, where it is in no list.
+/// Compares the reading calls of a seat, if it is in no list.
 fn agrees_on_seat<S: SetBoard>(rt: &impl Abort, board: &S, seat: u32, lists: &[u8]) {
     if !is_listed(lists, seat) {
         stands(rt, board, seat, None, None, None);
@@ -89,7 +89,8 @@ fn agrees_on<S: SetBoard>(rt: &impl Abort, board: &S, head: u32, list: &[u8]) {
     }
 }
 
-/// Compares the reading calls of a seat with the head of its list and the seats behind and before.
+/// Compares the reading calls of a seat with the head of its list and the seats after and before
+/// it.
 pub fn stands<S: SetBoard>(
     rt: &impl Abort,
     board: &S,

@@ -1,4 +1,4 @@
-//! Calls that change a board, where they may be made.
+//! Calls that change a board, after the check that they may be made.
 ghost use Rattle.std.specs.Prelude.{◌≡◌, ◌<◌, None, IsSome};
 ghost use Rattle.ss_links.specs.Board.{head_of, CanRelink};
 
@@ -40,13 +40,13 @@ fn can_relink<S: SetBoard>(rt: &impl Abort, board: &S, seat: u32, place: Place)
     }
 }
 
-/// Makes a head; false where memory was refused.
+/// Makes a head; false if memory was refused.
 fn add_head<S: SetBoard>(rt: &impl Abort, board: &mut S) -> bool {
     assert!(rt; board.heads() < u32::MAX);
     board.try_add_head().is_ok()
 }
 
-/// Makes a seat; false where memory was refused.
+/// Makes a seat; false if memory was refused.
 fn add_seat<S: SetBoard>(rt: &impl Abort, board: &mut S) -> bool {
     assert!(rt; board.seats() < u32::MAX);
     board.try_add_seat().is_ok()
@@ -110,7 +110,7 @@ fn visit<S: SetBoard>(rt: &impl Abort, board: &mut S, seat: u32, at: Place) {
     same(rt, unlink_relinked(board, seat, at), at);
 }
 
-/// Makes a change of a board; false where memory was refused.
+/// Makes a change of a board; false if memory was refused.
 pub fn make<S: SetBoard>(rt: &impl Abort, board: &mut S, step: Step) -> bool {
     match step {
         Step::AddHead => return add_head(rt, board),

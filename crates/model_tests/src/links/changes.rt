@@ -1,7 +1,7 @@
 //! Changes of a board, and the lists that each leaves.
 use ss_links::Place;
 
-/// One change of a board. Where a seat is taken off, the place that is to come back.
+/// One change of a board. If it takes a seat off, it has the place that is to come back.
 #[derive(Clone, Copy)]
 pub enum Step {
     AddHead,
@@ -20,8 +20,8 @@ pub enum Step {
     Visit { seat: u32, at: Place },
 }
 
-/// The lists that a board is to have, each as the digits of its seats and a semicolon, with blanks
-/// behind them, and its count of seats.
+/// The lists that a board is to have, and its count of seats. Each list is the digits of its seats
+/// and a semicolon; blanks are after the lists.
 pub type Lists = ([u8; 8], u32);
 
 /// Each change, with the lists and the count of seats that it leaves.

@@ -1,3 +1,4 @@
+//! A small answerer of requests for the tests of sessions.
 ghost use Rattle.std.specs.Prelude.{◌≡◌};
 ghost use Rattle.model_tests.specs.Echoing.{echo_meaning};
 

@@ -33,7 +33,7 @@ pub enum Call {
     },
 }
 
-/// The number that a call gives, 0 where it gives none, and its change.
+/// The number that a call gives, or 0 if it gives none, and its change.
 type Made = Result<(i64, StoreChange), StepFault>;
 
 fn fallible(made: Result<StoreChange, RunFault>) -> Made
@@ -82,7 +82,7 @@ fn make<S: SetBoard>(rt: &impl Abort, store: &mut Store<S>, call: Call) -> Made
     }
 }
 
-/// One step that makes a call, and answers its number or its fault. Where memory is refused nothing
+/// One step that makes a call, and answers its number or its fault. If memory is refused, nothing
 /// changes.
 pub fn step<S: SetBoard>(
     rt: &impl Abort,
@@ -109,7 +109,7 @@ pub fn step<S: SetBoard>(
     }
 }
 
-/// One step back; false where there is none.
+/// One step back; false if there is none.
 pub fn back<S: SetBoard>(store: &mut Store<S>, journal: &mut Journal<StoreChange>) -> bool
     requires ground { IsGround store.old.tables }
     requires closed { journal.old.current ≡ [] }

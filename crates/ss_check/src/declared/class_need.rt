@@ -1,3 +1,5 @@
+//! The kinds of class that uses of names ask for.
+
 /// The kind of class that a statement needs.
 #[derive(Clone, Copy)]
 pub enum ClassNeed {

@@ -1,7 +1,9 @@
+//! The pair of a name and one fact about it, of which tables are made.
+
 use ss_program::Name;
 use std::marker::Model;
 
-/// A name, and what holds of it.
+/// A name, and the fact about it.
 #[derive(Drop)]
 pub struct Fact<T> {
     pub name: Name,

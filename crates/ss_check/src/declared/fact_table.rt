@@ -1,3 +1,5 @@
+//! A list of facts about names in the order of the text, searched by name.
+
 ghost use Rattle.std.specs.Prelude.{◌≡◌, ◌<◌, ◌==◌, true, false, [], ◌∷◌, ◌++◌, bytes_eq, length, option_map};
 ghost use Rattle.std.specs.Prelude.{slice_get, Some, OnErr, OnOk};
 ghost use Rattle.std.specs.List.{position_or_len};
@@ -75,7 +77,7 @@ impl<T: Drop> FactTable<T> {
         &self.facts[place]
     }
 
-    /// What the first fact says of this name, if there is one.
+    /// The contents of the first fact of this name, if there is one.
     #[tactic(auto, using(crate::proofs::FactTables::fact_found, crate::proofs::FactTables::fact_none))]
     pub fn get(&self, name: &[u8]) -> Option<&T>
         ensures { option_map (λ what. what.now) result ≡ fact_of self.now name.now }
@@ -113,7 +115,7 @@ impl<T: Drop> FactTable<T> {
         }
     }
 
-    /// Puts a fact at the end. Where memory is refused the table is as before.
+    /// Puts a fact at the end. If memory is refused the table is as before.
     pub fn add(&mut self, name: &[u8], what: T) -> Result<(), AllocError>
         ensures ok { OnOk result (self.new ≡ self.old ++ fact name.now what ∷ []) }
         ensures err { OnErr result (self.new ≡ self.old) }

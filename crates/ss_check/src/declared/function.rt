@@ -1,3 +1,5 @@
+//! The functions that the language gives.
+
 /// A function of the language (docs/LANGUAGE.md, "Names and values").
 #[derive(Clone, Copy)]
 pub enum Function {

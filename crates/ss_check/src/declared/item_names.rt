@@ -1,3 +1,5 @@
+//! Adding the names that items use in orders and as classes.
+
 ghost use Rattle.std.specs.Prelude.{◌≡◌, ◌++◌, OnOk};
 ghost use Rattle.ss_words.specs.Lists.{all_of, several_view};
 ghost use Rattle.ss_preamble.specs.View as view;

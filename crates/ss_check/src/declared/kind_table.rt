@@ -1,3 +1,5 @@
+//! A table of the kinds as which names are declared, which finds conflicts.
+
 ghost use Rattle.std.specs.Prelude.{◌≡◌, ◌&&◌, false, [], ◌∷◌, ◌++◌, bytes_eq, option_map, unwrap_or};
 ghost use Rattle.std.specs.Prelude.{OnErr, OnOk};
 ghost use Rattle.std.specs.List.{list_any};
@@ -13,7 +15,7 @@ use crate::declared::name_kind::{NameKind, conflicts, is_attribute_of};
 use std::alloc::{AllocError, Global};
 use std::marker::Model;
 
-/// What names are declared as, in the order of the text.
+/// The kinds as which names are declared, in the order of the text.
 #[derive(Drop)]
 pub struct KindTable {
     table: FactTable<NameKind>,
@@ -46,7 +48,7 @@ impl KindTable {
         }
     }
 
-    /// What a name is declared as, if it is.
+    /// The kind as which a name is declared, if it is.
     #[tactic(auto, using(crate::proofs::TableTurns::fact_of_view))]
     pub fn get(&self, name: &[u8]) -> Option<&NameKind>
         ensures { option_map (λ kind. kind_view kind.now) result ≡ fact_of self.now name.now }
@@ -70,7 +72,7 @@ impl KindTable {
     }
 
     /// Whether some declaration of a name is as an attribute of this class. All declarations are
-    /// gone over only where the name's first one is another.
+    /// gone over only if the name's first one is another.
     pub fn has_attribute(&self, class: &[u8], name: &[u8]) -> bool
         ensures { result ≡ is_among name.now (names_where (is_attribute class.now) self.now) }
     {
@@ -88,14 +90,14 @@ impl KindTable {
         }
     }
 
-    /// Whether some declaration conflicts with what its name was before.
+    /// Whether some declaration conflicts with the kind of its name before.
     pub fn has_conflict(&self) -> bool
         ensures { result ≡ one_conflicts [] self.now }
     {
         self.has_conflict
     }
 
-    /// Declares a name as this too. Where memory is refused the table is as before.
+    /// Declares a name as this too. If memory is refused the table is as before.
     #[tactic(auto, using(crate::proofs::Conflicts::conflicts_push, crate::proofs::TableTurns::facts_view_push))]
     pub fn add(&mut self, name: &[u8], kind: NameKind) -> Result<(), AllocError>
         ensures ok { OnOk result (self.new ≡ self.old ++ fact name.now (kind_view kind) ∷ []) }

@@ -1,3 +1,5 @@
+//! The kinds of names, and the tests on kinds that the rules ask.
+
 ghost use Rattle.std.specs.Prelude.{◌≡◌, option_map};
 ghost use Rattle.ss_check.specs.KindView.{kind_view, need_view};
 ghost use Rattle.ss_check.specs.NameKinds as kinds;
@@ -8,12 +10,11 @@ use ss_preamble::Heading;
 use ss_program::Name;
 use ss_words::{MemberKept, OwnerKept};
 
-/// What a name is declared as (docs/LANGUAGE.md, "Rules of the checker"). A local variable is not
-/// declared.
+/// The kind as which a name is declared (docs/LANGUAGE.md, "Rules of the checker"). A local
+/// variable is not declared.
 #[derive(Drop)]
 pub enum NameKind {
-    /// A class, with the heading under which it stands; none where an item `EVERY` has none over
-    /// it.
+    /// A class, with the heading over it; none if an item `EVERY` has none over it.
     Class(Option<Heading>),
     /// An attribute of the class of this name.
     Attribute(Name),
@@ -32,7 +33,7 @@ pub enum NameKind {
     Function(Function),
 }
 
-/// Whether a name may be declared as both, one behind the other.
+/// Whether a name may be declared as both, one after the other.
 pub(crate) fn may_repeat(first: &NameKind, second: &NameKind) -> bool
     ensures { result ≡ kinds.may_repeat (kind_view first.now) (kind_view second.now) }
 {
@@ -46,7 +47,7 @@ pub(crate) fn may_repeat(first: &NameKind, second: &NameKind) -> bool
     }
 }
 
-/// Whether what a name is, if it is declared, keeps it from being declared as this.
+/// Whether a name's kind, if it is declared, keeps it from being declared as this.
 pub(crate) fn conflicts(first: Option<&NameKind>, second: &NameKind) -> bool
     ensures { result ≡ kinds.conflicts (option_map (λ k. kind_view k.now) first.entry)
         (kind_view second.now) }
@@ -98,7 +99,7 @@ pub(crate) fn names_variable(kind: Option<&NameKind>) -> bool
     )
 }
 
-/// Whether it is the name of what has a value and is never assigned.
+/// Whether a name of this kind has a value and is never assigned.
 pub(crate) fn names_fixed(kind: Option<&NameKind>) -> bool
     ensures { result ≡ kinds.names_fixed (option_map (λ k. kind_view k.now) kind.entry) }
 {

@@ -1,3 +1,5 @@
+//! A list of names that finds a repeat.
+
 ghost use Rattle.std.specs.Prelude.{◌≡◌, ◌==◌, [], ◌∷◌, ◌++◌, length, OnErr, OnOk};
 ghost use Rattle.ss_check.specs.Facts.{is_among, names_of, repeats};
 
@@ -40,7 +42,7 @@ impl NameList {
         self.table.is_empty()
     }
 
-    /// The names, in order, each as a fact that says nothing.
+    /// The names, in order, each as a fact without contents.
     pub(crate) fn facts(&self) -> &[Fact<()>]
         ensures { names_of result.now ≡ self.now }
     {
@@ -54,14 +56,14 @@ impl NameList {
         self.table.has(name)
     }
 
-    /// Whether some name stands twice in the list.
+    /// Whether some name is in the list twice.
     pub fn has_repeat(&self) -> bool
         ensures { result ≡ repeats [] self.now }
     {
         self.table.has_repeat()
     }
 
-    /// Puts a name at the end. Where memory is refused the list is as before.
+    /// Puts a name at the end. If memory is refused the list is as before.
     #[tactic(auto, using(crate::proofs::FactTables::names_of_push))]
     pub fn add(&mut self, name: &[u8]) -> Result<(), AllocError>
         ensures ok { OnOk result (self.new ≡ self.old ++ name.now ∷ []) }

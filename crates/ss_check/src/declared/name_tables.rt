@@ -1,3 +1,5 @@
+//! The numbers of names in the tables of a program.
+
 ghost use Rattle.std.specs.Prelude.{◌≡◌, ◌++◌, [], bytes_eq, codes, map, position, slice_index_or, unwrap_or, IfOk};
 ghost use Rattle.ss_routines.specs.View.{section_view};
 ghost use Rattle.ss_check.specs.Declarations.{events_in, heads, routine_facts};
@@ -20,7 +22,7 @@ use std::marker::Model;
 
 /// The names of a program's global variables, classes and sets, each in its table in order of
 /// declaration, those of each class's attributes, and the numbers of the sections of routines and
-/// of event classes. What a name stands for is its number in its table.
+/// of event classes. A name is resolved to its number in its table.
 #[derive(Drop)]
 pub struct NameTables {
     globals: NameTable,
@@ -71,7 +73,7 @@ impl Sort {
 }
 
 impl NameTables {
-    /// The tables of a program of these sections whose items and heads say this.
+    /// The tables of a program of these sections, whose items and heads declare this.
     pub fn new(alloc: Global, tables: &Tables, sections: &[Section]) -> Result<Self, AllocError>
         ensures { IfOk result (λ v. v
             ≡ resolved.names tables.now (heads (map section_view sections.now))) }
@@ -88,14 +90,14 @@ impl NameTables {
         })
     }
 
-    /// The number of a global variable, or how many there are where it is none.
+    /// The number of a global variable, or the count of them if it is none.
     pub fn global(&self, name: &[u8]) -> usize
         ensures { result ≡ resolved.number name.now self.now.globals }
     {
         number(&self.globals, name)
     }
 
-    /// The number of the global variable `N.class`, or how many there are where it is none.
+    /// The number of the global variable `N.class`, or the count of global variables if it is none.
     pub fn count(&self, alloc: Global, class: &[u8]) -> Result<usize, AllocError>
         ensures { IfOk result
             (λ n. n ≡ resolved.number (codes "N." ++ class.now) self.now.globals) }
@@ -104,22 +106,22 @@ impl NameTables {
         Ok(self.global(&name))
     }
 
-    /// The number of a class, or how many there are where it is none.
+    /// The number of a class, or the count of classes if it is none.
     pub fn class(&self, name: &[u8]) -> usize
         ensures { result ≡ resolved.number name.now self.now.classes }
     {
         number(&self.classes, name)
     }
 
-    /// The number of a set, or how many there are where it is none.
+    /// The number of a set, or the count of sets if it is none.
     pub fn set(&self, name: &[u8]) -> usize
         ensures { result ≡ resolved.number name.now self.now.sets }
     {
         number(&self.sets, name)
     }
 
-    /// The number of an attribute in the class with this number, or how many it has where it is
-    /// none of them; 0 where there is no such class.
+    /// The number of an attribute in the class with this number, or the count of its attributes if
+    /// it is none of them; 0 if there is no such class.
     pub fn attribute(&self, class: usize, name: &[u8]) -> usize
         ensures { result ≡ resolved.number name.now (slice_index_or self.now.attributes class []) }
     {
@@ -129,14 +131,14 @@ impl NameTables {
         }
     }
 
-    /// The number of a routine's section, 0 where it is none.
+    /// The number of a routine's section, 0 if it is none.
     pub fn routine(&self, name: &[u8]) -> usize
         ensures { result ≡ unwrap_or (fact_of self.now.routines name.now) 0 }
     {
         self.routines.get(name).copied().unwrap_or(0)
     }
 
-    /// The number of an event class's section, 0 where it has none.
+    /// The number of an event class's section, 0 if it has none.
     pub fn event(&self, name: &[u8]) -> usize
         ensures { result ≡ unwrap_or (fact_of self.now.events name.now) 0 }
     {
@@ -165,7 +167,7 @@ impl NameTables {
     }
 }
 
-/// The number of a name in a table, or how many names there are where it is not in it.
+/// The number of a name in a table, or the count of names if it is not in it.
 pub(crate) fn number(table: &NameTable, name: &[u8]) -> usize
     ensures { result ≡ resolved.number name.now table.now }
 {
@@ -175,7 +177,7 @@ pub(crate) fn number(table: &NameTable, name: &[u8]) -> usize
     }
 }
 
-/// The number of a name among these, or how many there are where it is none of them.
+/// The number of a name among these, or the count of names if it is none of them.
 fn place_of(names: &[Name], name: &[u8]) -> usize
     ensures { result ≡ resolved.number name.now names.now }
 {

@@ -1,3 +1,5 @@
+//! Adding the owners and the member classes of sets, and the attributes of classes.
+
 ghost use Rattle.std.specs.Prelude.{◌≡◌, ◌++◌, map, option_map, IfOk, OnOk};
 ghost use Rattle.std.specs.List.{flat_map};
 ghost use Rattle.ss_words.specs.Lists.{all_of, several_view};
@@ -119,7 +121,7 @@ fn add_all_joined(
     Ok(())
 }
 
-/// Adds the class of the members of each set of which an item says who belongs to it.
+/// Adds the class of the members of each set whose members an item gives.
 pub(crate) fn add_members(
     alloc: Global,
     members: &mut FactTable<Name>,

@@ -1,3 +1,5 @@
+//! All declarations of a text in one place, and adding those of an item or a head.
+
 ghost use Rattle.std.specs.Prelude.{◌≡◌, ◌++◌, [], length, IfOk, OnOk};
 ghost use Rattle.ss_preamble.specs.View as items;
 ghost use Rattle.ss_routines.specs.Tree.{listing_names};
@@ -37,10 +39,10 @@ impl Model for Counts {
     ghost view = { λ a. record { given = a.given; yielded = a.yielded } };
 }
 
-/// What items and heads say of names (docs/LANGUAGE.md, "Rules of the checker").
+/// The declarations of items and heads about names (docs/LANGUAGE.md, "Rules of the checker").
 #[derive(Drop)]
 pub struct Tables {
-    /// What names are declared as.
+    /// The kinds as which names are declared.
     pub kinds: KindTable,
     /// The class of each attribute.
     pub attributes: NameCounts,
@@ -86,7 +88,7 @@ impl Model for Tables {
 }
 
 impl Tables {
-    /// What no item and no head says: what the language declares before all.
+    /// The declarations before all items and heads: those of the language.
     pub fn new(alloc: Global) -> Result<Self, AllocError>
         ensures { IfOk result (λ tables. tables ≡ declared_by [] []) }
     {
@@ -106,7 +108,7 @@ impl Tables {
         })
     }
 
-    /// Adds what an item says, under this heading.
+    /// Adds the declarations of an item, under this heading.
     #[tactic(auto, unfolding(crate::specs::Increments::with_item))]
     pub fn add_item(
         &mut self,
@@ -129,7 +131,7 @@ impl Tables {
         add_classes(&mut self.classes, item)
     }
 
-    /// Adds what the head of a section says.
+    /// Adds the declarations of the head of a section.
     #[tactic(auto, unfolding(crate::specs::Increments::with_head))]
     pub fn add_head(&mut self, section: &Section) -> Result<(), AllocError>
         ensures { OnOk result
@@ -163,7 +165,7 @@ pub(crate) fn name_count(names: &Listing<ss_words::Name>) -> usize
     }
 }
 
-/// What the language declares before all.
+/// The declarations of the language before all.
 fn language_kinds(alloc: Global) -> Result<KindTable, AllocError>
     ensures { IfOk result (λ kinds. kinds ≡ language_facts) }
 {
@@ -177,7 +179,7 @@ fn language_kinds(alloc: Global) -> Result<KindTable, AllocError>
     }
 }
 
-/// Adds what the language declares before all.
+/// Adds the declarations of the language before all.
 fn add_language(kinds: &mut KindTable) -> Result<(), AllocError>
     ensures { OnOk result (kinds.new ≡ kinds.old ++ language_facts) }
 {

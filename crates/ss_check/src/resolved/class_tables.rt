@@ -1,3 +1,5 @@
+//! Making the tables of classes, with their attributes, kinds, sections and ties.
+
 ghost use Rattle.std.specs.Prelude.{◌≡◌, ◌++◌, [], map, slice_index_or, IfOk, OnOk};
 ghost use Rattle.ss_words.specs.Lists.{all_of, several_view};
 ghost use Rattle.ss_preamble.specs.View.{key_view};
@@ -71,7 +73,7 @@ fn class_table(
     })
 }
 
-/// What the entities of a class are, by what its name is declared as.
+/// The kind of the entities of a class, by the kind as which its name is declared.
 fn class_kind(
     alloc: Global,
     tables: &Tables,
@@ -96,7 +98,7 @@ fn class_kind(
     }
 }
 
-/// What an event class has besides its name and attributes.
+/// The parts of an event class apart from its name and attributes.
 fn event_class(
     alloc: Global,
     tables: &Tables,

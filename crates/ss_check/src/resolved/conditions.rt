@@ -1,3 +1,5 @@
+//! Making conditions with the numbers of their names.
+
 ghost use Rattle.std.specs.Prelude.{◌≡◌, IfOk};
 ghost use Rattle.ss_routines.specs.View.{condition_view, conjunction_view, relation_view};
 ghost use Rattle.ss_program.specs.ProgramCondition.{condition_of, conjunction_of, relation_of};

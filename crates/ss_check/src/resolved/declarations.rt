@@ -1,3 +1,5 @@
+//! Collecting the kinds of all names that a program declares.
+
 ghost use Rattle.std.specs.Prelude.{◌≡◌, [], ◌∷◌, ◌++◌, map, option_map, Some, IfOk, OnOk};
 ghost use Rattle.std.specs.List.{flat_map};
 ghost use Rattle.ss_words.specs.Lists.{all_of, several_view};
@@ -156,7 +158,7 @@ fn add_attributes(
     Ok(())
 }
 
-/// Declares what a clause says of a class, or of the system where there is none.
+/// Declares the names in a clause for a class, or for the system if there is no class.
 fn add_clause(
     alloc: Global,
     kinds: &mut KindTable,
@@ -177,7 +179,7 @@ fn add_clause(
     }
 }
 
-/// Declares what clauses say of a class, or of the system where there is none.
+/// Declares the names in clauses for a class, or for the system if there is no class.
 fn add_clauses(
     alloc: Global,
     kinds: &mut KindTable,
@@ -195,7 +197,7 @@ fn add_clauses(
     Ok(())
 }
 
-/// Declares what a DEFINE says.
+/// Declares the names of a DEFINE.
 fn add_definition(
     alloc: Global,
     kinds: &mut KindTable,

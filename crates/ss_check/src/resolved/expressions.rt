@@ -1,3 +1,5 @@
+//! Making expressions with the numbers of their names.
+
 ghost use Rattle.std.specs.Prelude.{◌≡◌, ◌++◌, map, option_map, IfOk, OnOk};
 ghost use Rattle.ss_words.specs.Lists.{all_of, several_view};
 ghost use Rattle.ss_words.specs.Reading.{option_view};

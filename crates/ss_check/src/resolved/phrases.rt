@@ -1,3 +1,5 @@
+//! Making FOR phrases, COMPUTE and their parts with the numbers of their names.
+
 ghost use Rattle.std.specs.Prelude.{◌≡◌, map, IfOk};
 ghost use Rattle.ss_words.specs.Lists.{all_of, several_view};
 ghost use Rattle.ss_words.specs.Reading.{option_view};
@@ -16,7 +18,7 @@ use ss_routines::{Computed, Loop, Range, WalkStart};
 use ss_words::{Name, Several};
 use std::alloc::AllocError;
 
-/// Where the walk of a set begins.
+/// The start of the walk of a set.
 fn resolve_begin(scope: Scope<'_>, start: &WalkStart) -> Result<Begin, AllocError>
     ensures { IfOk result
         (λ x. x ≡ in_scope scope.entry resolved.resolved_begin (view.walk_start_view start.now)) }
@@ -28,7 +30,7 @@ fn resolve_begin(scope: Scope<'_>, start: &WalkStart) -> Result<Begin, AllocErro
     }
 }
 
-/// The variable behind CALLED, else that of the class's name.
+/// The variable after CALLED, else that of the class's name.
 fn loop_variable(scope: Scope<'_>, class: &[u8], called: &Option<Name>) -> Variable
     ensures { result ≡ in_scope scope.entry resolved.loop_variable class.now
         (option_view (λ n. n) called.now) }
@@ -39,7 +41,7 @@ fn loop_variable(scope: Scope<'_>, class: &[u8], called: &Option<Name>) -> Varia
     }
 }
 
-/// What a FOR phrase goes through.
+/// The range that a FOR phrase goes through.
 fn resolve_range(scope: Scope<'_>, range: &Range) -> Result<Phrase, AllocError>
     ensures { IfOk result
         (λ x. x ≡ in_scope scope.entry resolved.resolved_range (view.range_view range.now)) }
@@ -150,7 +152,7 @@ fn resolve_tellings(scope: Scope<'_>, computed: &Several<Computed>) -> Result<Te
     Ok(Tellings { list })
 }
 
-/// A FOR phrase, and whether DO stands behind it.
+/// A FOR phrase, and whether DO is after it.
 fn resolve_phrase(
     scope: Scope<'_>,
     phrase: &ss_routines::Phrase,

@@ -1,3 +1,5 @@
+//! Making the places of a section with the numbers of their names.
+
 ghost use Rattle.std.specs.Prelude.{◌≡◌, ◌++◌, ◌∷◌, [], false, map, IfOk, OnOk};
 ghost use Rattle.std.specs.List.{list_any};
 ghost use Rattle.ss_routines.specs.View as view;
@@ -12,7 +14,7 @@ use crate::resolved::statements::resolve_simple;
 use ss_program::{Branch, Control, Place, Question, Spot};
 use std::alloc::AllocError;
 
-/// What an IF asks.
+/// The question of an IF.
 fn resolve_question(
     scope: Scope<'_>,
     question: &ss_routines::Question,
@@ -54,8 +56,8 @@ fn resolve_place(scope: Scope<'_>, place: &ss_routines::Place) -> Result<Place, 
     }
 }
 
-/// The places of a section with the numbers of their names, in order. What the text says of a place
-/// is let go as soon as the place is made.
+/// The places of a section with the numbers of their names, in order. The text of a place is let go
+/// as soon as the place is made.
 pub(crate) fn resolve_places(
     scope: Scope<'_>,
     places: Vec<ss_routines::Spot>,
@@ -72,8 +74,8 @@ pub(crate) fn resolve_places(
     Ok(list)
 }
 
-/// Puts a place with the numbers of its names behind others. What the text says of it is let go by
-/// a call, before the function may end: the proof of each end writes out what is still held there.
+/// Puts a place with the numbers of its names after others. Its text is let go by a call, before
+/// the function may end: the proof of each end writes out the parts that are still held there.
 fn push_place(
     scope: Scope<'_>,
     list: &mut Vec<Spot>,

@@ -1,3 +1,5 @@
+//! The disciplines of sets and the keys of ties, as items give them.
+
 ghost use Rattle.std.specs.Prelude.{◌≡◌, ◌++◌, map, option_map, IfOk, OnOk};
 ghost use Rattle.ss_words.specs.Lists.{all_of, several_view};
 ghost use Rattle.ss_preamble.specs.View as view;

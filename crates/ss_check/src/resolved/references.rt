@@ -1,3 +1,5 @@
+//! Making references with the numbers of their names, as values, targets and sets.
+
 ghost use Rattle.std.specs.Prelude.{◌≡◌, ◌++◌, map, option_map, IfOk, OnOk};
 ghost use Rattle.ss_words.specs.Lists.{all_of, several_view};
 ghost use Rattle.ss_words.specs.Reading.{option_view};
@@ -18,7 +20,7 @@ use ss_routines::Reference;
 use ss_words::Several;
 use std::alloc::{AllocError, Global};
 
-/// A factor alone as an expression.
+/// A factor by itself as an expression.
 fn alone(alloc: Global, factor: Factor) -> Result<Expr, AllocError>
     ensures { IfOk result (λ e. e ≡ resolved.alone (factor_of factor)) }
 {
@@ -181,7 +183,7 @@ pub(crate) fn member_and_set(
     }
 }
 
-/// The target behind CALLED, else the variable of the class's name.
+/// The target after CALLED, else the variable of the class's name.
 pub(crate) fn called_target(
     scope: Scope<'_>,
     class: &[u8],
@@ -196,7 +198,7 @@ pub(crate) fn called_target(
     }
 }
 
-/// The value behind CALLED, else the variable of the class's name.
+/// The value after CALLED, else the variable of the class's name.
 pub(crate) fn called_value(
     scope: Scope<'_>,
     class: &[u8],

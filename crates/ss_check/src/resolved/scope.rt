@@ -1,3 +1,5 @@
+//! The scope of a section's names, and the variables and subscripts that it gives.
+
 ghost use Rattle.std.specs.Prelude.{◌≡◌, option_map};
 ghost use Rattle.ss_program.specs.ProgramExpr.{expr_of, subscript_of};
 ghost use Rattle.ss_program.specs.declared.variable.Variable.TheVariants as variable;
@@ -12,11 +14,11 @@ use crate::declared::tables::Tables;
 use ss_program::{NameTable, Subscript, Sum, Variable};
 use std::alloc::Global;
 
-/// What the names of a section are resolved in.
+/// The scope in which the names of a section are resolved.
 #[derive(Clone, Copy)]
 pub(crate) struct Scope<'a> {
     pub alloc: Global,
-    /// What the whole program says.
+    /// The declarations of the whole program.
     pub whole: &'a Tables,
     /// The tables of its names.
     pub names: &'a NameTables,
@@ -24,7 +26,7 @@ pub(crate) struct Scope<'a> {
     pub locals: &'a NameTable,
 }
 
-/// What a name is declared as, if it is.
+/// The kind as which a name is declared, if it is.
 pub(crate) fn kind<'a>(scope: Scope<'a>, name: &[u8]) -> Option<&'a NameKind>
     ensures { option_map (λ k. kind_view k.now) result ≡ kind_of scope.entry.whole.now name.now }
 {
@@ -32,7 +34,7 @@ pub(crate) fn kind<'a>(scope: Scope<'a>, name: &[u8]) -> Option<&'a NameKind>
     whole.kinds.get(name)
 }
 
-/// The variable that a name of this kind stands for.
+/// The variable that a name of this kind denotes.
 pub(crate) fn variable_of(scope: Scope<'_>, kind: Option<&NameKind>, name: &[u8]) -> Variable
     ensures { result
         ≡ in_scope scope.entry resolved.variable_of
@@ -45,7 +47,7 @@ pub(crate) fn variable_of(scope: Scope<'_>, kind: Option<&NameKind>, name: &[u8]
     }
 }
 
-/// The variable that a name stands for.
+/// The variable that a name denotes.
 pub(crate) fn resolve_variable(scope: Scope<'_>, name: &[u8]) -> Variable
     ensures { result ≡ in_scope scope.entry resolved.resolved_variable name.now }
 {
@@ -59,7 +61,7 @@ pub(crate) fn class_variable(scope: Scope<'_>, class: &[u8]) -> Variable
     Variable::Global(scope.names.global(class))
 }
 
-/// The subscript of what an entity of a class has; without one, the variable of the class's name.
+/// The subscript of a part of a class's entity; without one, the variable of the class's name.
 pub(crate) fn class_subscript(
     scope: Scope<'_>,
     class: &[u8],

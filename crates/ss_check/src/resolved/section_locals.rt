@@ -1,3 +1,5 @@
+//! The local variables of a section, in the order in which they are first named.
+
 ghost use Rattle.std.specs.Prelude.{◌≡◌, map, IfOk, OnOk};
 ghost use Rattle.std.specs.List.{flat_map, fold};
 ghost use Rattle.ss_routines.specs.Tree.{listing_names};

@@ -1,3 +1,5 @@
+//! Making sections with the numbers of their names.
+
 ghost use Rattle.std.specs.Prelude.{◌≡◌, ◌++◌, false, length, map, IfOk, OnOk};
 ghost use Rattle.std.specs.List.{list_any};
 ghost use Rattle.ss_routines.specs.View as view;
@@ -37,7 +39,7 @@ pub(crate) fn resolve_section(
     }
 }
 
-/// What a section is made of, apart from its places.
+/// The parts of a section, apart from its places.
 #[derive(Drop)]
 struct Begun {
     head: Head,
@@ -108,8 +110,8 @@ fn head_and_locals(
     }
 }
 
-/// The section that begins so and has these places. What the text says of a place is let go as soon
-/// as the place is made.
+/// The section that begins so and has these places. The text of a place is let go as soon as the
+/// place is made.
 fn with_places(
     alloc: Global,
     whole: &Tables,
@@ -154,7 +156,7 @@ fn with_places(
     }
 }
 
-/// What a section is made of, apart from its locals, its places and its local DEFINEs.
+/// The parts of a section, apart from its locals, its places and its local DEFINEs.
 fn resolve_head(alloc: Global, section: &ss_routines::Section) -> Result<Head, AllocError>
     ensures { IfOk result (λ head. head ≡ record {
       name = resolved.section_name (view.section_view section.now).head;

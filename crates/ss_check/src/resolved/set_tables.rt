@@ -1,3 +1,5 @@
+//! Making the tables of sets, with their owners, members and disciplines.
+
 ghost use Rattle.std.specs.Prelude.{◌≡◌, ◌++◌, [], map, option_map, unwrap_or, IfOk, OnOk};
 ghost use Rattle.ss_preamble.specs.View.{set_discipline_view};
 ghost use Rattle.ss_check.specs.Facts.{fact_of};
@@ -70,7 +72,7 @@ fn set_table(
     })
 }
 
-/// The class of a set's members; a name of no letters where none is said.
+/// The class of a set's members; a name of no letters if none is declared.
 fn member_class<'a>(tables: &'a Tables, set: &[u8]) -> &'a [u8]
     ensures { result.now ≡ unwrap_or (fact_of tables.now.members set.now) [] }
 {
@@ -80,7 +82,7 @@ fn member_class<'a>(tables: &'a Tables, set: &[u8]) -> &'a [u8]
     }
 }
 
-/// The discipline of a set with members of this class; FIFO where none is given.
+/// The discipline of a set with members of this class; FIFO if none is given.
 fn discipline(
     alloc: Global,
     names: &NameTables,
@@ -101,7 +103,7 @@ fn discipline(
     }
 }
 
-/// Whose a set's lists are.
+/// The owner of a set's lists.
 fn owner(tables: &Tables, names: &NameTables, set: &[u8]) -> Owner
     ensures { result
         ≡ resolved.resolved_owner names.now.classes

@@ -1,3 +1,5 @@
+//! Making simple statements with the numbers of their names.
+
 ghost use Rattle.std.specs.Prelude.{◌≡◌, false, map, IfOk};
 ghost use Rattle.ss_words.specs.Reading.{option_view};
 ghost use Rattle.ss_report.specs.Pictures.{has_decimal_field};
@@ -78,7 +80,7 @@ fn resolve_assign(scope: Scope<'_>, assign: &ss_routines::Assign) -> Result<Assi
     }
 }
 
-/// What an assignment changes, and the value that it takes for it.
+/// The target that an assignment changes, and the value that it takes.
 fn target_and_value(
     scope: Scope<'_>,
     target: &Reference,
@@ -176,7 +178,7 @@ fn resolve_filing(scope: Scope<'_>, filing: &ss_routines::Filing) -> Result<Fili
     }
 }
 
-/// What is taken out of a set as a target, and the set.
+/// The entity that is taken out of a set as a target, and the set.
 fn target_and_set(
     scope: Scope<'_>,
     target: &Reference,

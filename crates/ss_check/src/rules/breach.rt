@@ -1,3 +1,5 @@
+//! The search for the first breach, statement by statement in the order of the text.
+
 ghost use Rattle.std.specs.Prelude.{◌≡◌, false, [], map, None, IfErr, IfOk, OnOk};
 ghost use Rattle.ss_preamble.specs.View as preamble;
 ghost use Rattle.ss_routines.specs.View as view;
@@ -17,10 +19,10 @@ use ss_preamble::{Decls, Heading, Item, ItemAt};
 use ss_routines::{LocalNames, Section, Spot};
 use std::alloc::{AllocError, Global};
 
-/// What a program declares, where it breaks no rule (docs/LANGUAGE.md, "Rules of the checker").
+/// The declarations of a program that breaks no rule (docs/LANGUAGE.md, "Rules of the checker").
 ///
-/// `Broken` tells the first statement that breaks a rule, by its line, and the lowest of the rules
-/// that it breaks; `Memory` that a growth was refused.
+/// `Broken` gives the first statement that breaks a rule, by its line, and the lowest of the rules
+/// that it breaks. `Memory` says that a growth was refused.
 pub fn check_rules(alloc: Global, decls: &Decls, sections: &[Section]) -> Result<Tables, CheckFault>
     ensures sound { IfOk result
         (λ _. rules.breach (preamble.decls_view decls.now) (map view.section_view sections.now)
@@ -41,7 +43,8 @@ pub fn check_rules(alloc: Global, decls: &Decls, sections: &[Section]) -> Result
     }
 }
 
-/// Looks at each statement of a program that says `whole`, and tells the first breach.
+/// Looks at each statement of a program with the declarations `whole`, and reports the first
+/// breach.
 fn check_whole(
     alloc: Global,
     whole: &Tables,
@@ -63,8 +66,8 @@ fn check_whole(
     checked
 }
 
-/// Looks at each statement of a program that says `whole`, behind what the language declares before
-/// all, and tells the first breach.
+/// Looks at each statement of a program with the declarations `whole`, after the declarations of
+/// the language, and reports the first breach.
 fn check_statements(
     alloc: Global,
     whole: &Tables,
@@ -95,7 +98,7 @@ fn check_statements(
 /// The line of a text's first statement.
 const FIRST_LINE: usize = 1;
 
-/// What items and the heads of sections say.
+/// The declarations of items and of the heads of sections.
 fn tables(alloc: Global, items: &[ItemAt], sections: &[Section]) -> Result<Tables, AllocError>
     ensures { IfOk result (λ tables. tables
         ≡ declared_by_program (preamble.items_view items.now)
@@ -111,7 +114,7 @@ fn tables(alloc: Global, items: &[ItemAt], sections: &[Section]) -> Result<Table
     }
 }
 
-/// Adds what items and the heads of sections say.
+/// Adds the declarations of items and of the heads of sections.
 fn add_all(
     alloc: Global,
     tables: &mut Tables,
@@ -126,7 +129,7 @@ fn add_all(
     add_heads(tables, sections)
 }
 
-/// Adds what items say, each under the heading over it.
+/// Adds the declarations of items, each under the heading over it.
 fn add_items(alloc: Global, tables: &mut Tables, items: &[ItemAt]) -> Result<(), AllocError>
     ensures { OnOk result (tables.new
         ≡ later.with_items tables.old (declared.headed_items (preamble.items_view items.now))) }
@@ -139,7 +142,7 @@ fn add_items(alloc: Global, tables: &mut Tables, items: &[ItemAt]) -> Result<(),
     Ok(())
 }
 
-/// The heading over an item behind others under this heading: its own, if it is one.
+/// The heading over an item after others under this heading: its own, if it is one.
 fn heading_at(heading: Option<Heading>, item: &Item) -> Option<Heading>
     ensures { result ≡ declared.heading_at heading (preamble.item_view item.now) }
 {
@@ -149,7 +152,7 @@ fn heading_at(heading: Option<Heading>, item: &Item) -> Option<Heading>
     }
 }
 
-/// Adds what the heads of sections say.
+/// Adds the declarations of the heads of sections.
 fn add_heads(tables: &mut Tables, sections: &[Section]) -> Result<(), AllocError>
     ensures { OnOk result (tables.new
         ≡ later.with_sections tables.old (map view.section_view sections.now)) }
@@ -160,8 +163,8 @@ fn add_heads(tables: &mut Tables, sections: &[Section]) -> Result<(), AllocError
     Ok(())
 }
 
-/// Looks at each item behind what `before` says, to which they are added, and tells the first
-/// breach.
+/// Looks at each item after the declarations `before`, to which the items are added, and reports
+/// the first breach.
 fn check_items(
     alloc: Global,
     whole: &Tables,
@@ -188,8 +191,8 @@ fn check_items(
     Ok(())
 }
 
-/// Looks at each section behind what `before` says, to which their heads are added, and tells the
-/// first breach.
+/// Looks at each section after the declarations `before`, to which their heads are added, and
+/// reports the first breach.
 fn check_sections(
     alloc: Global,
     whole: &Tables,
@@ -208,8 +211,8 @@ fn check_sections(
     Ok(())
 }
 
-/// Looks at a section behind what `before` says, to which its head is added, and tells the first
-/// breach.
+/// Looks at a section after the declarations `before`, to which its head is added, and reports the
+/// first breach.
 fn check_section(
     alloc: Global,
     whole: &Tables,
@@ -233,7 +236,7 @@ fn check_section(
     check_places(alloc, whole, is_main(section), &section.places)
 }
 
-/// Looks at each local DEFINE, and tells the first breach.
+/// Looks at each local DEFINE, and reports the first breach.
 fn check_locals(whole: &Tables, locals: &[LocalNames]) -> Result<(), CheckFault>
     ensures sound { IfOk result
         (λ _. later.locals_breach whole.now (map view.local_view locals.now) ≡ None) }
@@ -249,7 +252,7 @@ fn check_locals(whole: &Tables, locals: &[LocalNames]) -> Result<(), CheckFault>
     Ok(())
 }
 
-/// Looks at each place of a section, and tells the first breach.
+/// Looks at each place of a section, and reports the first breach.
 fn check_places(
     alloc: Global,
     whole: &Tables,
@@ -274,7 +277,7 @@ fn check_places(
     Ok(())
 }
 
-/// The line of the last END of sections, or this line where there is none.
+/// The line of the last END of sections, or this line if there is none.
 fn last_end(line: usize, sections: &[Section]) -> usize
     ensures { result ≡ rules.last_end line (map view.section_view sections.now) }
 {
@@ -285,7 +288,7 @@ fn last_end(line: usize, sections: &[Section]) -> usize
     last
 }
 
-/// The line of the last place, or this line where there is none.
+/// The line of the last place, or this line if there is none.
 #[tactic(auto, using(crate::proofs::Turns::last_line_last, crate::proofs::Turns::last_line_none))]
 fn last_line(line: usize, places: &[Spot]) -> usize
     ensures { result ≡ rules.last_line line (view.spots places.now) }

@@ -1,3 +1,5 @@
+//! Counting the fields of a picture.
+
 ghost use Rattle.std.specs.Prelude.{◌≡◌, ◌==◌, ◌≤◌, count_by, length, map};
 ghost use Rattle.std.specs.List.{list_any};
 ghost use Rattle.ss_report.specs.Pictures as pictures;
@@ -5,7 +7,7 @@ ghost use Rattle.ss_report.specs.Pictures as pictures;
 /// The byte of which fields of a picture are made.
 const ASTERISK: u8 = b'*';
 
-/// Whether the lines of a picture have so many fields.
+/// Whether the lines of a picture have this number of fields.
 #[tactic(auto, using(crate::proofs::Runs::lines_turn, crate::proofs::Runs::lines_end))]
 pub(crate) fn has_field_count(lines: &[Vec<u8>], wanted: usize) -> bool
     ensures { result ≡ (wanted == pictures.field_count (map (λ l. l.items) lines.now)) }
@@ -37,7 +39,7 @@ fn line_field_count(line: &[u8]) -> usize
     count
 }
 
-/// Whether a stop stands directly between two asterisks of a line.
+/// Whether a stop is directly between two asterisks of a line.
 pub(crate) fn has_decimal_field(lines: &[Vec<u8>]) -> bool
     ensures { result ≡ pictures.has_decimal_field (map (λ l. l.items) lines.now) }
 {
@@ -50,7 +52,7 @@ fn any_decimal(lines: &[Vec<u8>]) -> bool
     lines.iter().any(|line| has_decimal(line))
 }
 
-/// Whether a stop stands directly between two asterisks.
+/// Whether a stop is directly between two asterisks.
 fn has_decimal(line: &[u8]) -> bool
     ensures { result ≡ pictures.has_decimal line.now }
 {

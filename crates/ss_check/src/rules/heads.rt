@@ -1,3 +1,5 @@
+//! The rules on the heads of sections and on local DEFINEs.
+
 ghost use Rattle.std.specs.Prelude.{◌≡◌, ◌++◌, ◌||◌, [], IfOk, OnOk};
 ghost use Rattle.std.specs.List.{list_any};
 ghost use Rattle.ss_check.specs.declared.fault.CheckRule.TheVariants as check;
@@ -54,8 +56,8 @@ impl HeadBreaks {
     }
 }
 
-/// The lowest rule that the head of a section breaks behind what `before` says, to which it is
-/// added.
+/// The lowest rule that the head of a section breaks after the declarations `before`, to which it
+/// is added.
 pub(crate) fn head_rule(
     alloc: Global,
     whole: &Tables,
@@ -188,7 +190,7 @@ fn any_declared(whole: &Tables, names: &[Name]) -> bool
     names.iter().any(|name| whole.kinds.has(name.bytes()))
 }
 
-/// The rule that a local DEFINE breaks: it names what is declared.
+/// The rule that a local DEFINE breaks: it names a declared name.
 #[tactic(auto, using(crate::proofs::Tests::any_map), unfolding(crate::specs::ItemRules::local_rule))]
 pub(crate) fn local_rule(whole: &Tables, local: &LocalNames) -> Option<CheckRule>
     ensures { result ≡ rules.local_rule whole.now (view.local_view local.now) }
@@ -216,7 +218,7 @@ fn has_too_many(whole: &Tables, section: &Section) -> bool
     }
 }
 
-/// Whether it is the section of what is no event class.
+/// Whether it is the section of a name that is no event class.
 fn lacks_class(whole: &Tables, section: &Section) -> bool
     ensures { result ≡ rules.lacks_class whole.now (view.section_view section.now).head }
 {

@@ -1,3 +1,5 @@
+//! The rules on the items of a preamble.
+
 ghost use Rattle.std.specs.Prelude.{◌≡◌, ◌++◌, ◌&&◌, ◌||◌, [], not, Some, IfOk, OnOk};
 ghost use Rattle.std.specs.List.{list_any};
 ghost use Rattle.ss_check.specs.declared.fault.CheckRule.TheVariants as check;
@@ -35,7 +37,7 @@ struct ItemBreaks {
     has_wrong_owner: bool,
     /// C5
     has_wrong_member: bool,
-    /// C6, asked only where C1 is kept
+    /// C6, asked only if C1 is kept
     has_wrong_keys: bool,
     /// C8
     lacks_section: bool,
@@ -74,8 +76,8 @@ impl ItemBreaks {
     }
 }
 
-/// The lowest rule that an item under this heading breaks behind what `before` says, to which it is
-/// added.
+/// The lowest rule that an item under this heading breaks after the declarations `before`, to which
+/// it is added.
 pub(crate) fn item_rule(
     alloc: Global,
     whole: &Tables,
@@ -125,7 +127,7 @@ fn says_twice(tables: &Tables) -> bool
 
 // ---- C2
 
-/// Whether an item is EVERY under no heading, or BREAK or EXTERNAL of what is no event class.
+/// Whether an item is EVERY under no heading, or BREAK or EXTERNAL of no event class.
 fn names_wrong_class(whole: &Tables, heading: Option<Heading>, item: &Item) -> bool
     ensures { result ≡ rules.names_wrong_class whole.now heading (view.item_view item.now) }
 {
@@ -360,8 +362,8 @@ fn is_new_without_section(whole: &Tables, classes: &NameList, name: &[u8]) -> bo
 
 // ---- C12
 
-/// Whether an item is a PRIORITY behind one of `before`, names a class twice or names what is no
-/// event class.
+/// Whether an item is a PRIORITY after one of `before`, names a class twice or names a class that
+/// is no event class.
 fn orders_wrong_priority(
     alloc: Global,
     whole: &Tables,
@@ -374,8 +376,8 @@ fn orders_wrong_priority(
     has_wrong_priority(alloc, whole, &before.priority, item)
 }
 
-/// Whether an item is a PRIORITY behind others, names a class twice or names what is no event
-/// class.
+/// Whether an item is a PRIORITY after others, names a class twice or names a class that is no
+/// event class.
 fn has_wrong_priority(
     alloc: Global,
     whole: &Tables,
@@ -394,7 +396,7 @@ fn has_wrong_priority(
     Ok(names_twice(alloc, names)? || names_no_event(whole, names))
 }
 
-/// Whether a name stands twice among these.
+/// Whether a name is twice among these.
 fn names_twice(alloc: Global, names: &Names) -> Result<bool, AllocError>
     ensures { IfOk result (λ r. r ≡ repeats [] (all_of (several_view (λ n. n) names.now))) }
 {

@@ -1,3 +1,5 @@
+//! The rule on the attributes that rank sets and break ties.
+
 ghost use Rattle.std.specs.Prelude.{◌≡◌, ◌&&◌, not, Some};
 ghost use Rattle.std.specs.List.{list_any};
 ghost use Rattle.ss_words.specs.Lists.{all_of, several_view};
@@ -19,8 +21,8 @@ pub(crate) fn has_wrong_keys_unless(declares_twice: bool, whole: &Tables, item: 
     !declares_twice && has_wrong_keys(whole, item)
 }
 
-/// Whether an item ranks a set by what is no attribute of its members, or breaks the ties of an
-/// event class by what is none of it.
+/// Whether an item ranks a set by a name that is no attribute of its members, or breaks the ties of
+/// an event class by a name that is none of its attributes.
 #[tactic(auto, using(crate::proofs::Tests::any_map))]
 fn has_wrong_keys(whole: &Tables, item: &Item) -> bool
     ensures { result ≡ rules.has_wrong_keys whole.now (view.item_view item.now) }
@@ -36,7 +38,7 @@ fn has_wrong_keys(whole: &Tables, item: &Item) -> bool
     }
 }
 
-/// Whether one of these sets is ranked by what is no attribute of its members.
+/// Whether one of these sets is ranked by a name that is no attribute of its members.
 #[tactic(auto, using(crate::proofs::Tests::any_map))]
 fn any_wrong_rank(whole: &Tables, sets: &Names, kind: &SetDiscipline) -> bool
     ensures { result ≡ list_any (λ s. rules.has_wrong_rank whole.now (fact_of whole.now.members s)
@@ -53,7 +55,8 @@ fn any_other_rank(whole: &Tables, sets: &[Name], kind: &SetDiscipline) -> bool
         .any(|set| is_wrong_rank(whole, set.bytes(), kind))
 }
 
-/// Whether a set is ranked by what is no attribute of its members, or has none and is ranked.
+/// Whether a set is ranked by a name that is no attribute of its members, or has no members and is
+/// ranked.
 fn is_wrong_rank(whole: &Tables, set: &[u8], kind: &SetDiscipline) -> bool
     ensures { result ≡ rules.has_wrong_rank whole.now (fact_of whole.now.members set.now)
         (view.set_discipline_view kind.now) }

@@ -1,3 +1,5 @@
+//! The rules on the places of sections, by the statements around them.
+
 ghost use Rattle.std.specs.Prelude.{◌≡◌, ◌++◌, map, IfOk, OnOk};
 ghost use Rattle.ss_routines.specs.View as view;
 ghost use Rattle.ss_check.specs.PlaceRules as rules;
@@ -13,8 +15,8 @@ use crate::uses::use_list::{Use, UseList};
 use ss_routines::{Branch, Exchange, Loop, Place, Question, Simple, Spot, Timing};
 use std::alloc::{AllocError, Global};
 
-/// The lowest rule that a place breaks, in MAIN or not, directly behind a FIND or not, with others
-/// behind it.
+/// The lowest rule that a place breaks, in MAIN or not, directly after a FIND or not, with others
+/// after it.
 pub(crate) fn place_rule(
     alloc: Global,
     whole: &Tables,
@@ -37,7 +39,7 @@ pub(crate) fn place_rule(
     }
 }
 
-/// Adds the uses of the statement at a place with others behind it: COMPUTE is one of two places.
+/// Adds the uses of the statement at a place with others after it: COMPUTE is one of two places.
 fn add_statement<'a>(
     uses: &mut UseList<'a>,
     place: &'a Place,
@@ -90,7 +92,7 @@ fn has_wrong_picture(place: &Place) -> bool
     }
 }
 
-/// The rule on what stands around a place that it breaks, in MAIN or not, and directly behind a
+/// The rule on the surroundings of a place that it breaks, in MAIN or not, and directly after a
 /// FIND or not.
 pub(crate) fn standing_rule(in_main: bool, behind_find: bool, place: &Place) -> Option<CheckRule>
     ensures { result ≡ lowest

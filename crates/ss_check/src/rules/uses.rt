@@ -1,3 +1,5 @@
+//! The rules on the uses of names in statements.
+
 ghost use Rattle.std.specs.Prelude.{◌≡◌, option_map};
 ghost use Rattle.std.specs.List.{list_any};
 ghost use Rattle.ss_check.specs.Declarations as declarations;
@@ -28,7 +30,7 @@ fn is_wrong_class(whole: &Tables, name_use: &Use<'_>) -> bool
     }
 }
 
-/// Whether one of these uses a name as what it is not.
+/// Whether one of these uses a name as another kind than its own.
 pub(crate) fn any_misused(whole: &Tables, uses: &[Use<'_>]) -> bool
     ensures { result ≡ list_any (λ u. rules.is_misused whole.now (use_view u)) uses.now }
 {
@@ -63,14 +65,14 @@ fn is_misused(whole: &Tables, name_use: &Use<'_>) -> bool
     }
 }
 
-/// Whether it is the name of what has no value.
+/// Whether a name of this kind has no value.
 fn is_valueless(kind: Option<&NameKind>) -> bool
     ensures { result ≡ rules.is_valueless (option_map (λ k. kind_view k.now) kind.entry) }
 {
     names_set(kind) || names_routine(kind)
 }
 
-/// Whether it is the name of what takes no parentheses.
+/// Whether a name of this kind takes no parentheses.
 fn takes_no_parentheses(whole: &Tables, kind: Option<&NameKind>) -> bool
     ensures { result ≡ rules.takes_no_parentheses whole.now
         (option_map (λ k. kind_view k.now) kind.entry) }
@@ -97,7 +99,7 @@ fn is_of_system(whole: &Tables, set: &[u8]) -> bool
     matches!(whole.owners.get(set), Some(None))
 }
 
-/// Whether a function takes so many arguments.
+/// Whether a function takes this number of arguments.
 fn takes(function: Function, arguments: usize) -> bool
     ensures { result ≡ rules.takes (function_view function) arguments }
 {
@@ -108,8 +110,8 @@ fn takes(function: Function, arguments: usize) -> bool
     }
 }
 
-/// Whether a function takes another count of arguments, or what takes a subscript has more than
-/// one.
+/// Whether a function takes another count of arguments, or a name that takes a subscript has more
+/// than one.
 fn has_wrong_arguments(whole: &Tables, kind: Option<&NameKind>, arguments: usize) -> bool
     ensures { result ≡ rules.has_wrong_arguments whole.now
         (option_map (λ k. kind_view k.now) kind.entry) arguments }
@@ -159,7 +161,7 @@ fn is_wrong_count(whole: &Tables, name_use: &Use<'_>) -> bool
     }
 }
 
-/// Whether one of these assigns to what is never assigned.
+/// Whether one of these assigns to a name that is never assigned.
 pub(crate) fn any_fixed(whole: &Tables, uses: &[Use<'_>]) -> bool
     ensures { result ≡ list_any (λ u. rules.is_fixed whole.now (use_view u)) uses.now }
 {

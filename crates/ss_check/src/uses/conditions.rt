@@ -1,3 +1,5 @@
+//! Adding the uses of names in conditions.
+
 ghost use Rattle.std.specs.Prelude.{◌≡◌, ◌++◌, OnOk};
 ghost use Rattle.ss_routines.specs.View.{condition_view, conjunction_view, relation_view};
 ghost use Rattle.ss_check.specs.Uses as uses_of;

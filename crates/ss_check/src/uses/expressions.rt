@@ -1,3 +1,5 @@
+//! Adding the uses of names in expressions and references.
+
 ghost use Rattle.std.specs.Prelude.{◌≡◌, ◌+◌, ◌++◌, map, OnOk};
 ghost use Rattle.std.specs.List.{flat_map};
 ghost use Rattle.ss_words.specs.Reading.{option_view};
@@ -62,7 +64,7 @@ fn add_application<'a>(uses: &mut UseList<'a>, a: &'a Application) -> Result<(),
     Ok(())
 }
 
-/// How many arguments stand between parentheses, with these behind the first.
+/// How many arguments are between parentheses, with these after the first.
 #[tactic(auto, using(crate::proofs::Arguments::count_view))]
 fn argument_count(others: &[Expr]) -> usize
     ensures { result ≡ 1 + uses_of.count (exprs_of (map expr_view others.now)) }
@@ -154,7 +156,7 @@ fn add_value<'a>(uses: &mut UseList<'a>, v: &'a Reference) -> Result<(), AllocEr
     add_subscript(uses, &v.subscript)
 }
 
-/// Adds the uses of a target behind CALLED, if there is one.
+/// Adds the uses of a target after CALLED, if there is one.
 pub(crate) fn add_called_target<'a>(
     uses: &mut UseList<'a>,
     v: &'a Option<Reference>,
@@ -168,7 +170,7 @@ pub(crate) fn add_called_target<'a>(
     }
 }
 
-/// Adds the uses of a value behind CALLED, if there is one.
+/// Adds the uses of a value after CALLED, if there is one.
 pub(crate) fn add_called_value<'a>(
     uses: &mut UseList<'a>,
     v: &'a Option<Reference>,

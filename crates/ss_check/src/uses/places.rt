@@ -1,3 +1,5 @@
+//! Adding the uses of names at places that are no simple statement.
+
 ghost use Rattle.std.specs.Prelude.{◌≡◌, ◌++◌, map, OnOk};
 ghost use Rattle.std.specs.List.{flat_map};
 ghost use Rattle.ss_words.specs.Reading.{option_view};

@@ -1,3 +1,5 @@
+//! Adding the uses of names in simple statements.
+
 ghost use Rattle.std.specs.Prelude.{◌≡◌, [], ◌∷◌, ◌++◌, length, OnOk};
 ghost use Rattle.std.specs.List.{flat_map};
 ghost use Rattle.ss_words.specs.Lists.{all_of, several_view};

@@ -1,3 +1,5 @@
+//! The uses of a name, and the list that collects them.
+
 ghost use Rattle.std.specs.Prelude.{◌≡◌, [], ◌∷◌, ◌++◌, map, OnOk};
 ghost use Rattle.ss_check.specs.UseView.{use_view};
 
@@ -29,12 +31,12 @@ pub enum Use<'a> {
         need: ClassNeed,
         name: &'a [u8],
     },
-    /// As the class of a notice with so many values.
+    /// As the class of a notice with this number of values.
     Notice {
         event: &'a [u8],
         values: usize,
     },
-    /// As a routine with so many values and targets.
+    /// As a routine with these numbers of values and targets.
     Routine {
         name: &'a [u8],
         values: usize,

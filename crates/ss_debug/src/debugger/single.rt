@@ -19,10 +19,10 @@ use ss_state::Stepped;
 use std::alloc::AllocError;
 
 impl<S: SetBoard> Debugger<S> {
-    /// One step forward, as the machine makes it. `AtEnd` where the status isn't ready, or at the
-    /// last position; then nothing changes. The break lines stay as they are.
+    /// One step forward, as the machine makes it. `AtEnd` if the status isn't ready, or at the last
+    /// position; then nothing changes. The break lines stay as they are.
     ///
-    /// `AllocError` where memory was refused; then nothing has changed.
+    /// `AllocError` if memory was refused; then nothing has changed.
     pub fn step_forward(&mut self) -> Result<Stepped, AllocError>
         ensures ok { IfOk result (λ stepped. Steps stepped self.old.machine self.new.machine) }
         ensures err { OnErr result (self.new ≡ self.old) }
@@ -31,8 +31,8 @@ impl<S: SetBoard> Debugger<S> {
         self.machine.step()
     }
 
-    /// One step back. False only where no step is kept, and then nothing changes. It takes no
-    /// memory. The break lines stay as they are.
+    /// One step back. False only if no step is kept, and then nothing changes. It takes no memory.
+    /// The break lines stay as they are.
     pub fn step_back(&mut self) -> bool
         ensures back { GoesBack result self.old.machine self.new.machine }
         ensures breaks { self.new.breaks ≡ self.old.breaks }
@@ -40,7 +40,7 @@ impl<S: SetBoard> Debugger<S> {
         self.machine.back()
     }
 
-    /// Whether the place where the machine stands is on a break line.
+    /// Whether the machine's present place is on a break line.
     pub fn stands_on_break(&self) -> bool
         ensures { result
             ≡ is_on_break self.now.machine.input self.now.breaks (position self.now.machine) }
@@ -48,10 +48,10 @@ impl<S: SetBoard> Debugger<S> {
         stands_on_break(&self.machine, &self.breaks)
     }
 
-    /// Appends the answer of a movement that led to where the machine stands: its word, and the
+    /// Appends the answer of a movement that led to the machine's present state: its word, and the
     /// state line.
     ///
-    /// `AllocError` where a growth was refused; then `bytes` is as before.
+    /// `AllocError` if a growth was refused; then `bytes` is as before.
     pub fn push_movement(&self, word: &[u8], bytes: &mut Vec<u8>) -> Result<(), AllocError>
         ensures said { OnOk result (bytes.new.items ≡ bytes.old.items
             ++ movement_text word.now self.now.machine.input (position self.now.machine)) }
@@ -61,7 +61,7 @@ impl<S: SetBoard> Debugger<S> {
         bytes.extend_from_slice(&text)
     }
 
-    /// The answer to a question, where the machine stands.
+    /// The answer to a question, in the machine's present state.
     pub fn answer_to(&self, question: &Question) -> Result<Vec<u8>, AllocError>
         ensures { IfOk result (λ text. text.items
             ≡ show_answer self.now.machine.input (position self.now.machine) question.now) }

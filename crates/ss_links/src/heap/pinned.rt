@@ -1,11 +1,11 @@
-//! The field of the heap of nodes, with its type. Nothing calls this function: it is refused where
-//! the field is another, or has another type, and where there is one more.
+//! The field of the heap of nodes, with its type. Nothing calls this function: it is refused if the
+//! field is another, or has another type, and if there is one more.
 ghost use Rattle.std.specs.Prelude.{◌≡◌, []};
 
 use super::NodeHeap;
 use std::alloc::Global;
 
-/// The field of a heap, where no node is left.
+/// The field of a heap, if no node is left.
 fn of_heap(nodes: NodeHeap) -> Global
     requires { nodes.cells ≡ [] }
 {

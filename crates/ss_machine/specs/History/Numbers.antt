@@ -1,7 +1,7 @@
 -- Private: numbers, written in bytes of seven bits each.
 use Rattle.std.specs.Prelude.{ℕ, ◌+◌, ◌-◌, ◌*◌, ◌/◌, ◌^◌, min, ◌<◌, List, [], ◌∷◌, ◌≡◌, All, nat_lt, if◌then◌else◌}
 
--- the numbers with a lowest group more of the first one, which is that group alone where there is none
+-- the numbers with a lowest group added to the first one; if there is none, the group is the first
 abbrev pub with_group : ℕ → List ℕ → List ℕ
 with_group group [] = group ∷ []
 with_group group (higher ∷ others) = (group + 128 * higher) ∷ others
@@ -19,11 +19,11 @@ numbers_of (byte ∷ bytes) = with_byte byte (numbers_of bytes)
 abbrev pub AreSmall : List ℕ → Type 0
 AreSmall bytes = All (λ n. n < 2 ^ 64) (numbers_of bytes)
 
--- for how many numbers there is room in so many bytes, or in as many as can be asked for
+-- for how many numbers n bytes give room, or as many as can be asked for, if n is greater
 abbrev pub number_room : ℕ → ℕ
 number_room bytes = min bytes (2 ^ 64 - 1) / 10
 
--- the first number was taken off, or 0 where there is none
+-- the first number was taken off, or 0 if there is none
 abbrev pub IsHigher : ℕ → List ℕ → List ℕ → Type 0
 IsHigher number [] left = (number ≡ 0) × (left ≡ [])
 IsHigher number (first ∷ others) left = (number ≡ first) × (left ≡ others)

@@ -1,3 +1,5 @@
+//! The values of a change as unsigned numbers of 64 bits, and back, for the journal.
+
 ghost use Rattle.std.specs.Prelude.{◌≡◌};
 ghost use Rattle.ss_machine.specs.History.{signed_number, narrow_number, is_set, owner_of};
 

@@ -1,3 +1,5 @@
+//! The kinds of changes, and the number with which the journal writes each.
+
 ghost use Rattle.std.specs.Prelude.{◌≡◌, MatchBool};
 ghost use Rattle.ss_machine.specs.History.{IsOfChange};
 ghost use Rattle.ss_machine.specs.declared.history.kinds.ChangeKind.TheVariants as kinds;
@@ -14,8 +16,8 @@ ghost use Rattle.ss_machine.specs.History.Kinds.{
   text_kind_of,
 };
 
-/// The kinds of changes, by what they are of. A kind tells which numbers tell the change, and what
-/// is kept beside them.
+/// The kinds of changes, by the part that changes. A kind determines which numbers give the change,
+/// and which parts are kept in addition.
 #[derive(Clone, Copy)]
 pub enum ChangeKind {
     Value(ValueChangeKind),
@@ -28,7 +30,7 @@ pub enum ChangeKind {
     Text(TextChangeKind),
 }
 
-/// Changes of what a variable, FIND or COMPUTE holds.
+/// Changes of a variable, of FIND's answer or of COMPUTE's values.
 #[derive(Clone, Copy)]
 pub enum ValueChangeKind {
     Variable,
@@ -37,7 +39,7 @@ pub enum ValueChangeKind {
     Statistics,
 }
 
-/// Changes of where the run stands.
+/// Changes of the run's place, frames or status.
 #[derive(Clone, Copy)]
 pub enum ControlChangeKind {
     Place,
@@ -101,7 +103,7 @@ pub enum TextChangeKind {
 const SORT: u64 = 8;
 
 impl ChangeKind {
-    /// The number that tells the kind.
+    /// The number that gives the kind.
     #[inline(always)]
     pub fn number(self) -> u64
         ensures { kind_of result ≡ self }
@@ -130,7 +132,7 @@ impl ChangeKind {
         }
     }
 
-    /// The kind that a number tells.
+    /// The kind that a number gives.
     pub fn of_number(number: u64) -> ChangeKind
         ensures { result ≡ kind_of number }
     {

@@ -1,3 +1,5 @@
+//! The journal of numbers that a history is written on. Small numbers take little room.
+
 ghost use Rattle.std.specs.Prelude.{◌≡◌, ℕ, ◌+◌, ◌^◌, ◌<◌, ◌≤◌, ◌∷◌, [], length, All, IsOk, OnOk, MatchBool};
 ghost use Rattle.std.specs.Prelude.{MatchOption};
 ghost use Rattle.ss_machine.specs.History.Numbers.{numbers_of, AreSmall, IsHigher};
@@ -96,7 +98,7 @@ impl Numbers {
         self.bytes.close();
     }
 
-    /// Takes the newest number off the open step; `None` where that step is empty. No room is lost.
+    /// Takes the newest number off the open step; `None` if that step is empty. No room is lost.
     pub fn pop_open(&mut self) -> Option<u64>
         ensures steps { self.new.steps ≡ self.old.steps }
         ensures current { MatchOption result
@@ -112,7 +114,7 @@ impl Numbers {
         Some(byte - GROUP + GROUP * higher(&mut self.bytes))
     }
 
-    /// Makes the newest closed step the open one again; false where no step is closed, and then
+    /// Makes the newest closed step the open one again; false if no step is closed, and then
     /// nothing changes. The room of its close is free again.
     pub fn reopen_last(&mut self) -> bool
         requires { self.old.current ≡ [] }
@@ -134,8 +136,8 @@ impl Numbers {
         self.bytes.steps()
     }
 
-    /// Forgets the oldest closed steps, so that the newest `n` are left, or all where there are
-    /// fewer. The room of what is forgotten is free again once `reserve` needs it.
+    /// Forgets the oldest closed steps, so that the newest `n` are left, or all if there are fewer.
+    /// The room of the forgotten steps is free again once `reserve` needs it.
     ///
     /// It takes no memory, and its time is in proportion to the steps forgotten.
     pub fn keep_last(&mut self, n: usize)
@@ -153,7 +155,7 @@ impl Numbers {
     ghost use Rattle.std.specs.Prelude.{slice_index, not};
     ghost use Rattle.ss_machine.specs.History.{IsTaken, signed_number, narrow_number, is_set};
 
-    /// Takes the newest number off the open step, or 0 where that step is empty.
+    /// Takes the newest number off the open step, or 0 if that step is empty.
     pub fn take(&mut self) -> u64
         ensures value { result ≡ slice_index self.old.current 0 }
         ensures taken { IsTaken 1 self.old self.new }
@@ -161,7 +163,7 @@ impl Numbers {
         self.pop_open().unwrap_or(0)
     }
 
-    /// The same of a number with sign.
+    /// Takes the newest number off as a number with sign, or 0 if the open step is empty.
     pub fn take_signed(&mut self) -> i64
         ensures value { result ≡ signed_number (slice_index self.old.current 0) }
         ensures taken { IsTaken 1 self.old self.new }
@@ -169,7 +171,7 @@ impl Numbers {
         unfold(self.take())
     }
 
-    /// The same of a number of 32 bits.
+    /// Takes the newest number off as one of 32 bits, or 0 if the open step is empty.
     pub fn take_narrow(&mut self) -> u32
         ensures value { result ≡ narrow_number (slice_index self.old.current 0) }
         ensures taken { IsTaken 1 self.old self.new }
@@ -177,7 +179,7 @@ impl Numbers {
         narrow(self.take())
     }
 
-    /// The same of a choice of two.
+    /// Takes the newest number off as a choice of two, or false if the open step is empty.
     pub fn take_flag(&mut self) -> bool
         ensures value { result ≡ is_set (slice_index self.old.current 0) }
         ensures taken { IsTaken 1 self.old self.new }
@@ -204,8 +206,8 @@ fn write(bytes: &mut ByteJournal, number: u64)
     }
 }
 
-/// Writes a number that takes more than one byte: first what is above its two lowest groups, if
-/// anything is, then these.
+/// Writes a number that takes more than one byte: first the part above its two lowest groups, if it
+/// has one, then these.
 #[cycle(put)]
 #[inline(never)]
 fn put(bytes: &mut ByteJournal, number: u64)
@@ -226,7 +228,7 @@ fn put(bytes: &mut ByteJournal, number: u64)
     bytes.note((GROUP + number % GROUP) as u8);
 }
 
-/// Takes the newest number off; 0 where there is none.
+/// Takes the newest number off; 0 if there is none.
 fn higher(bytes: &mut ByteJournal) -> u64
     requires { AreSmall bytes.old.current }
     ensures steps { bytes.new.steps ≡ bytes.old.steps }

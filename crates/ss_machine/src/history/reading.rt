@@ -1,3 +1,5 @@
+//! Changes read back from the numbers and kept parts of the journal, to undo them.
+
 ghost use Rattle.std.specs.Prelude.{◌≡◌, ◌≤◌, ◌<◌, ◌∷◌, length};
 ghost use Rattle.ss_state.specs.Change.{unapply};
 ghost use Rattle.ss_state.specs.declared.limits.TheConstants.{MOST_BELOW};
@@ -29,7 +31,7 @@ use ss_program::Owner;
 use ss_state::Entry;
 use ss_store::StoreChange;
 
-/// A change of what a variable, FIND or COMPUTE holds.
+/// A change of a variable, of FIND's answer or of COMPUTE's values.
 fn value_change(kind: ValueChangeKind, numbers: &mut Numbers) -> Change
     ensures value { as_change result ≡ pure.value_change kind numbers.old.current }
     ensures taken { IsTaken (value_numbers kind) numbers.old numbers.new }
@@ -153,7 +155,7 @@ impl Tape {
         }
     }
 
-    /// A change of where the run stands.
+    /// A change of the run's place, frames or status.
     fn control_change(&mut self, kind: ControlChangeKind) -> Change
         requires kind { IsOfChange (kinds.Control kind) }
         requires kept { HasKept (kinds.Control kind) self.old.kept.current }
@@ -284,7 +286,7 @@ impl Tape {
         }
     }
 
-    /// What is kept of a notice that was taken off.
+    /// A notice that was taken off, from its numbers and its kept keys.
     fn notice(&mut self) -> PendingNotice
         requires { AreValues self.old.kept.current }
         ensures { IsNoticeRead result self.old self.new }

@@ -1,3 +1,5 @@
+//! The two journals on which a history is written: numbers, and parts kept as they are.
+
 ghost use Rattle.std.specs.Prelude.{◌≡◌, ◌+◌, ◌<◌, ◌≤◌, ◌∷◌, ◌++◌, length};
 ghost use Rattle.ss_machine.specs.History.{
   change_of,
@@ -19,8 +21,8 @@ use crate::state::loops::ClosedLoop;
 use ss_byte_journal::SparseJournal;
 use ss_state::Status;
 
-/// What of a change is kept as it is, beside the numbers that tell the rest: what owns memory, and
-/// a status.
+/// A part of a change that is kept as it is, in addition to the numbers that give the rest: a part
+/// that owns memory, or a status.
 #[derive(Drop)]
 pub enum Owned {
     /// The values of an entity that ended, or the keys of a notice that was taken off.
@@ -35,10 +37,10 @@ pub enum Owned {
     Status(Status),
 }
 
-/// What changes are written on: numbers, and beside them what is kept as it is.
+/// The tape on which changes are written: numbers, and in addition the parts kept as they are.
 ///
-/// A change is the number of its kind and, behind it, the numbers that this kind has; one that owns
-/// memory has that in the same step of what is kept.
+/// A change is the number of its kind and, after it, the numbers of this kind. If it owns memory,
+/// its kept part is in the same step of the kept parts.
 #[derive(Drop)]
 pub struct Tape {
     pub numbers: Numbers,
@@ -61,7 +63,7 @@ impl Tape {
         put(&mut self.numbers, kind, fields);
     }
 
-    /// Writes a change of a kind, and keeps what is to be kept of it.
+    /// Writes a change of a kind, and keeps the part of it that is to be kept.
     #[inline(always)]
     pub fn write_kept(&mut self, kind: ChangeKind, fields: &[u64], kept: Owned)
         requires count { length fields.now ≡ number_count kind }

@@ -1,3 +1,5 @@
+//! Changes written in the journal, as the numbers of their kind and a kept part.
+
 ghost use Rattle.std.specs.Prelude.{◌<◌};
 ghost use Rattle.ss_machine.specs.History.{IsNoted};
 ghost use Rattle.ss_state.specs.Change as changes;

@@ -1,28 +1,30 @@
+//! The changes of a state as the code notes them, by which each write can be undone.
+
 use crate::state::frame::FrameBox;
 use crate::state::loops::ClosedLoop;
 use ss_events::AgendaChange;
 use ss_store::StoreChange;
 
-/// What is noted of a change of the state, enough to take it back.
+/// The note of a change of the state, enough to take it back.
 #[derive(Drop)]
 pub enum Change {
-    /// A global variable was assigned; what it held.
+    /// A global variable was assigned; its old value.
     Variable {
         number: usize,
         old: i64,
     },
-    /// A local of the last frame was assigned; what it held.
+    /// A local of the last frame was assigned; its old value.
     Local {
         number: usize,
         old: i64,
     },
-    /// The last frame went to another place; where it stood.
+    /// The last frame went to another place; its old place.
     Place(usize),
-    /// The clock was set; what it showed.
+    /// The clock was set; its old time.
     Clock(i64),
-    /// The store was changed; what takes that back.
+    /// The store was changed; the change that takes this back.
     Store(StoreChange),
-    /// A notice was scheduled or taken off; what takes that back.
+    /// A notice was scheduled or taken off; the change that takes this back.
     Agenda(AgendaChange),
     /// Items of the data were taken; how many were before.
     Taken(usize),
@@ -42,9 +44,9 @@ pub enum Change {
     FrameOpened,
     /// The last frame was dropped.
     FrameDropped(FrameBox),
-    /// What FIND answers changed; what it was.
+    /// FIND's answer changed; the old one.
     Found(bool),
-    /// What COMPUTE has gathered changed; what it was.
+    /// The values gathered by COMPUTE changed; the old ones.
     Statistics {
         number: i64,
         sum: i64,

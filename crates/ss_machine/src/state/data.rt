@@ -25,8 +25,8 @@ use ss_words::characters::LINE_FEED;
 use ss_words::{RunFault, StepFault};
 
 impl<S: SetBoard> State<S> {
-    /// Takes the next numbers of the data, one for each target, and puts them in place of what was
-    /// in `values`. After an error nothing is taken. With external events a mark is F22.
+    /// Takes the next numbers of the data, one for each target. They replace the old contents of
+    /// `values`. After an error nothing is taken. With external events a mark is F22.
     pub fn take(
         &mut self,
         external: bool,
@@ -136,7 +136,7 @@ impl<S: SetBoard> State<S> {
         Ok(Change::Report(old))
     }
 
-    /// Appends so many line feeds to the report. After a fault nothing has changed.
+    /// Appends `lines` line feeds to the report. After a fault nothing has changed.
     pub fn skip(&mut self, lines: usize) -> Result<Change, StepFault>
         ensures state { IfOk result
             (λ _. self.new.state ≡ record self.old.state { report = self.new.state.report }) }
@@ -169,8 +169,8 @@ fn take_value(feed: &mut Feed, external: bool) -> Result<i64, RunFault>
     feed.take()
 }
 
-/// Puts the next numbers of the data, one for each target, in place of what was in `values`. After
-/// an error some may be taken.
+/// Takes the next numbers of the data, one for each target. They replace the old contents of
+/// `values`. After an error some may be taken.
 fn take_values(
     feed: &mut Feed,
     external: bool,

@@ -141,8 +141,8 @@ impl<S: SetBoard> State<S> {
         Ok(x.unsigned_abs() as u32)
     }
 
-    /// Puts the values of an entity's attributes that break ties, or F3, in place of what was in
-    /// `values`.
+    /// Puts the values of an entity's attributes that break ties, or F3, in place of the old
+    /// contents of `values`.
     pub fn keys(
         &self,
         class: usize,
@@ -165,8 +165,8 @@ impl<S: SetBoard> State<S> {
         Ok(())
     }
 
-    /// Puts the values of an entity's first `count` attributes, or F3, in place of what was in
-    /// `values`.
+    /// Puts the values of an entity's first `count` attributes, or F3, in place of the old contents
+    /// of `values`.
     pub fn first_attributes(
         &self,
         class: usize,

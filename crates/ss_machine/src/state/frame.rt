@@ -1,3 +1,5 @@
+//! One frame of a run, in its full form and in a small form that needs no memory.
+
 ghost use Rattle.std.specs.Prelude.{◌≡◌, ◌<◌, ◌≤◌, length, slice_get, slice_set, IfOk, MatchBool};
 ghost use Rattle.ss_program.specs.Program.{locals_of};
 ghost use Rattle.ss_state.specs.State.{new_frame};
@@ -10,9 +12,9 @@ use ss_program::Program;
 use std::alloc::{AllocError, Global};
 use std::marker::Model;
 
-/// A frame: the number of its section, the number of the place where it stands, the values of its
-/// locals in the order of the section's table, its open loops, the innermost first, the flag of
-/// FIND, and what COMPUTE has gathered.
+/// A frame: the number of its section, the number of its current place, the values of its locals in
+/// the order of the section's table, its open loops, the innermost first, the flag of FIND, and the
+/// values gathered by COMPUTE.
 #[derive(Drop)]
 pub struct Frame {
     pub section: usize,
@@ -63,7 +65,7 @@ pub struct SmallFrame {
 
 impl Frame {
     /// The frame of a section at its first place, with these values in its first locals. It takes
-    /// memory where the locals are many.
+    /// memory if the locals are many.
     #[inline(always)]
     pub fn new(
         alloc: Global,

@@ -1,4 +1,4 @@
-//! The frames of a state: where the last one stands, its loops, and those below it.
+//! The frames of a state: the place of the last one, its loops, and the frames below it.
 ghost use Rattle.std.specs.Prelude.{◌≡◌, ◌<◌, ◌≤◌, ◌∷◌, [], length, drop, OnOk, IfOk};
 ghost use Rattle.std.specs.Prelude.{OnErr, ◌++◌, MatchOption, MatchBool, slice_get};
 ghost use Rattle.ss_program.specs.Program.{locals_of};
@@ -22,7 +22,7 @@ use std::alloc::{AllocError, Global};
 use std::mem;
 
 impl<S: SetBoard> State<S> {
-    /// The innermost loop of the last frame, if it is that of the phrase where the frame stands.
+    /// The innermost loop of the last frame, if it is that of the phrase at the current place.
     pub fn loop_here(&self) -> Option<OpenLoop>
         ensures { result
             ≡ loop_of_phrase self.now.state.frame.place (innermost self.now.state.frame.loops) }
@@ -40,14 +40,14 @@ impl<S: SetBoard> State<S> {
         }
     }
 
-    /// What FIND answers.
+    /// The answer of FIND.
     pub fn found(&self) -> bool
         ensures { result ≡ self.now.state.frame.found }
     {
         self.last().found
     }
 
-    /// What COMPUTE has gathered.
+    /// The values gathered by COMPUTE.
     pub fn statistics(&self) -> Statistics
         ensures { result ≡ self.now.state.frame.statistics }
     {
@@ -61,7 +61,7 @@ impl<S: SetBoard> State<S> {
         append_all(self.last().locals.as_slice(), values)
     }
 
-    /// How many frames stand below the last one.
+    /// How many frames are below the last one.
     pub fn below(&self) -> usize
         ensures { result ≡ length self.now.state.below }
     {
@@ -81,7 +81,7 @@ impl<S: SetBoard> State<S> {
         Change::Place(old)
     }
 
-    /// Sets what FIND answers.
+    /// Sets the answer of FIND.
     #[inline(always)]
     pub fn set_found(&mut self, found: bool) -> Change
         ensures state { self.new.state ≡ state_with_found self.old.state found }
@@ -94,7 +94,7 @@ impl<S: SetBoard> State<S> {
         Change::Found(old)
     }
 
-    /// Sets what COMPUTE has gathered.
+    /// Sets the values gathered by COMPUTE.
     #[inline(always)]
     pub fn set_statistics(&mut self, statistics: Statistics) -> Change
         ensures state { self.new.state ≡ state_with_statistics self.old.state statistics }
@@ -146,7 +146,7 @@ impl<S: SetBoard> State<S> {
         Change::LoopMoved(old)
     }
 
-    /// Closes the innermost loop; none where none is open, and then nothing changes.
+    /// Closes the innermost loop; none if none is open, and then nothing changes.
     #[inline(always)]
     pub fn close_loop(&mut self) -> Option<Change>
         ensures state { self.new.state

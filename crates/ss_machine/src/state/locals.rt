@@ -6,7 +6,7 @@ ghost use Rattle.ss_machine.specs.declared.state.locals.TheConstants.{MOST_WITHI
 use std::alloc::{AllocError, Global};
 use std::marker::Model;
 
-/// So many locals lie within their frame; more have memory of their own.
+/// The greatest number of locals that are within their frame; more have memory of their own.
 pub const MOST_WITHIN: usize = 4;
 
 /// Values of few locals: the first `count` of these.
@@ -20,9 +20,9 @@ pub struct FewValues {
 #[derive(Drop)]
 pub struct Locals {
     count: usize,
-    // The first of these, where they are few.
+    // The first of these, if they are few.
     few: [i64; MOST_WITHIN],
-    // All of them, where they are more than lie within.
+    // All of them, if they are too many to be within the frame.
     many: Vec<i64>,
 }
 
@@ -38,7 +38,7 @@ impl Model for Locals {
 }
 
 impl Locals {
-    /// So many locals, the first with the values given, the others 0. Few take no memory.
+    /// The values of `count` locals, the first given, the others 0. Few take no memory.
     #[inline(always)]
     pub fn new(alloc: Global, given: &[i64], count: usize) -> Result<Self, AllocError>
         requires { length given.now ≤ count }
@@ -118,7 +118,7 @@ impl Locals {
     }
 }
 
-/// Memory with the values of so many locals, the first given, the others 0; none where they are few.
+/// Memory with the values of `count` locals, the first given, the others 0; none if they are few.
 #[inline(always)]
 fn many_values(alloc: Global, given: &[i64], count: usize) -> Result<Vec<i64>, AllocError>
     requires { length given.now ≤ count }

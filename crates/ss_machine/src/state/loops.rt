@@ -1,3 +1,5 @@
+//! The open loops of a frame, kept so that no memory is taken when a closed loop is opened again.
+
 ghost use Rattle.std.specs.Prelude.{◌≡◌, ◌∷◌, [], MatchBool, MatchOption, OnOk, OnErr, IfOk};
 ghost use Rattle.ss_state.specs.Loops.{innermost, loops_with_candidate};
 
@@ -5,7 +7,7 @@ use ss_program::Direction;
 use std::alloc::{AllocError, Global};
 use std::marker::Model;
 
-/// What an open loop goes through.
+/// The numbers or members that an open loop goes through.
 #[derive(Clone, Copy)]
 pub enum Walk {
     /// Numbers, each `step` further than the one before, up to the last.
@@ -23,7 +25,7 @@ pub enum Walk {
 }
 
 /// An open loop: the place of its FOR phrase, the candidate that comes next, if one is left, and
-/// what it goes through.
+/// the numbers or members that it goes through.
 #[derive(Clone, Copy)]
 pub struct OpenLoop {
     pub phrase: usize,

@@ -25,7 +25,7 @@ impl<S: SetBoard> State<S> {
         self.agenda.slot(notice).is_some()
     }
 
-    /// The notice that is due before all others, with its time and its class, or none where none is
+    /// The notice that is due before all others, with its time and its class, or none if none is
     /// pending.
     pub fn next_notice(&self) -> Option<(u32, Slot)>
         ensures { result
@@ -97,7 +97,7 @@ impl<S: SetBoard> State<S> {
         Change::Agenda(self.agenda.take(notice))
     }
 
-    /// The entry, which runs where it waited for the notice whose event starts.
+    /// The entry, which is running if it waited for the notice whose event starts.
     pub fn entry_at_start(&self, notice: u32) -> Entry
         ensures { result ≡ entry_at_start notice self.now.state.entry }
     {

@@ -1,3 +1,5 @@
+//! The statistics that a COMPUTE gathers case by case.
+
 ghost use Rattle.std.specs.Prelude.{◌≡◌, MatchBool};
 ghost use Rattle.ss_state.specs.Statements.Looping as steps;
 ghost use Rattle.ss_state.specs.State as states;
@@ -7,8 +9,8 @@ use ss_values::sum;
 use ss_words::RunFault;
 use std::marker::Model;
 
-/// What a COMPUTE has gathered: how many values, their sum, the greatest and the least; all 0 over
-/// no case.
+/// The values gathered by a COMPUTE: how many, their sum, the greatest and the least; all 0 over no
+/// case.
 #[derive(Clone, Copy)]
 pub struct Statistics {
     pub number: i64,

@@ -1,4 +1,4 @@
-//! The frames of a state, by how many others stand on them.
+//! The frames of a state, by how many others are above them.
 ghost use Rattle.std.specs.Prelude.{◌≡◌, ◌≤◌, ◌-◌, ◌<◌, length, reverse, slice_get};
 ghost use Rattle.std.specs.Option.{option_map};
 ghost use Rattle.ss_state.specs.Frames.{frame_at, frame_place, frame_local};
@@ -20,7 +20,7 @@ fn from_end(frames: &[Frame], place: usize) -> Option<&Frame>
 }
 
 impl<S: SetBoard> State<S> {
-    /// The frame on which so many others stand.
+    /// The frame with `depth` others above it.
     #[tactic(auto, using(ss_state::proofs::Frames::below_last))]
     fn frame_at(&self, depth: usize) -> Option<&Frame>
         ensures { option_map (λ f. f.now) result ≡ frame_at self.now.state depth }
@@ -31,7 +31,7 @@ impl<S: SetBoard> State<S> {
         from_end(&self.below, depth)
     }
 
-    /// The section of the frame on which so many others stand, and the place where it stands.
+    /// The section of the frame with `depth` others above it, and its current place.
     pub fn frame_place(&self, depth: usize) -> Option<(usize, usize)>
         ensures { result ≡ frame_place self.now.state depth }
     {
@@ -39,7 +39,7 @@ impl<S: SetBoard> State<S> {
         Some((frame.section, frame.place))
     }
 
-    /// The value of a local of the frame on which so many others stand.
+    /// The value of a local of the frame with `depth` others above it.
     pub fn frame_local(&self, depth: usize, number: usize) -> Option<i64>
         ensures { result ≡ frame_local self.now.state depth number }
     {

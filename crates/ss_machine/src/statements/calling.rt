@@ -93,7 +93,7 @@ impl<S: SetBoard> Executor<S> {
         Ok(())
     }
 
-    /// Behind a CALL, to which the values kept from number `first` on came back.
+    /// Goes on after a CALL, to which the values kept from number `first` on came back.
     fn behind_call(&mut self, first: usize, next: usize, place: &Place) -> Result<(), RunFault>
         requires sound { InHeld self.old.held IsSoundPlace place.now }
         requires parameters { first ≤ MOST_PARAMETERS }
@@ -134,7 +134,7 @@ impl<S: SetBoard> Executor<S> {
         self.behind_call(first, ways.next, &spot.place)
     }
 
-    /// RETURN or END of a routine, which is given so many values.
+    /// RETURN or END of a routine, which is given `given` values.
     fn run_return(&mut self, program: &Program, given: usize) -> Result<(), AllocError>
         requires well { IsInBounds program.now (state self.old) }
         requires tables { tables self.old ≡ tables_of program.now }
@@ -247,7 +247,7 @@ impl<S: SetBoard> Executor<S> {
     }
 }
 
-/// What a section is, and how many values it is given.
+/// The kind of a section, and how many values it is given.
 fn ending(section: &Section) -> (SectionKind, usize)
     ensures { result ≡ (section.now.kind, section.now.given) }
 {

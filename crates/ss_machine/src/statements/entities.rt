@@ -118,7 +118,7 @@ impl<S: SetBoard> Executor<S> {
     }
 }
 
-/// How many entities CREATE EVERY makes: as many as are written, else what `N.class` holds.
+/// How many entities CREATE EVERY makes: as many as are written, else the value of `N.class`.
 pub fn number_asked<S: SetBoard>(
     view: View<'_, S>,
     number: &Option<Expr>,

@@ -136,7 +136,7 @@ pub fn which_at(end: SetEnd) -> Which
     }
 }
 
-/// Where FILE puts a member, with the value that names another one.
+/// The place at which FILE puts a member, with the value that names another one.
 pub fn how_asked<S: SetBoard>(view: View<'_, S>, position: &Position) -> Result<How, RunFault>
     requires { InView view IsSoundPosition position.now }
     ensures { result ≡ steps.how_asked (view_readings view.entry) position.now }

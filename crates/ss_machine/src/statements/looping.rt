@@ -126,8 +126,8 @@ impl<S: SetBoard> Executor<S> {
         Ok(())
     }
 
-    /// Moves the innermost loop past its candidate, which goes to its variable, and says what the
-    /// qualifiers say then.
+    /// Moves the innermost loop past its candidate, which goes to its variable, and gives the
+    /// verdict of the qualifiers then.
     fn try_candidate(
         &mut self,
         phrase: &ForPhrase,
@@ -152,7 +152,7 @@ impl<S: SetBoard> Executor<S> {
     }
 
     /// A turn of the innermost loop. The candidate is in its variable when the qualifiers are
-    /// tested, so that a fault of theirs takes back what the step has done.
+    /// tested, so that a fault of theirs takes back the changes of the step.
     fn turn(&mut self, ways: Ways, phrase: &ForPhrase, open_loop: OpenLoop)
         requires sound { InHeld self.old.held IsSoundPhrase phrase.now.phrase }
         requires qualifiers { InHeld self.old.held AreSoundQualifiers phrase.now.qualifiers }

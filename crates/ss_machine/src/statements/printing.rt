@@ -46,7 +46,7 @@ impl<S: SetBoard> Executor<S> {
         }
     }
 
-    /// Appends so many line feeds and goes on, or marks the fault.
+    /// Appends `count` line feeds and goes on, or marks the fault.
     fn skip(&mut self, next: usize, count: Result<usize, RunFault>) -> Result<(), AllocError>
         requires room { 1 < self.old.journal.notes }
         ensures state { OnOk result
@@ -93,7 +93,7 @@ impl<S: SetBoard> Executor<S> {
     }
 }
 
-/// How many lines a SKIP appends, or the first fault: F13 where they are below 0 or too many.
+/// How many lines a SKIP appends, or the first fault: F13 if they are below 0 or too many.
 pub fn line_count<S: SetBoard>(view: View<'_, S>, count: &Expr) -> Result<usize, RunFault>
     requires { InView view IsSoundExpr count.now }
     ensures { result ≡ steps.lines_asked (view_readings view.entry) count.now }

@@ -117,7 +117,7 @@ impl<S: SetBoard> Executor<S> {
         Ok(())
     }
 
-    /// The notice that SCHEDULE says, named by a value where it says THE.
+    /// Schedules the notice of a SCHEDULE. After THE a value names the notice.
     fn schedule_said(
         &mut self,
         program: &Program,
@@ -146,7 +146,8 @@ impl<S: SetBoard> Executor<S> {
         }
     }
 
-    /// SCHEDULE: gets what names the notice and the arguments, then the time, and does it.
+    /// SCHEDULE: gets the value that names the notice, and the arguments, then the time. Then it
+    /// schedules the notice.
     fn schedule(&mut self, program: &Program, schedule: &Schedule) -> Result<(), StepFault>
         requires event { IsEventClass program.now schedule.now.class
             (length schedule.now.arguments) }
@@ -214,7 +215,7 @@ impl<S: SetBoard> Executor<S> {
     }
 }
 
-/// What names the notice of `SCHEDULE THE`; 0 for `SCHEDULE A`, which names none.
+/// The value that names the notice of `SCHEDULE THE`; 0 for `SCHEDULE A`, which names none.
 fn notice_named<S: SetBoard>(view: View<'_, S>, notice: &Notice) -> Result<i64, RunFault>
     requires { InView view IsSoundNotice notice.now }
     ensures { result ≡ steps.notice_named (view_readings view.entry) notice.now }
@@ -225,8 +226,8 @@ fn notice_named<S: SetBoard>(view: View<'_, S>, notice: &Notice) -> Result<i64, 
     }
 }
 
-/// What names the notice of a SCHEDULE. Its arguments are put in place of what was in `arguments`;
-/// both are got in the order in which they are written.
+/// The value that names the notice of a SCHEDULE. Its arguments replace the old contents of
+/// `arguments`. The name and the arguments are got in the order in which they are written.
 pub fn arguments_asked<S: SetBoard>(
     view: View<'_, S>,
     schedule: &Schedule,
@@ -253,8 +254,8 @@ pub fn arguments_asked<S: SetBoard>(
     }
 }
 
-/// When a notice is to be due, or the first fault: F1 where the sum of the clock and the days is
-/// out of range.
+/// The time at which a notice is to be due, or the first fault: F1 if the sum of the clock and the
+/// days is out of range.
 pub fn time_asked<S: SetBoard>(view: View<'_, S>, when: &When) -> Result<i64, RunFault>
     requires { InView view IsSoundWhen when.now }
     ensures { result ≡ steps.time_asked (view_readings view.entry) when.now }
@@ -269,7 +270,7 @@ pub fn time_asked<S: SetBoard>(view: View<'_, S>, when: &When) -> Result<i64, Ru
     }
 }
 
-/// What an event class has besides its name and its attributes.
+/// The parts of an event class in addition to its name and its attributes.
 pub fn event_class(program: &Program, class: usize) -> &EventClass
     requires { IsEventClass program.now class 0 }
     ensures { result.now ≡ event_of program.now class }

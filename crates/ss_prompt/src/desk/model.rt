@@ -1,4 +1,4 @@
-//! What is told of the model, and break lines at its sections.
+//! The commands on the text of the model, and break lines at its sections.
 ghost use Rattle.std.specs.Prelude.{◌≡◌, ◌++◌, OnOk, OnErr};
 ghost use Rattle.ss_debug.specs.Turn.{answer as plain_answer, debugger_state_after};
 ghost use Rattle.ss_debug.specs.View.{debugger_state_of};

@@ -1,4 +1,4 @@
-//! What the history tells of a fault where a movement stops.
+//! The text of the history on a fault at which a movement stops.
 ghost use Rattle.std.specs.Prelude.{◌≡◌, ◌⊎◌, ◌++◌, IfOk, OnErr, OnOk, is_some};
 ghost use Rattle.ss_machine.specs.Moment.{position};
 ghost use Rattle.ss_state.specs.Run.{run};
@@ -41,7 +41,7 @@ fn push_no_life(text: &mut Vec<u8>, earliest: u64) -> Result<(), AllocError>
     push_phrase(text, b" has not lived since STATE ", earliest, b".\n")
 }
 
-/// Appends the same; where all steps are kept, that it never was.
+/// Appends that an entity was in no state that is kept; if all steps are kept, that it never was.
 #[tactic(auto, unfolding(crate::specs::Past::no_end_text))]
 fn push_no_end(text: &mut Vec<u8>, earliest: u64) -> Result<(), AllocError>
     ensures { OnOk result (text.new.items ≡ text.old.items ++ spec.no_end_text earliest) }
@@ -63,7 +63,7 @@ fn push_no_list_change(text: &mut Vec<u8>, earliest: u64) -> Result<(), AllocErr
 }
 
 impl<'a> PromptDesk<'a> {
-    /// Looks for the last step at which a question changed. Appends its state line, and tells
+    /// Looks for the last step at which a question changed. Appends its state line, and says
     /// whether there is one.
     #[tactic(auto, using(crate::proofs::Searches::found), unfolding(crate::specs::Histories::HasLookedBack))]
     fn search<S: SetBoard>(
@@ -89,7 +89,7 @@ impl<'a> PromptDesk<'a> {
         Ok(line.is_some())
     }
 
-    /// Appends where an entity that is missing ended.
+    /// Appends the state in which a missing entity ended.
     #[tactic(auto, using(crate::proofs::Searches::ends), unfolding(crate::specs::Histories::HasLookedBack))]
     fn push_end<S: SetBoard>(
         &self,
@@ -148,7 +148,7 @@ impl<'a> PromptDesk<'a> {
         push_no_list_change(text, first)
     }
 
-    /// Appends what the history tells of a question that is asked with these words.
+    /// Appends the text of the history on a question that is asked with these words.
     fn push_change<S: SetBoard>(
         &self,
         debugger: &mut Debugger<S>,
@@ -176,8 +176,8 @@ impl<'a> PromptDesk<'a> {
         }
     }
 
-    /// Appends what the history tells of the state's fault: where the entity that is missing ended,
-    /// or when the list that a loop names changed last.
+    /// Appends the text of the history on the state's fault: the state in which the missing entity
+    /// ended, or in which the list that a loop names changed last.
     #[tactic(auto, unfolding(crate::specs::Past::HasSearchedPast))]
     pub(crate) fn push_past<S: SetBoard>(
         &self,

@@ -1,3 +1,5 @@
+//! Reading the statements that assign, CREATE or DESTROY.
+
 ghost use Rattle.std.specs.Prelude.{IfSome, IfOk, List, length, ◌≡◌, ◌≤◌, ◌<◌, Ok};
 ghost use Rattle.ss_words.specs.Reading.{Gives, option_view};
 ghost use Rattle.ss_words.specs.declared.mark.Mark.TheVariants as mark;
@@ -102,7 +104,7 @@ pub fn moved(cursor: &mut Cursor<'_>, mark: Mark, room: u32) -> Result<(Expr, Re
     }
 }
 
-/// CREATE EVERY, CREATE or DESTROY, if one stands here.
+/// CREATE EVERY, CREATE or DESTROY, if one is here.
 #[tactic(auto, unfolding(crate::proofs::Unfoldings::makings))]
 pub fn making(cursor: &mut Cursor<'_>, room: u32) -> Result<Option<Making>, Refusal>
     ensures exact { Gives (option_view making_view) result cursor.new
@@ -126,7 +128,7 @@ pub fn making(cursor: &mut Cursor<'_>, room: u32) -> Result<Option<Making>, Refu
     Ok(None)
 }
 
-/// The name that stands here, if one does.
+/// The name that is here, if there is one.
 #[tactic(auto, unfolding(crate::proofs::Unfoldings::steps_by_table, ss_words::specs::Marks::a_name))]
 fn bare_name(cursor: &mut Cursor<'_>) -> Result<Option<Name>, Refusal>
     ensures exact { Gives (option_view (λ n. n)) result cursor.new
@@ -140,7 +142,7 @@ fn bare_name(cursor: &mut Cursor<'_>) -> Result<Option<Name>, Refusal>
     }
 }
 
-/// `name ["(" expression ")"] "=" expression`, if a name stands here.
+/// `name ["(" expression ")"] "=" expression`, if a name is here.
 #[tactic(auto, unfolding(crate::proofs::Unfoldings::in_turn, crate::specs::Combined::if_word))]
 fn bare_equation(cursor: &mut Cursor<'_>, room: u32) -> Result<Option<(Reference, Expr)>, Refusal>
     ensures exact { Gives (option_view
@@ -163,7 +165,7 @@ fn bare_equation(cursor: &mut Cursor<'_>, room: u32) -> Result<Option<(Reference
     Ok(Some((Reference { name, subscript }, value)))
 }
 
-/// LET, ADD, SUBTRACT or an assignment without LET, if one stands here.
+/// LET, ADD, SUBTRACT or an assignment without LET, if one is here.
 #[tactic(auto, unfolding(crate::proofs::Unfoldings::choices, crate::specs::SimpleReading::assign_at))]
 pub fn assignment(cursor: &mut Cursor<'_>, room: u32) -> Result<Option<Assign>, Refusal>
     ensures exact { Gives (option_view assign_view) result cursor.new

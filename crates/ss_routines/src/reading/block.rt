@@ -22,7 +22,7 @@ pub struct Room {
     pub phrases: u32,
 }
 
-/// Whether a mark stands here, which is then passed; refused where no more of them may be open.
+/// Whether a mark is here, which is then passed; refused if no more of them may be open.
 fn allowed(cursor: &mut Cursor<'_>, room: u32, mark: Mark) -> Result<bool, Refusal>
     ensures exact { Gives (λ b. b) result cursor.new (combined.eat_allowed room mark cursor.old) }
     ensures shorter { length cursor.new ≤ length cursor.old }
@@ -131,7 +131,7 @@ fn branch(
     Ok(true)
 }
 
-/// `question {statement} [ELSE {statement}] ALWAYS`, behind an IF in this line.
+/// `question {statement} [ELSE {statement}] ALWAYS`, after an IF in this line.
 #[cycle(statements)]
 fn behind_if(
     cursor: &mut Cursor<'_>,
@@ -204,7 +204,7 @@ fn for_loop(
     Ok(true)
 }
 
-/// What stands behind a phrase, whose FOR stands in this line.
+/// The part after a phrase, whose FOR is in this line.
 #[cycle(statements)]
 #[tactic(auto, unfolding(crate::proofs::Unfoldings::steps, crate::specs::PlacesAtLines::noting_controlled))]
 fn controlled(
@@ -235,7 +235,7 @@ fn controlled(
     last(cursor, text, room, out)
 }
 
-/// `{statement} LOOP`, behind DO.
+/// `{statement} LOOP`, after DO.
 #[cycle(statements)]
 fn repeated(
     cursor: &mut Cursor<'_>,

@@ -16,7 +16,7 @@ use crate::tree::expr::Expr;
 use crate::tree::place::Computed;
 use ss_words::{Cursor, Mark, Plain, Refusal, Reserved, Several, Sign, Statistic};
 
-/// The targets and the expression of a COMPUTE, behind COMPUTE.
+/// The targets and the expression of a COMPUTE, after COMPUTE.
 #[tactic(auto, unfolding(crate::proofs::Unfoldings::in_turn, crate::specs::LoopReading::compute_at))]
 pub fn compute(cursor: &mut Cursor<'_>, room: u32) -> Result<(Several<Computed>, Expr), Refusal>
     ensures exact { Gives compute_view result cursor.new (reading.compute_at room cursor.old) }
@@ -86,7 +86,7 @@ fn computed(cursor: &mut Cursor<'_>, room: u32) -> Result<Computed, Refusal>
     Ok(Computed { target, statistic })
 }
 
-/// The statistic that stands here, if one does.
+/// The statistic that is here, if there is one.
 #[tactic(auto, unfolding(crate::proofs::Unfoldings::steps_by_table))]
 fn statistic(cursor: &mut Cursor<'_>) -> Option<Statistic>
     ensures exact { by_table reading.statistic_of cursor.old ≡ (Ok result, cursor.new) }

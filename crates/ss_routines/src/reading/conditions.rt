@@ -1,5 +1,5 @@
-//! Reading conditions: where a parenthesis opens, it may hold a condition or begin an expression,
-//! which is told where it closes.
+//! Reading conditions: a parenthesis that opens may hold a condition or begin an expression. Its
+//! closing one shows which.
 
 ghost use Rattle.std.specs.Prelude.{IfSome, IfOk, length, ◌≡◌, ◌≤◌, ◌<◌, Ok, None};
 ghost use Rattle.ss_words.specs.declared.mark.Mark.TheVariants as m;
@@ -20,7 +20,7 @@ use crate::tree::condition::{Condition, Conjunction, Reference, Relation};
 use crate::tree::expr::{Application, Expr, Factor, Term};
 use ss_words::{Comparison, Copula, Cursor, Mark, Plain, Refusal, Reserved, Sign};
 
-/// What stands where an expression may stand alone or begin something else.
+/// The part at a place at which an expression may be by itself or begin another part.
 #[derive(Drop)]
 enum OrValue<T> {
     /// An expression that nothing of the other kind follows.
@@ -28,7 +28,7 @@ enum OrValue<T> {
     Other(T),
 }
 
-/// Reads a condition in which at most so many parentheses may be open at once.
+/// Reads a condition in which at most `room` parentheses may be open at once.
 #[tactic(auto, unfolding(crate::proofs::Unfoldings::steps, crate::specs::ConditionReading::condition_at))]
 pub fn condition(cursor: &mut Cursor<'_>, room: u32) -> Result<Condition, Refusal>
     ensures exact { Gives condition_view result cursor.new (reading.condition_at room cursor.old) }
@@ -40,7 +40,7 @@ pub fn condition(cursor: &mut Cursor<'_>, room: u32) -> Result<Condition, Refusa
     }
 }
 
-/// An expression or a condition in which at most so many parentheses may be open at once.
+/// An expression or a condition in which at most `room` parentheses may be open at once.
 fn value_or_condition(cursor: &mut Cursor<'_>, room: u32) -> Result<OrValue<Condition>, Refusal>
     ensures exact { Gives (or_value_view condition_view) result cursor.new
         (reading.either_at room cursor.old) }
@@ -49,7 +49,7 @@ fn value_or_condition(cursor: &mut Cursor<'_>, room: u32) -> Result<OrValue<Cond
     either(cursor, room)
 }
 
-/// The comparison that stands here, if one does.
+/// The comparison that is here, if there is one.
 #[tactic(auto, unfolding(crate::proofs::Unfoldings::steps_by_table))]
 fn comparison(cursor: &mut Cursor<'_>) -> Option<Comparison>
     ensures exact { by_table reading.comparison_of cursor.old ≡ (Ok result, cursor.new) }
@@ -69,7 +69,7 @@ fn comparison(cursor: &mut Cursor<'_>) -> Option<Comparison>
     Some(comparison)
 }
 
-/// `[NOT]`, behind IS.
+/// `[NOT]`, after IS.
 #[tactic(auto, unfolding(crate::proofs::Unfoldings::steps, crate::specs::ConditionReading::copula))]
 fn copula(cursor: &mut Cursor<'_>) -> Copula
     ensures exact { reading.copula cursor.old ≡ (Ok result, cursor.new) }
@@ -82,7 +82,7 @@ fn copula(cursor: &mut Cursor<'_>) -> Copula
     }
 }
 
-/// The expression that one in parentheses begins, behind it.
+/// The expression that an expression in parentheses begins, after that one.
 #[tactic(auto, unfolding(crate::proofs::Unfoldings::steps))]
 fn behind_inner(cursor: &mut Cursor<'_>, inner: Expr, room: u32) -> Result<Expr, Refusal>
     ensures exact { Gives expr_view result cursor.new (bind (rest_with room) (λ z. pure
@@ -167,7 +167,7 @@ fn application_as_reference(application: Application) -> Option<Reference>
     }
 }
 
-/// Behind a value and `IS [NOT]`: `IN reference`, or EMPTY where the value is a reference.
+/// After a value and `IS [NOT]`: `IN reference`, or EMPTY if the value is a reference.
 #[tactic(auto, unfolding(crate::proofs::Unfoldings::steps, crate::specs::ConditionReading::set_with))]
 fn of_set(
     cursor: &mut Cursor<'_>,
@@ -204,7 +204,7 @@ fn of_set(
     }
 }
 
-/// Behind a value: a comparison and a value, IS, or nothing of a relation.
+/// After a value: a comparison and a value, IS, or nothing of a relation.
 #[tactic(auto, unfolding(crate::proofs::Unfoldings::steps, crate::specs::ConditionReading::behind_value))]
 fn behind_value(
     cursor: &mut Cursor<'_>,

@@ -17,7 +17,7 @@ use crate::tree::expr::Expr;
 use crate::tree::simple::Exchange;
 use ss_words::{Cursor, Mark, Refusal, Reserved};
 
-/// `count LINES [WITH values] THUS` and the lines of the picture, behind PRINT.
+/// `count LINES [WITH values] THUS` and the lines of the picture, after PRINT.
 #[tactic(auto, unfolding(crate::proofs::Unfoldings::in_turn, crate::specs::SimpleReading::print_at))]
 fn print(cursor: &mut Cursor<'_>, room: u32) -> Result<(u64, Vec<Expr>, Vec<Vec<u8>>), Refusal>
     ensures exact { Gives
@@ -54,7 +54,7 @@ fn printed_values(cursor: &mut Cursor<'_>, room: u32) -> Result<Vec<Expr>, Refus
     }
 }
 
-/// READ, PRINT or SKIP, if one stands here.
+/// READ, PRINT or SKIP, if one is here.
 #[tactic(auto, unfolding(crate::proofs::Unfoldings::choices, crate::specs::SimpleReading::exchange_at))]
 pub fn exchange(cursor: &mut Cursor<'_>, room: u32) -> Result<Option<Exchange>, Refusal>
     ensures exact { Gives (option_view exchange_view) result cursor.new

@@ -1,3 +1,5 @@
+//! Reading expressions from left to right, with a limit on their open parentheses.
+
 ghost use Rattle.std.specs.Prelude.{IfSome, IfOk, IsTrue, List, [], length, map, ◌≡◌, ◌≤◌, ◌<◌, ◌∷◌, Ok};
 ghost use Rattle.ss_words.specs.Reading.{Gives, option_view};
 ghost use Rattle.ss_routines.specs.Combined.{by_table, eat_open, if_open, star, several};
@@ -8,7 +10,7 @@ ghost use Rattle.ss_routines.specs.View.{expr_view, term_view, factor_view, adde
 use crate::tree::expr::{Added, Application, Expr, Factor, Term};
 use ss_words::{Cursor, Mark, Plain, Refusal, Several, Sign, TermSign};
 
-/// Reads an expression in which at most so many parentheses may be open at once.
+/// Reads an expression in which at most `room` parentheses may be open at once.
 pub fn expression(cursor: &mut Cursor<'_>, room: u32) -> Result<Expr, Refusal>
     ensures exact { Gives expr_view result cursor.new (reading.expr_at room cursor.old) }
     ensures shorter { length cursor.new ≤ length cursor.old }
@@ -24,7 +26,7 @@ pub fn inner_expression(cursor: &mut Cursor<'_>, room: u32) -> Result<Expr, Refu
     inner(cursor, room)
 }
 
-/// The sign that stands here, if one does.
+/// The sign that is here, if there is one.
 #[tactic(auto, unfolding(crate::proofs::Unfoldings::steps_by_table))]
 fn lead(cursor: &mut Cursor<'_>) -> Option<TermSign>
     ensures exact { by_table reading.sign_of cursor.old ≡ (Ok result, cursor.new) }
@@ -44,7 +46,7 @@ fn lead(cursor: &mut Cursor<'_>) -> Option<TermSign>
     }
 }
 
-/// The number that stands here, if one does.
+/// The number that is here, if there is one.
 #[tactic(auto, unfolding(crate::proofs::Unfoldings::steps_by_table))]
 fn number(cursor: &mut Cursor<'_>) -> Option<u64>
     ensures exact { by_table reading.number_of cursor.old ≡ (Ok result, cursor.new) }
@@ -60,7 +62,7 @@ fn number(cursor: &mut Cursor<'_>) -> Option<u64>
     }
 }
 
-/// Whether a parenthesis opens here, which is then passed; refused where none more may be open.
+/// Whether a parenthesis opens here, which is then passed; refused if no more may be open.
 pub fn open(cursor: &mut Cursor<'_>, room: u32) -> Result<bool, Refusal>
     ensures exact { Gives (λ b. b) result cursor.new (eat_open room cursor.old) }
     ensures shorter { length cursor.new ≤ length cursor.old }
@@ -75,7 +77,7 @@ pub fn open(cursor: &mut Cursor<'_>, room: u32) -> Result<bool, Refusal>
     Ok(false)
 }
 
-/// What stands behind a first factor: `{"*" factor} {("+" | "-") term}`
+/// The part after a first factor: `{"*" factor} {("+" | "-") term}`
 #[tactic(auto, unfolding(crate::proofs::Unfoldings::in_turn, crate::specs::ExprReading::rest_with))]
 pub fn rest(cursor: &mut Cursor<'_>, room: u32) -> Result<(Vec<Factor>, Vec<Added>), Refusal>
     ensures exact { Gives rest_view result cursor.new (reading.rest_with room cursor.old) }

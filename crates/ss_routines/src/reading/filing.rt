@@ -15,7 +15,7 @@ use crate::tree::condition::Reference;
 use crate::tree::simple::{FilePlace, Filing};
 use ss_words::{Cursor, Mark, Plain, Refusal, Reserved, SetEnd};
 
-/// FIRST or LAST, if one stands here.
+/// FIRST or LAST, if one is here.
 #[tactic(auto, unfolding(crate::proofs::Unfoldings::steps_by_table))]
 fn set_end(cursor: &mut Cursor<'_>) -> Option<SetEnd>
     ensures exact { by_table reading.end_of cursor.old ≡ (Ok result, cursor.new) }
@@ -54,7 +54,7 @@ fn file_place(cursor: &mut Cursor<'_>, room: u32) -> Result<FilePlace, Refusal>
     Ok(FilePlace::ByDiscipline)
 }
 
-/// `place IN reference`, behind the member of a FILE
+/// `place IN reference`, after the member of a FILE
 #[tactic(auto, unfolding(crate::proofs::Unfoldings::in_turn))]
 fn place_in_set(cursor: &mut Cursor<'_>, room: u32) -> Result<(FilePlace, Reference), Refusal>
     ensures exact { Gives (λ x. (file_place_view x.0, reference_view x.1)) result cursor.new
@@ -76,7 +76,7 @@ fn place_in_set(cursor: &mut Cursor<'_>, room: u32) -> Result<(FilePlace, Refere
     }
 }
 
-/// What FILE files, behind FILE.
+/// The parts of a FILE, after FILE: a member, its place and a set.
 #[tactic(auto, unfolding(crate::proofs::Unfoldings::choices, crate::specs::SimpleReading::file_at))]
 fn filed(cursor: &mut Cursor<'_>, room: u32) -> Result<Filing, Refusal>
     ensures exact { Gives filing_view result cursor.new
@@ -97,7 +97,7 @@ fn filed(cursor: &mut Cursor<'_>, room: u32) -> Result<Filing, Refusal>
     }
 }
 
-/// `reference FROM reference`, behind `REMOVE FIRST` or `REMOVE LAST`
+/// `reference FROM reference`, after `REMOVE FIRST` or `REMOVE LAST`
 #[tactic(auto, unfolding(crate::proofs::Unfoldings::in_turn))]
 fn target_from_set(cursor: &mut Cursor<'_>, room: u32) -> Result<(Reference, Reference), Refusal>
     ensures exact { Gives (λ x. (reference_view x.0, reference_view x.1)) result cursor.new
@@ -119,7 +119,7 @@ fn target_from_set(cursor: &mut Cursor<'_>, room: u32) -> Result<(Reference, Ref
     }
 }
 
-/// What REMOVE takes off, behind REMOVE.
+/// The parts of a REMOVE, after REMOVE: an end, a target and a set, or a member and a set.
 #[tactic(auto, unfolding(crate::proofs::Unfoldings::choices, crate::specs::SimpleReading::remove_at))]
 fn removed(cursor: &mut Cursor<'_>, room: u32) -> Result<Filing, Refusal>
     ensures exact { Gives filing_view result cursor.new
@@ -134,7 +134,7 @@ fn removed(cursor: &mut Cursor<'_>, room: u32) -> Result<Filing, Refusal>
     Ok(Filing::Remove { member, set })
 }
 
-/// FILE or REMOVE, if one stands here.
+/// FILE or REMOVE, if one is here.
 #[tactic(auto, unfolding(crate::proofs::Unfoldings::choices, crate::specs::SimpleReading::filing_at))]
 pub fn filing(cursor: &mut Cursor<'_>, room: u32) -> Result<Option<Filing>, Refusal>
     ensures exact { Gives (option_view filing_view) result cursor.new

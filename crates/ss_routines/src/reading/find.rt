@@ -8,7 +8,7 @@ ghost use Rattle.ss_routines.specs.Combined.{behind};
 
 use ss_words::{Cursor, Mark, Refusal, Reserved};
 
-/// `FIRST CASE`, behind FIND.
+/// `FIRST CASE`, after FIND.
 #[tactic(auto, unfolding(crate::proofs::Unfoldings::steps, crate::specs::Combined::behind))]
 pub fn first_case(cursor: &mut Cursor<'_>) -> Result<(), Refusal>
     ensures exact { Gives (λ u. tt) result cursor.new

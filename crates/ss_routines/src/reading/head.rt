@@ -16,7 +16,7 @@ use crate::tree::section::{LocalNames, SectionKind};
 use ss_words::limits::MOST_PARAMETERS;
 use ss_words::{Cursor, Mark, Name, Plain, PlainWord, Refusal, Reserved, Several};
 
-/// What a section is, and its name in upper case; that of the main section is `MAIN`.
+/// The kind of a section, and its name in upper case; that of the main section is `MAIN`.
 #[derive(Drop)]
 pub struct SectionHead {
     pub kind: SectionKind,
@@ -64,7 +64,7 @@ pub fn head(cursor: &mut Cursor<'_>) -> Result<SectionHead, Refusal>
     }
 }
 
-/// `name [GIVEN names | "(" names ")"] [YIELDING names]`, behind ROUTINE.
+/// `name [GIVEN names | "(" names ")"] [YIELDING names]`, after ROUTINE.
 #[tactic(auto, unfolding(crate::proofs::Unfoldings::steps, crate::specs::SectionReading::routine_at))]
 fn routine(cursor: &mut Cursor<'_>) -> Result<SectionHead, Refusal>
     ensures exact { Gives (λ h. head_view h.name h.kind) result cursor.new
@@ -78,7 +78,7 @@ fn routine(cursor: &mut Cursor<'_>) -> Result<SectionHead, Refusal>
     Ok(SectionHead { kind, name })
 }
 
-/// `name [GIVEN names | "(" names ")"] [SAVING EVENT NOTICES]`, behind EVENT.
+/// `name [GIVEN names | "(" names ")"] [SAVING EVENT NOTICES]`, after EVENT.
 #[tactic(auto, unfolding(crate::proofs::Unfoldings::steps, crate::specs::SectionReading::event_at))]
 fn event(cursor: &mut Cursor<'_>) -> Result<SectionHead, Refusal>
     ensures exact { Gives (λ h. head_view h.name h.kind) result cursor.new
@@ -106,7 +106,7 @@ fn saving(cursor: &mut Cursor<'_>) -> Result<bool, Refusal>
     Ok(true)
 }
 
-/// `names AS INTEGER VARIABLES`, behind DEFINE.
+/// `names AS INTEGER VARIABLES`, after DEFINE.
 #[tactic(auto, unfolding(crate::proofs::Unfoldings::local_names))]
 fn define(cursor: &mut Cursor<'_>) -> Result<Several<Name>, Refusal>
     ensures exact { Gives (several_view (λ n. n)) result cursor.new (reading.a_define cursor.old) }
@@ -119,7 +119,7 @@ fn define(cursor: &mut Cursor<'_>) -> Result<Several<Name>, Refusal>
     Ok(names)
 }
 
-/// Pushes the names of a local DEFINE and its line, if one stands here.
+/// Pushes the names of a local DEFINE and its line, if one is here.
 #[tactic(auto, using(crate::proofs::PushedPlaces::pushed_local), unfolding(crate::proofs::Unfoldings::notes))]
 fn next_local(
     cursor: &mut Cursor<'_>,
@@ -140,7 +140,7 @@ fn next_local(
     Ok(true)
 }
 
-/// `{DEFINE names AS INTEGER VARIABLES}`: pushes the local DEFINEs, as long as one stands here.
+/// `{DEFINE names AS INTEGER VARIABLES}`: pushes the local DEFINEs, as long as one is here.
 pub fn local_list(
     cursor: &mut Cursor<'_>,
     text: &[PlainWord<'_>],

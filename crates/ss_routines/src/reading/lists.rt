@@ -107,7 +107,7 @@ fn next_reference(cursor: &mut Cursor<'_>, room: u32) -> Result<Option<Reference
     Ok(Some(reference(cursor, room)?))
 }
 
-/// The items of a list of one or more; `Memory` where the memory for them was refused.
+/// The items of a list of one or more; `Memory` if the memory for them was refused.
 pub fn listed<T: Drop>(list: Several<T>) -> Result<Vec<T>, Refusal>
     ensures items { IfOk result (λ v. v.items ≡ list.first ∷ list.others.items) }
     ensures memory { IfErr result (λ e. e ≡ Memory) }
@@ -117,7 +117,7 @@ pub fn listed<T: Drop>(list: Several<T>) -> Result<Vec<T>, Refusal>
     Ok(others)
 }
 
-/// `[mark expression {"," expression}]`; no values where the mark does not stand here.
+/// `[mark expression {"," expression}]`; no values if the mark is not here.
 #[tactic(auto, unfolding(crate::proofs::Unfoldings::choices, crate::specs::SimpleReading::list_behind))]
 pub fn expressions_behind(
     cursor: &mut Cursor<'_>,
@@ -134,7 +134,7 @@ pub fn expressions_behind(
     listed(expressions(cursor, room)?)
 }
 
-/// `[mark reference {"," reference}]`; no targets where the mark does not stand here.
+/// `[mark reference {"," reference}]`; no targets if the mark is not here.
 #[tactic(auto, unfolding(crate::proofs::Unfoldings::choices, crate::specs::SimpleReading::list_behind))]
 pub fn references_behind(
     cursor: &mut Cursor<'_>,

@@ -1,4 +1,4 @@
-//! Reading lists of names of which there may be at most so many.
+//! Reading lists of names with a limit on their number.
 
 ghost use Rattle.std.specs.Prelude.{length, map, ◌≡◌, ◌≤◌};
 ghost use Rattle.ss_words.specs.Lists.{several_view};
@@ -12,7 +12,7 @@ use crate::reading::lists::listed;
 use crate::tree::simple::Listing;
 use ss_words::{Cursor, Mark, Name, Plain, Refusal, Reserved, Several, Sign};
 
-/// How the next word is refused where no more names may stand: `PastLimit` a name, `Unexpected`
+/// How the next word is refused if no more names may follow: `PastLimit` a name, `Unexpected`
 /// anything else.
 fn no_more_names(cursor: &Cursor<'_>) -> Refusal
     ensures { result ≡ reading.refusal_of (first cursor.now) }
@@ -23,7 +23,7 @@ fn no_more_names(cursor: &Cursor<'_>) -> Refusal
     }
 }
 
-/// `{"," name}`, at most so many.
+/// `{"," name}`, at most `room` names.
 fn other_names(cursor: &mut Cursor<'_>, room: usize) -> Result<Vec<Name>, Refusal>
     ensures exact { Gives (λ v. v.items) result cursor.new (reading.others_at room cursor.old) }
     ensures shorter { length cursor.new ≤ length cursor.old }
@@ -38,7 +38,7 @@ fn other_names(cursor: &mut Cursor<'_>, room: usize) -> Result<Vec<Name>, Refusa
     Ok(names)
 }
 
-/// `name {"," name}`, at most so many.
+/// `name {"," name}`, at most `room` names.
 fn names(cursor: &mut Cursor<'_>, room: usize) -> Result<Several<Name>, Refusal>
     ensures exact { Gives (several_view (λ n. n)) result cursor.new
         (reading.names_at room cursor.old) }
@@ -52,7 +52,7 @@ fn names(cursor: &mut Cursor<'_>, room: usize) -> Result<Several<Name>, Refusal>
     Ok(Several { first, others })
 }
 
-/// `[GIVEN names | "(" names ")"]`, at most so many names.
+/// `[GIVEN names | "(" names ")"]`, at most `room` names.
 #[tactic(auto, unfolding(crate::proofs::Unfoldings::steps, crate::specs::SectionReading::given_at))]
 pub fn given(cursor: &mut Cursor<'_>, room: usize) -> Result<Listing<Name>, Refusal>
     ensures exact { Gives (listing_view (λ n. n)) result cursor.new
@@ -70,7 +70,7 @@ pub fn given(cursor: &mut Cursor<'_>, room: usize) -> Result<Listing<Name>, Refu
     Ok(Listing::InParentheses(names))
 }
 
-/// `[YIELDING names]`, at most so many names; none where YIELDING does not stand here.
+/// `[YIELDING names]`, at most `room` names; none if YIELDING is not here.
 #[tactic(auto, unfolding(crate::proofs::Unfoldings::steps, crate::specs::SectionReading::yielded_at))]
 pub fn yielded(cursor: &mut Cursor<'_>, room: usize) -> Result<Vec<Name>, Refusal>
     ensures exact { Gives (λ v. v.items) result cursor.new (reading.yielded_at room cursor.old) }

@@ -87,7 +87,7 @@ pub fn end(
     note(out, line, Place::End)
 }
 
-/// `FIRST CASE`, behind a FIND in this line.
+/// `FIRST CASE`, after a FIND in this line.
 #[tactic(auto, unfolding(crate::proofs::Unfoldings::steps))]
 pub fn find(cursor: &mut Cursor<'_>, line: usize, out: &mut Vec<Spot>) -> Result<(), Refusal>
     ensures exact { Gives (λ u. spots out.new.items) result cursor.new
@@ -99,7 +99,7 @@ pub fn find(cursor: &mut Cursor<'_>, line: usize, out: &mut Vec<Spot>) -> Result
     note(out, line, Place::Loop(Loop::Find))
 }
 
-/// The targets and the expression of a COMPUTE, behind a COMPUTE in this line.
+/// The targets and the expression of a COMPUTE, after a COMPUTE in this line.
 #[tactic(auto, unfolding(crate::proofs::Unfoldings::steps))]
 pub fn gather(
     cursor: &mut Cursor<'_>,

@@ -22,7 +22,7 @@ use crate::tree::expr::Expr;
 use crate::tree::place::{Phrase, Qualifier, Range, WalkStart};
 use ss_words::{Cursor, Direction, Mark, Name, Plain, QualifierWord, Refusal, Reserved, Sign};
 
-/// A FOR phrase, behind FOR.
+/// A FOR phrase, after FOR.
 #[tactic(auto, unfolding(crate::proofs::Unfoldings::in_turn, crate::specs::LoopReading::phrase_at))]
 pub fn phrase(cursor: &mut Cursor<'_>, room: u32) -> Result<Phrase, Refusal>
     ensures exact { Gives phrase_view result cursor.new (reading.phrase_at room cursor.old) }
@@ -32,14 +32,14 @@ pub fn phrase(cursor: &mut Cursor<'_>, room: u32) -> Result<Phrase, Refusal>
     match qualifiers(cursor, room) {
         Ok(qualifiers) => Ok(Phrase { range, qualifiers }),
         Err(refusal) => {
-            // by a call: written out here, as behind a `?`, it takes the proof seven times as long
+            // by a call: written out here, as after a `?`, it takes the proof seven times as long
             drop(range);
             Err(refusal)
         }
     }
 }
 
-/// What a FOR phrase goes through.
+/// The range that a FOR phrase goes through.
 #[tactic(auto, unfolding(crate::proofs::Unfoldings::choices, crate::specs::LoopReading::range_at))]
 fn range(cursor: &mut Cursor<'_>, room: u32) -> Result<Range, Refusal>
     ensures exact { Gives range_view result cursor.new (reading.range_at room cursor.old) }
@@ -51,7 +51,7 @@ fn range(cursor: &mut Cursor<'_>, room: u32) -> Result<Range, Refusal>
     counting(cursor, room)
 }
 
-/// What a FOR phrase goes through, behind EVERY.
+/// The range that a FOR phrase goes through, after EVERY.
 #[tactic(auto, unfolding(crate::proofs::Unfoldings::choices, crate::specs::LoopReading::walk_at))]
 fn every(cursor: &mut Cursor<'_>, room: u32) -> Result<Range, Refusal>
     ensures exact { Gives range_view result cursor.new
@@ -75,7 +75,7 @@ fn every(cursor: &mut Cursor<'_>, room: u32) -> Result<Range, Refusal>
     })
 }
 
-/// A set, where its walk begins and the way in which it goes.
+/// A set, the start of its walk and the way in which it goes.
 #[tactic(auto, unfolding(crate::proofs::Unfoldings::in_turn))]
 fn walk(cursor: &mut Cursor<'_>, room: u32) -> Result<(Reference, WalkStart, Direction), Refusal>
     ensures exact { Gives (λ x. (reference_view x.0, (walk_start_view x.1, x.2))) result cursor.new
@@ -100,7 +100,7 @@ fn walk(cursor: &mut Cursor<'_>, room: u32) -> Result<(Reference, WalkStart, Dir
     }
 }
 
-/// What a FOR phrase without EVERY counts through.
+/// The range that a FOR phrase without EVERY counts through.
 #[tactic(auto, unfolding(crate::proofs::Unfoldings::in_turn, crate::specs::LoopReading::counting_at))]
 fn counting(cursor: &mut Cursor<'_>, room: u32) -> Result<Range, Refusal>
     ensures exact { Gives range_view result cursor.new
@@ -257,7 +257,7 @@ fn next_qualifier(cursor: &mut Cursor<'_>, room: u32) -> Result<Option<Qualifier
     Ok(Some(Qualifier { word, condition }))
 }
 
-/// WITH, UNLESS, WHILE or UNTIL, if one stands here.
+/// WITH, UNLESS, WHILE or UNTIL, if one is here.
 #[tactic(auto, unfolding(crate::proofs::Unfoldings::steps_by_table))]
 fn qualifier_word(cursor: &mut Cursor<'_>) -> Option<QualifierWord>
     ensures exact { by_table reading.qualifier_of cursor.old ≡ (Ok result, cursor.new) }

@@ -1,4 +1,4 @@
-//! Reading what an IF asks.
+//! Reading the question of an IF.
 
 ghost use Rattle.std.specs.Prelude.{length, ◌≤◌};
 ghost use Rattle.ss_words.specs.Reading.{Gives};
@@ -9,7 +9,7 @@ use crate::reading::conditions::condition;
 use crate::tree::place::Question;
 use ss_words::{Cursor, Mark, Refusal, Reserved};
 
-/// FOUND, NONE or a condition, behind IF.
+/// FOUND, NONE or a condition, after IF.
 #[tactic(auto, unfolding(crate::proofs::Unfoldings::choices, crate::specs::LoopReading::question_at))]
 pub fn question(cursor: &mut Cursor<'_>, room: u32) -> Result<Question, Refusal>
     ensures exact { Gives question_view result cursor.new (reading.question_at room cursor.old) }

@@ -16,8 +16,7 @@ use crate::reading::transfer::transfer;
 use crate::tree::simple::Simple;
 use ss_words::{Cursor, Refusal};
 
-/// A simple statement, if one begins here, in which at most so many parentheses may be open at
-/// once.
+/// A simple statement, if one begins here. At most `room` parentheses may be open at once in it.
 #[tactic(auto, unfolding(crate::proofs::Unfoldings::choices, crate::specs::SimpleReading::simple_at))]
 pub fn simple(cursor: &mut Cursor<'_>, room: u32) -> Result<Option<Simple>, Refusal>
     ensures exact { Gives (option_view simple_view) result cursor.new

@@ -74,7 +74,7 @@ fn when(cursor: &mut Cursor<'_>, room: u32) -> Result<When, Refusal>
     }
 }
 
-/// `(A | THE) name details when`, behind SCHEDULE.
+/// `(A | THE) name details when`, after SCHEDULE.
 #[tactic(auto, unfolding(crate::proofs::Unfoldings::in_turn, crate::specs::SimpleReading::schedule_at))]
 fn scheduled(cursor: &mut Cursor<'_>, room: u32) -> Result<Timing, Refusal>
     ensures exact { Gives timing_view result cursor.new
@@ -98,7 +98,7 @@ fn scheduled(cursor: &mut Cursor<'_>, room: u32) -> Result<Timing, Refusal>
     }
 }
 
-/// SCHEDULE, CANCEL or START SIMULATION, if one stands here.
+/// SCHEDULE, CANCEL or START SIMULATION, if one is here.
 #[tactic(auto, unfolding(crate::proofs::Unfoldings::choices, crate::specs::SimpleReading::timing_at))]
 pub fn timing(cursor: &mut Cursor<'_>, room: u32) -> Result<Option<Timing>, Refusal>
     ensures exact { Gives (option_view timing_view) result cursor.new

@@ -9,7 +9,7 @@ use crate::reading::lists::{references_behind, values};
 use crate::tree::simple::Transfer;
 use ss_words::{Cursor, Mark, Refusal, Reserved};
 
-/// CALL, RETURN or STOP, if one stands here.
+/// CALL, RETURN or STOP, if one is here.
 #[tactic(auto, unfolding(crate::proofs::Unfoldings::transfers))]
 pub fn transfer(cursor: &mut Cursor<'_>, room: u32) -> Result<Option<Transfer>, Refusal>
     ensures exact { Gives (option_view transfer_view) result cursor.new

@@ -1,7 +1,9 @@
+//! The trees of references and conditions.
+
 use crate::tree::expr::Expr;
 use ss_words::{Comparison, Copula, Name};
 
-/// A name, in upper case, with a subscript or without: what a statement assigns to, or a set
+/// A name, in upper case, with a subscript or without: the target of an assignment, or a set
 /// (docs/LANGUAGE.md, "References").
 #[derive(Debug, Drop)]
 pub struct Reference {
@@ -25,7 +27,7 @@ pub struct Conjunction {
     pub more: Vec<Relation>,
 }
 
-/// What holds or does not hold of values and sets.
+/// A relation that holds or does not hold of values and sets.
 #[derive(Debug, Drop)]
 #[cycle(condition)]
 pub enum Relation {

@@ -1,3 +1,5 @@
+//! The tree of an expression: its terms, factors and arguments.
+
 use ss_words::{Name, TermSign};
 
 /// An expression: a first term, whose sign may be written before it, and the terms added to it or
@@ -33,7 +35,7 @@ pub struct Term {
 pub enum Factor {
     /// From 0 to 2^63 - 1.
     Number(u64),
-    /// A name alone, in upper case.
+    /// A name by itself, in upper case.
     Name(Name),
     /// A name with its arguments between parentheses: a function's, or a subscript.
     Applied(Box<Application>),
@@ -41,7 +43,7 @@ pub enum Factor {
     Within(Box<Expr>),
 }
 
-/// A name with its arguments, the first one and those behind it.
+/// A name with its arguments, the first one and those after it.
 #[derive(Debug, Drop)]
 #[cycle(ast)]
 pub struct Application {

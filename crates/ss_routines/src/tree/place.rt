@@ -1,9 +1,11 @@
+//! A place of a section with its line, and the parts of FOR phrases, IFs and COMPUTEs.
+
 use crate::tree::condition::{Condition, Reference};
 use crate::tree::expr::Expr;
 use crate::tree::simple::Simple;
 use ss_words::{Direction, Name, QualifierWord, Several, Statistic};
 
-/// Where the walk of a set begins.
+/// The start of the walk of a set.
 #[derive(Debug, Drop)]
 pub enum WalkStart {
     /// At the first member, or at the last one in reverse order.
@@ -14,7 +16,7 @@ pub enum WalkStart {
     After(Expr),
 }
 
-/// What a FOR phrase goes through (docs/LANGUAGE.md, "FOR").
+/// The range that a FOR phrase goes through (docs/LANGUAGE.md, "FOR").
 #[derive(Debug, Drop)]
 pub enum Range {
     /// `variable = first TO last [BY step]`, or `variable BACK FROM first TO last [BY step]`
@@ -46,7 +48,7 @@ pub struct Qualifier {
     pub condition: Condition,
 }
 
-/// A FOR phrase: what it goes through, and its qualifiers in written order.
+/// A FOR phrase: its range, and its qualifiers in written order.
 #[derive(Debug, Drop)]
 pub struct Phrase {
     pub range: Range,
@@ -60,7 +62,7 @@ pub struct Computed {
     pub statistic: Statistic,
 }
 
-/// What an IF asks.
+/// The question of an IF.
 #[derive(Debug, Drop)]
 pub enum Question {
     Holds(Box<Condition>),
@@ -79,7 +81,7 @@ pub enum Branch {
 /// A place of a FOR statement.
 #[derive(Debug, Drop)]
 pub enum Loop {
-    /// A FOR phrase; `repeats` says whether DO stands behind it.
+    /// A FOR phrase; `repeats` says whether DO is after it.
     For { phrase: Box<Phrase>, repeats: bool },
     /// LOOP
     Next,
@@ -101,8 +103,8 @@ pub enum Place {
     End,
 }
 
-/// A place and the line on which its first plain word stands; lines count from 1. What is greater
-/// than an assignment stands in a box, so that a place is small.
+/// A place and the line of its first plain word; lines count from 1. A part that is greater than an
+/// assignment is in a box, so that a place is small.
 #[derive(Debug, Drop)]
 pub struct Spot {
     pub line: usize,

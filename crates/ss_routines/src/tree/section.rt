@@ -1,3 +1,5 @@
+//! A section as a tree: its head, its local DEFINEs and its places.
+
 ghost use Rattle.std.specs.Prelude.{◌≡◌, map};
 ghost use Rattle.ss_routines.specs.Ended.{AreEnded};
 ghost use Rattle.ss_routines.specs.OfProgram.{AreOfProgram};
@@ -8,11 +10,11 @@ use crate::tree::simple::Listing;
 use ss_words::{Name, Several};
 use std::marker::Model;
 
-/// What a section is, with its parameters in upper case.
+/// The kind of a section, with its parameters in upper case.
 #[derive(Debug, Drop)]
 pub enum SectionKind {
     Main,
-    /// `ROUTINE name [given] [YIELDING yielded]`; none is yielded where YIELDING is not written.
+    /// `ROUTINE name [given] [YIELDING yielded]`; none is yielded if YIELDING is not written.
     Routine {
         given: Listing<Name>,
         yielded: Vec<Name>,

@@ -1,3 +1,5 @@
+//! The trees of the statements that hold no other.
+
 use crate::tree::condition::Reference;
 use crate::tree::expr::Expr;
 use ss_words::{Name, SetEnd, Several};
@@ -5,7 +7,7 @@ use ss_words::{Name, SetEnd, Several};
 /// A statement that assigns.
 #[derive(Debug, Drop)]
 pub enum Assign {
-    /// `[LET] target = value`; `written` says whether LET stands there.
+    /// `[LET] target = value`; `written` says whether LET is there.
     Let {
         written: bool,
         target: Reference,
@@ -43,7 +45,7 @@ pub enum Making {
     },
 }
 
-/// Where a member is filed, as it is written behind the member.
+/// The place at which a member is filed, as it is written after the member.
 #[derive(Debug, Drop)]
 pub enum FilePlace {
     /// Nothing is written: by the set's discipline.
@@ -92,7 +94,7 @@ pub enum Listing<T> {
 /// A statement that leaves its place for another section, or for good.
 #[derive(Debug, Drop)]
 pub enum Transfer {
-    /// `CALL routine [values] [YIELDING targets]`; no targets where YIELDING is not written.
+    /// `CALL routine [values] [YIELDING targets]`; no targets if YIELDING is not written.
     Call {
         routine: Name,
         values: Listing<Expr>,
@@ -117,7 +119,7 @@ pub enum Details {
         values: Several<Expr>,
         called: Option<Reference>,
     },
-    /// `[CALLED called] [GIVEN values]`; no values where GIVEN is not written.
+    /// `[CALLED called] [GIVEN values]`; no values if GIVEN is not written.
     CalledFirst {
         called: Option<Reference>,
         values: Vec<Expr>,
@@ -157,7 +159,7 @@ pub enum Timing {
 pub enum Exchange {
     /// `READ targets`
     Read(Several<Reference>),
-    /// `PRINT count LINES [WITH values] THUS` and the lines of the picture; no values where WITH is
+    /// `PRINT count LINES [WITH values] THUS` and the lines of the picture; no values if WITH is
     /// not written.
     Print {
         count: u64,
@@ -168,8 +170,8 @@ pub enum Exchange {
     Skip(Expr),
 }
 
-/// A simple statement: one that holds no other (docs/LANGUAGE.md, "Statements"). What is greater
-/// than an assignment stands in a box, so that a place is small.
+/// A simple statement: one that holds no other (docs/LANGUAGE.md, "Statements"). A part that is
+/// greater than an assignment is in a box, so that a place is small.
 #[derive(Debug, Drop)]
 pub enum Simple {
     Assign(Assign),

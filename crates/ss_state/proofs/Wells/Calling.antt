@@ -96,7 +96,7 @@ frame_well p i xs sound l f h = record {
   statistics = record { number = refl; sum = refl; greatest = refl; least = refl };
 }
 
--- the frame of a routine stands on the CALL of it
+-- the frame below a routine's frame is at the CALL of it
 routine_stands : (p : ProgramTable) (k : SectionKind) (section : ℕ) (f : FrameState) → is_routine_kind k ≡ true →
     CallsAt section (spot_at p f.section f.place) → StandsOn p k section f
 routine_stands p Main section f e h = cc

@@ -194,7 +194,7 @@ verdict_well p s y Runs n b w = state_at_place_well p s y.next n w
 verdict_well p s y Passes n b w = w
 verdict_well p s y Closes n b w = closed_well p s y.exit b w
 
--- the state with a candidate tried, and what the qualifiers say: in bounds, and of the same section
+-- the state with a candidate tried, and its verdict: in bounds, and of the section of the old state
 abbrev IsTried : ProgramTable → State → (State × Verdict) → Type 0
 IsTried p s r = IsInBounds p r.0 × (r.0.frame.section ≡ s.frame.section)
 

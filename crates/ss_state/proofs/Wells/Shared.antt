@@ -1,4 +1,4 @@
--- what keeps a state well-formed, for every statement
+-- the lemmas that every statement uses to keep a state well-formed
 use Rattle.std.proofs.Common.{◌≡◌, ℕ, ℤ, ◌<◌, ◌≤◌, List, length, length-set, Bool, Result, Ok, Err, refl, sym, subst}
 use Rattle.std.proofs.Common.{◌∙◌}
 use Rattle.std.specs.Prelude.{slice_get}
@@ -226,6 +226,6 @@ taken_well p s n h w =
 
 -- ---- each kind of place
 
--- what is said of the ways of a place
+-- the property of the ways of a place
 abbrev pub LeadsHere : ProgramTable → State → Ways → Place → Type 0
 LeadsHere p s y x = IsLinkedPlace p.sections (length (places_of (slice_get p.sections s.frame.section))) y x

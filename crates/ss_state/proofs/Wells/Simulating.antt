@@ -45,14 +45,14 @@ use Rattle.ss_state.proofs.Wells.Calling.{external_event, frame_well}
 use Rattle.ss_state.proofs.Wells.Timing.{AreCounted, IsNew, MayBe, after_passed, attributes_in, new_store, not_late}
 use Rattle.ss_state.proofs.Wells.Timing.{scheduling_well}
 
--- the frame of an event stands on MAIN at START SIMULATION
+-- the frame below an event's frame is MAIN's at START SIMULATION
 event_stands : (p : ProgramTable) (k : SectionKind) (section : ℕ) (f : FrameState) → is_event_kind k ≡ true →
     is_main (section_of p f.section) ≡ true → StartsAt (spot_at p f.section f.place) → StandsOn p k section f
 event_stands p Main section f e m h = cc
 event_stands p Routine section f e m h = cc
 event_stands p Event section f e m h = (m, h)
 
--- MAIN's frame stands on none
+-- MAIN's frame has none below it
 main_alone_by : (p : ProgramTable) (k : SectionKind) (section : ℕ) (f : FrameState) → is_main_kind k ≡ true →
     StandsOn p k section f → ⊥
 main_alone_by p Main section f e h = h

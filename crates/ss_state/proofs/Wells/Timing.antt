@@ -90,7 +90,7 @@ attributes_well p s c k a (x ∷ xs) h w =
 abbrev pub MayBe : Agenda → ℕ → ℤ → ℤ → Unit {0} → Type 0
 MayBe a k time clock u = (int_lt time clock ≡ false) × (is_pending a k ≡ false)
 
--- so it is where the notice may be scheduled
+-- this holds if the notice may be scheduled
 pub not_late : (a : Agenda) (k : ℕ) (time clock : ℤ) → Got (MayBe a k time clock) (may_schedule a k time clock)
 not_late a k time clock = chosen (int_lt time clock) refl
   where
@@ -110,7 +110,7 @@ not_late a k time clock = chosen (int_lt time clock) refl
     chosen true e = tt
     chosen false e = second (is_pending a k) refl e
 
--- what comes after a test that was passed
+-- the result after a test that was passed
 pub after_passed : (P : State → Type 0) (Q : Type 0) (r : Result (Unit {0}) RunFault) (q : Result State RunFault) →
     Got (λ (_ : Unit {0}). Q) r → (Q → Got P q) → Got P (r >> q)
 after_passed P Q (Ok x) q h k = k h

@@ -11,7 +11,7 @@ use Rattle.ss_values.specs.Values.{assigned_value}
 use Rattle.ss_state.specs.Readings.{readings}
 use Rattle.ss_state.specs.Statements.{state_after_result, state_at_place, state_with_value}
 
--- where LET, ADD and SUBTRACT assign
+-- the target that LET, ADD and SUBTRACT assign to
 abbrev pub target_of : Assign → Target
 target_of (Let written target value) = target
 target_of (Add value target) = target

@@ -12,13 +12,13 @@ use Rattle.ss_state.specs.Readings.{readings}
 use Rattle.ss_values.specs.Conditions.{holds}
 use Rattle.ss_state.specs.Statements.{state_after_result, state_at_place}
 
--- the answer to what an IF asks
+-- the answer to the question of an IF
 abbrev pub question_answer : Tables → State → Question → Result Bool RunFault
 question_answer tables state (Whether c) = holds (readings tables state) c
 question_answer tables state WasFound = Ok state.frame.found
 question_answer tables state WasNone = Ok (not state.frame.found)
 
--- a true IF goes on to the next place, a false one behind its ELSE, or to its ALWAYS; ELSE goes on to its ALWAYS
+-- a true IF goes to the next place, a false one after its ELSE or to its ALWAYS; ELSE to its ALWAYS
 abbrev pub step_branch : Tables → State → Ways → Branch → State
 step_branch tables state ways (If q) =
     state_after_result state (question_answer tables state q)

@@ -24,7 +24,7 @@ use Rattle.ss_state.specs.Readings.{readings}
 use Rattle.ss_state.specs.Statements.{state_after_result, state_at_place, ways_here, state_with_taken}
 use Rattle.ss_state.specs.Statements.{state_with_values, state_with_frame}
 
--- F18 where there are 200 frames
+-- F18 if there are 200 frames
 abbrev pub room_for_frame : List FrameState → List ℤ → Result (List ℤ) RunFault
 room_for_frame below xs = if nat_lt (length below) MOST_BELOW then Ok xs else Err TooManyFrames
 
@@ -34,43 +34,43 @@ step_call program state call =
     state_after_result state (values_of (readings (tables_of program) state) call.given >>= room_for_frame state.below)
     (state_with_frame program state call.section)
 
--- the state behind a CALL, which goes on at `next`, to which these locals came back
+-- the state after a CALL, which goes on at `next`, to which these locals came back
 abbrev pub state_behind_call : Tables → List ℤ → ℕ → ℕ → State → Place → Result State RunFault
 state_behind_call tables vs k next state (places.Call c) =
     state_with_values tables vs state k c.targets >>= λ r. Ok (state_at_place next r)
--- never met: a routine's frame stands on a CALL
+-- never met: the frame below a routine's is at a CALL
 state_behind_call tables vs k next state other = Ok state
 
--- the same by the place where the frame stands
+-- the state after the CALL at the place of the frame
 abbrev pub state_behind_place : ProgramTable → List ℤ → ℕ → State → Option Spot → Result State RunFault
 state_behind_place program vs k state (Some spot) =
     state_behind_call (tables_of program) vs k (ways_here program state spot.place).next state spot.place
--- never met: each frame stands at a place
+-- never met: each frame is at a place
 state_behind_place program vs k state None = Ok state
 
--- the state after a routine's frame is dropped and what it yields is assigned: its locals behind those that were given
+-- the state after a routine's frame is dropped and its locals after the given ones are assigned
 abbrev pub state_after_return : ProgramTable → State → List FrameState → State
--- never met: a routine's frame stands on another
+-- never met: a routine's frame has another below it
 state_after_return program state [] = state
 state_after_return program state (f ∷ fs) =
     state_after_result state
     (state_behind_place program state.frame.locals (section_of program state.frame.section).given
     (record state { frame = f; below = fs }) (spot_at program f.section f.place)) (λ r. r)
 
--- the state in which an entry is over that ran: the data is passed up to and with the next mark; F22 where none is left
+-- the state after an entry ran: data is passed up to and with the next mark; F22 if none is left
 abbrev pub state_behind_mark : State → Option ℕ → Result State RunFault
 state_behind_mark state None = Err OutsideEntry
 state_behind_mark state (Some n) = Ok (record (state_with_taken state n) { entry = Absent })
 
--- the same of an entry that may run
+-- the state after an entry that may run; one that does not run stays
 abbrev pub state_without_entry : State → Entry → Result State RunFault
 state_without_entry state Absent = Ok state
 state_without_entry state (Waiting c k) = Ok state
 state_without_entry state (Running c k) = state_behind_mark state (place_behind_mark state.feed)
 
--- the state after an event's frame is dropped; MAIN stands where it stood
+-- the state after an event's frame is dropped; MAIN stays at its place
 abbrev pub state_after_event : State → List FrameState → State
--- never met: an event's frame stands on MAIN's
+-- never met: an event's frame has MAIN's below it
 state_after_event state [] = state
 state_after_event state (f ∷ fs) =
     state_after_result state (state_without_entry state state.entry) (λ r. record r { frame = f; below = fs })

@@ -34,7 +34,7 @@ state_after_create_every tables state c count n =
     with_class state.store c (class_of tables c) n
     >>= λ st. Ok (state_after_assignment (state_with_store state st) (Global count) n)
 
--- the store without entity number k of class c; F7 where it is a pending notice, too
+-- the store without entity number k of class c; F7 also if it is a pending notice
 abbrev pub store_without : Tables → State → ℕ → ℕ → Result Store RunFault
 store_without tables state c k =
     refuse_if (is_pending state.agenda k) EndedInUse >> without_entity tables state.store c k
@@ -45,14 +45,14 @@ state_after_destroy tables state c expression =
     value_of (readings tables state) expression >>= entity_named state.store c >>= store_without tables state c
     >>= λ st. Ok (state_with_store state st)
 
--- what a statement makes of the state that makes or ends entities
+-- the state after a statement that makes or ends entities
 abbrev pub state_after_making : Tables → State → Making → Result State RunFault
 state_after_making tables state (Create c is_called target) = state_after_create tables state c target
 state_after_making tables state (CreateEvery c e count) =
     number_asked (readings tables state) e count >>= state_after_create_every tables state c count
 state_after_making tables state (Destroy c is_called e) = state_after_destroy tables state c e
 
--- one step of it
+-- one step of such a statement
 abbrev pub step_making : Tables → State → ℕ → Making → State
 step_making tables state next making =
     state_after_result state (state_after_making tables state making) (state_at_place next)

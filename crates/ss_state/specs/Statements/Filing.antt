@@ -27,12 +27,12 @@ abbrev pub how_at : SetEnd → How
 how_at ends.First = how.First
 how_at ends.Last = how.Last
 
--- the same, as REMOVE names it
+-- an end of a list, as REMOVE names it
 abbrev pub which_at : SetEnd → Which
 which_at ends.First = which.First
 which_at ends.Last = which.Last
 
--- where FILE puts a member, with the value that names another one
+-- the position at which FILE puts a member, with the value that names another one
 abbrev pub how_asked : Readings → Position → Result How RunFault
 how_asked readings ByRule = Ok how.ByRule
 how_asked readings (AtEnd end) = Ok (how_at end)
@@ -60,7 +60,7 @@ state_after_remove tables state set x =
     >>= λ o. after_removing (set_of tables set.set) state.store (number_of o) (which.Member x)
     >>= λ k. Ok (state_with_store state k.1)
 
--- what a statement makes of the state that files or removes: its values from the left, then the deed
+-- the state after a statement that files or removes: its values from the left, then the change
 abbrev pub state_after_filing : Tables → State → Filing → Result State RunFault
 state_after_filing tables state (File e position r) =
     value_of (readings tables state) e >>= λ x. how_asked (readings tables state) position
@@ -71,7 +71,7 @@ state_after_filing tables state (RemoveAt end target r) = state_after_remove_end
 state_after_filing tables state (Remove e r) =
     value_of (readings tables state) e >>= λ x. state_after_remove tables state r x
 
--- one step of it
+-- one step of such a statement
 abbrev pub step_filing : Tables → State → ℕ → Filing → State
 step_filing tables state next filing =
     state_after_result state (state_after_filing tables state filing) (state_at_place next)

@@ -35,7 +35,7 @@ state_with_found state found = record state { frame = record state.frame { found
 abbrev pub state_with_statistics : State → Statistics → State
 state_with_statistics state statistics = record state { frame = record state.frame { statistics = statistics } }
 
--- the state after the first phrase of a chain has set back what FIND or COMPUTE tells
+-- the state after the first phrase of a chain has reset the answer of FIND or COMPUTE's statistics
 abbrev pub state_after_reset : State → Resets → State
 state_after_reset state resets.Nothing = state
 state_after_reset state resets.Found = state_with_found state false
@@ -47,7 +47,7 @@ state_after_entry tables state ways phrase =
     state_after_result state (loop_at_entry (readings tables state) state.frame.place phrase.phrase)
     (λ l. state_after_reset (state_with_loops state (l ∷ state.frame.loops)) ways.resets)
 
--- the state in which the innermost loop is closed and the last frame stands at a place
+-- the state in which the innermost loop is closed and the last frame is at a place
 abbrev pub state_after_closing : ℕ → State → State
 state_after_closing place state = state_at_place place (state_with_loops state (drop 1 state.frame.loops))
 
@@ -57,14 +57,14 @@ state_with_candidate state phrase c x =
     state_after_assignment (state_with_loops state (loops_with_candidate c state.frame.loops))
     (loop_variable phrase.phrase) x
 
--- the state after what the qualifiers said
+-- the state after the verdict of the qualifiers
 abbrev pub state_after_verdict : Ways → State → Verdict → State
 state_after_verdict ways state Runs = state_at_place ways.next state
 state_after_verdict ways state Passes = state
 state_after_verdict ways state Closes = state_after_closing ways.exit state
 
--- the state with the candidate x in its variable, and what the qualifiers say in it; F14 where the candidate has left
--- its list
+-- the state with the candidate x in its variable, and the verdict of the qualifiers in it; F14 if
+-- the candidate has left its list
 abbrev pub candidate_tried : Tables → State → ForPhrase → OpenLoop → ℤ → Result (State × Verdict) RunFault
 candidate_tried tables state phrase loop x =
     next_candidate (readings tables state) loop.walk x
@@ -97,14 +97,14 @@ greatest_with statistics x = if int_lt (pos 0) statistics.number then int_max st
 abbrev pub least_with : Statistics → ℤ → ℤ
 least_with statistics x = if int_lt (pos 0) statistics.number then int_min statistics.least x else x
 
--- the statistics with one value more; F1 where their number or their sum is out of range
+-- the statistics with one value more; F1 if their number or their sum is out of range
 abbrev pub statistics_with : Statistics → ℤ → Result Statistics RunFault
 statistics_with statistics x = do
   number ← result_in_range (statistics.number +ℤ pos 1)
   total ← result_in_range (statistics.sum +ℤ x)
   Ok (record { number = number; sum = total; greatest = greatest_with statistics x; least = least_with statistics x })
 
--- the statistics with the value that was got
+-- the statistics with the value that was read
 abbrev pub statistics_after : Statistics → Result ℤ RunFault → Result Statistics RunFault
 statistics_after statistics got = got >>= statistics_with statistics
 

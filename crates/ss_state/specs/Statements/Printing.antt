@@ -17,12 +17,12 @@ use Rattle.ss_values.specs.Values.{Readings, value_of, values_of}
 use Rattle.ss_state.specs.Readings.{readings}
 use Rattle.ss_state.specs.Statements.{state_after_result, state_at_place}
 
--- the report with a text behind it, or F19 where it would be too long
+-- the report with a text after it, or F19 if it would be too long
 abbrev pub longer_report : List ℕ → List ℕ → Result (List ℕ) RunFault
 longer_report report text =
     if nat_le (length report + length text) LONGEST_REPORT then Ok (report ++ text) else Err ReportFull
 
--- the state after a PRINT, which gets its values and appends its picture with them
+-- the state after a PRINT, which evaluates its values and appends its picture with them
 abbrev pub state_after_print : Tables → State → ℕ → List Expr → List (List ℕ) → State
 state_after_print tables state next values picture =
     state_after_result state
@@ -44,7 +44,7 @@ state_after_skip state next count =
     state_after_result state (count >>= λ n. longer_report state.report (replicate n LINE_FEED))
     (λ report. state_at_place next (record state { report = report }))
 
--- one step of what appends to the report
+-- one step of a statement that appends to the report
 abbrev pub step_output : Tables → State → ℕ → Output → State
 step_output tables state next (Print count values picture) = state_after_print tables state next values picture
 step_output tables state next (Skip e) = state_after_skip state next (lines_asked (readings tables state) e)

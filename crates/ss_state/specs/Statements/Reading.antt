@@ -18,7 +18,7 @@ abbrev pub is_mark : PieceKind → Bool
 is_mark Mark = true
 is_mark _ = false
 
--- the number of an item: F16; F22 at a mark, where the program has external events; F17
+-- the number of an item: F16; F22 at a mark, if the program has external events; F17
 abbrev pub value_taken : Bool → Option Item → Result ℤ RunFault
 value_taken external o = refuse_if (external && is_mark (kind_or_end o)) OutsideEntry >> value_or_fault o
 
@@ -28,8 +28,8 @@ values_taken external items i [] = Ok []
 values_taken external items i (t ∷ ts) =
     value_taken external (slice_get items i) >>= λ x. values_taken external items (i + 1) ts >>= λ xs. Ok (x ∷ xs)
 
--- the state in which a READ has taken its values: all of them before the first target is assigned; F22 where an entry
--- waits
+-- the state in which a READ has taken its values: all of them before the first target is
+-- assigned; F22 if an entry waits
 abbrev pub state_after_read : ProgramTable → State → List Target → Result State RunFault
 state_after_read program state ts =
     refuse_if (is_waiting state.entry) OutsideEntry

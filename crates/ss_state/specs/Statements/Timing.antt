@@ -35,12 +35,12 @@ use Rattle.ss_state.specs.Statements.{state_with_value, state_with_taken, entity
 
 -- ---- event notices
 
--- what names the notice of THE; A names none
+-- the value that names the notice of THE; A names none
 abbrev pub notice_named : Readings → Notice → Result ℤ RunFault
 notice_named readings (New is_called target) = Ok (pos 0)
 notice_named readings (Known is_called e) = value_of readings e
 
--- what names the notice, and the arguments, in the order in which they are written
+-- the value that names the notice, and the arguments, in the order in which they are written
 abbrev pub arguments_asked : Readings → Notice → List Expr → Listing → Result (ℤ × List ℤ) RunFault
 arguments_asked readings notice es InParentheses =
     values_of readings es >>= λ xs. notice_named readings notice >>= λ x. Ok (x, xs)
@@ -92,20 +92,20 @@ state_after_new program state c target time xs =
     >>= λ st. state_after_scheduling program (state_with_store state st) c (last_reference st) time xs
     >>= λ r. number_value (last_reference st) >>= state_with_value (tables_of program) r target
 
--- the notice, by what names it: SCHEDULE THE assigns nothing
+-- the state after scheduling the notice of A or THE: SCHEDULE THE assigns nothing
 abbrev pub state_after_notice : ProgramTable → State → ℕ → Notice → ℤ → ℤ → List ℤ → Result State RunFault
 state_after_notice program state c (New is_called target) x time xs = state_after_new program state c target time xs
 state_after_notice program state c (Known is_called e) x time xs =
     entity_named state.store c x >>= λ k. state_after_scheduling program state c k time xs
 
--- the state after SCHEDULE: what names the notice and the arguments, then the time, then the deed
+-- the state after SCHEDULE: the notice's name and the arguments, then the time, then the change
 abbrev pub state_after_schedule : ProgramTable → State → Schedule → Result State RunFault
 state_after_schedule program state schedule =
     arguments_asked (readings (tables_of program) state) schedule.notice schedule.arguments schedule.listing
     >>= λ a. time_asked (readings (tables_of program) state) schedule.when
     >>= λ time. state_after_notice program state schedule.class schedule.notice a.0 time a.1
 
--- the agenda without notice k; F11 where it is not pending, or waits for its entry
+-- the agenda without notice k; F11 if it is not pending, or waits for its entry
 abbrev pub agenda_without : State → ℕ → Result Agenda RunFault
 agenda_without state k =
     refuse_if (waits_for k state.entry || not (is_pending state.agenda k)) NotScheduled
@@ -147,7 +147,7 @@ state_after_start p state k c time =
     >>= λ x. Ok (state_with_frame p (state_after_assignment (state_at_time state k time st)
     (Global (program.class_of p c).variable) x) (event_section p c) xs)
 
--- with nothing pending the place behind START SIMULATION follows, else the event of the least notice starts
+-- nothing pending: the place after START SIMULATION follows; else the least notice's event starts
 abbrev pub step_simulation : ProgramTable → State → ℕ → Option Pending → State
 step_simulation program state next None = state_at_place next state
 step_simulation program state next (Some n) =
@@ -157,7 +157,7 @@ step_simulation program state next (Some n) =
 abbrev pub external_class : ProgramTable → Option Item → Option ℕ
 external_class program o = position (λ c. (event_of_kind c.kind).external && item_writes c.name o) program.classes
 
--- the same, or F21
+-- the external class that is named, or F21
 abbrev pub class_named : Option ℕ → Result ℕ RunFault
 class_named None = Err NotExternal
 class_named (Some c) = Ok c
@@ -191,7 +191,7 @@ step_start program state next =
     if loads program state then state_after_result state (state_after_load program state) (λ r. r)
     else step_simulation program state next (least (rules_of program) state.agenda.pending)
 
--- one step of what schedules notices, takes them off, and starts events
+-- one step of a statement that schedules notices, takes them off, or starts events
 abbrev pub step_timing : ProgramTable → State → ℕ → Timing → State
 step_timing program state next (timings.Schedule x) =
     state_after_result state (state_after_schedule program state x) (state_at_place next)

@@ -1,4 +1,4 @@
-//! What the bytes of a line are.
+//! The kinds of the bytes of a line.
 #![tactic(auto, unfolding(crate::proofs::Unfoldings::bytes_together))]
 
 ghost use Rattle.std.specs.Prelude.{◌≡◌};
@@ -11,14 +11,14 @@ use crate::characters::{
 };
 use crate::word::Sign;
 
-// A byte that may stand in a line.
+// A byte that is allowed in a line.
 pub fn is_allowed(byte: u8) -> bool
     ensures { result ≡ is_allowed byte }
 {
     byte == TAB || (byte >= BLANK && byte <= TILDE)
 }
 
-// Each byte may stand in a line.
+// Each byte is allowed in a line.
 pub fn all_allowed(bytes: &[u8]) -> bool
     ensures { result ≡ list_all is_allowed bytes.now }
 {

@@ -12,8 +12,8 @@ use crate::word::{Word, WordKind, Words};
 use std::alloc::{AllocError, Global};
 use std::marker::Model;
 
-/// The words of the text so far, and what of them matters to a picture that they may call at
-/// their end.
+/// The words of the text so far, and the facts about them that matter to a picture that they may
+/// call at their end.
 #[derive(Drop)]
 pub struct Collected {
     alloc: Global,
@@ -22,7 +22,7 @@ pub struct Collected {
     ends_in_as: bool,
     ends_in_print: bool,
     calls_picture: bool,
-    // The number directly behind the nearest PRINT, if it counts a picture's lines.
+    // The number directly after the nearest PRINT, if it counts a picture's lines.
     lines: Option<u64>,
 }
 
@@ -51,7 +51,7 @@ fn is_name(word: &WordKind, name: &[u8]) -> bool
     }
 }
 
-// The count of a picture's lines that a word directly behind PRINT gives.
+// The count of a picture's lines that a word directly after PRINT gives.
 #[tactic(auto, unfolding(crate::specs::TextRuns::line_count))]
 fn line_count(word: &WordKind) -> Option<u64>
     ensures { result ≡ line_count (Some (kind_of word.now)) }

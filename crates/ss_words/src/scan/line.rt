@@ -31,8 +31,8 @@ pub fn scan_line(words: &mut Collected, line: &[u8], below: &Lines) -> Result<()
     Ok(())
 }
 
-// Takes what begins where `rest` does: a comment, a blank, a run or a sign. Says how many bytes
-// it has.
+// Takes the part that begins at the front of `rest`: a comment, a blank, a run or a sign. Gives its
+// number of bytes.
 fn scan_place(words: &mut Collected, rest: &[u8], below: &Lines) -> Result<usize, TextFault>
     requires { 0 < length rest.now }
     ensures len { IfOk result (λ len. (0 < len) × (len ≤ length rest.now)) }
@@ -57,7 +57,7 @@ fn scan_place(words: &mut Collected, rest: &[u8], below: &Lines) -> Result<usize
     }
 }
 
-// Two quotes stand at the front.
+// Two quotes are at the front.
 #[tactic(auto, unfolding(crate::specs::TextScan::begins_comment))]
 fn begins_comment(rest: &[u8]) -> bool
     ensures { result ≡ begins_comment rest.now }
@@ -65,7 +65,7 @@ fn begins_comment(rest: &[u8]) -> bool
     rest.len() > 1 && rest[0] == QUOTE && rest[1] == QUOTE
 }
 
-// The length of the comment at the front: to behind the next two quotes, or to the line's end.
+// The length of the comment at the front: up to past the next two quotes, or to the line's end.
 fn comment_len(rest: &[u8]) -> usize
     requires { begins_comment rest.now ≡ true }
     ensures len { result ≡ 2 + hidden_len (drop 2 rest.now) }
@@ -113,7 +113,7 @@ fn second(rest: &[u8]) -> u8
     if rest.len() > 1 { rest[1] } else { 0 }
 }
 
-// Takes the sign at the front, where no comment, blank or run begins. Says how many bytes it has.
+// Takes the sign at the front, if no comment, blank or run begins. Gives its number of bytes.
 fn scan_sign(words: &mut Collected, rest: &[u8], below: &Lines) -> Result<usize, TextFault>
     requires nonempty { 0 < length rest.now }
     requires no_comment { begins_comment rest.now ≡ false }
@@ -190,7 +190,7 @@ fn lacks_picture(words: &Collected, rest: &[u8], below: &Lines) -> bool
     !is_met(words.picture_lines(), below)
 }
 
-// So many lines are left.
+// A count is given, and at least that number of lines is left.
 fn is_met(lines: Option<u64>, below: &Lines) -> bool
     ensures { result ≡ is_met lines (length (text_lines below.now.rest.now)) }
 {
@@ -200,7 +200,7 @@ fn is_met(lines: Option<u64>, below: &Lines) -> bool
     }
 }
 
-// How many blanks and tabs stand at the front.
+// The number of blanks and tabs at the front.
 fn blanks_len(rest: &[u8]) -> usize
     ensures len { result ≡ length (take_while is_blank rest.now) }
     ensures in_range { result ≤ length rest.now }

@@ -6,7 +6,7 @@ ghost use Rattle.ss_words.specs.TextLines.{text_lines, without_return};
 
 use crate::characters::{CARRIAGE_RETURN, LINE_FEED};
 
-/// What is left of a text, and how many of its lines have been taken.
+/// The rest of a text, and how many of its lines have been taken.
 #[derive(Clone, Copy)]
 pub struct Lines<'a> {
     pub rest: &'a [u8],
@@ -74,7 +74,7 @@ impl<'a> Lines<'a> {
         }
     }
 
-    // At least so many lines are left.
+    // At least `count` lines are left.
     pub fn has(&self, count: usize) -> bool
         ensures { result ≡ nat_le count (length (text_lines self.now.rest.now)) }
     {

@@ -38,7 +38,7 @@ pub fn scan_picture(words: &mut Collected, lines: &mut Lines) -> Result<(), Text
     words.push(first, WordKind::Picture(drawn))
 }
 
-// The next lines as a picture, at most so many.
+// The next lines as a picture, at most `count`.
 fn picture(alloc: Global, lines: &mut Lines, count: usize) -> Result<Vec<Vec<u8>>, TextFault>
     ensures picture { IfOk result
         (λ p. map (λ l. l.items) p.items ≡ take count (text_lines lines.old.rest.now)) }

@@ -13,7 +13,7 @@ use crate::limits::LARGEST_NUMBER;
 use crate::scan::bytes::in_run;
 use std::alloc::{AllocError, Global};
 
-/// What a run spells; without bytes it spells the number 0.
+/// The spelling of a run; without bytes it spells the number 0.
 #[derive(Clone, Copy)]
 pub enum Spelling {
     Name,
@@ -70,7 +70,7 @@ fn number_of(digits: &[u8]) -> Option<u64>
     Some(number)
 }
 
-// What a run without stops at its end spells; nothing if it has digits with a stop left in them
+// The spelling of a run without stops at its end; nothing if it has digits with a stop left in them
 // or its number is too large.
 #[tactic(auto, unfolding(crate::specs::TextRuns::is_bad_number))]
 pub fn spelling_of(run: &[u8]) -> Option<Spelling>

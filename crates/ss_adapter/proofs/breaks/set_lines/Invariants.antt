@@ -4,7 +4,7 @@ use Rattle.ss_debug.specs.Turn.{debugger_state_with}
 use Rattle.ss_adapter.specs.Places.{setting_of, with_point}
 use Rattle.ss_adapter.proofs.breaks.set_lines.Given as goal
 
--- those that are left bring what is set to what all set
+-- the setting so far, with the points that are left, is the setting of all points
 abbrev pub invariant-loop-point : goal.invariant-loop-point
 invariant-loop-point g l = record {
   input : l.debugger.machine.input ≡ l.fn.debugger.machine.input;

@@ -4,7 +4,7 @@ use Rattle.ss_debug.specs.Turn.{debugger_state_with}
 use Rattle.ss_adapter.specs.Places.{section_setting_of, with_named}
 use Rattle.ss_adapter.proofs.breaks.set_sections.Given as goal
 
--- those that are left bring what is set to what all set
+-- the setting so far, with the names that are left, is the setting of all names
 abbrev pub invariant-loop-name : goal.invariant-loop-name
 invariant-loop-name g l = record {
   input : l.debugger.machine.input ≡ l.fn.debugger.machine.input;

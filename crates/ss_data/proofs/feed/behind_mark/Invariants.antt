@@ -3,7 +3,7 @@ use Rattle.ss_data.specs.Items.{item}
 use Rattle.ss_data.specs.Entries.{behind_mark}
 use Rattle.ss_data.proofs.feed.behind_mark.Given as goal
 
--- no mark stands before the place
+-- no mark is before the place
 abbrev pub invariant-loop-piece : goal.invariant-loop-piece
 invariant-loop-piece l = behind_mark (map item l.pieces) l.place ≡ behind_mark (map item l.pieces) l.from
 

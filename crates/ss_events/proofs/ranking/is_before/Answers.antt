@@ -21,7 +21,7 @@ use Rattle.ss_events.proofs.BeforeLaws.{int-apart}
 use Rattle.ss_events.proofs.EventLaws.{event-below}
 use Rattle.ss_events.proofs.ranking.is_before.Goals as goal
 
--- two numbers decide where they are different, and what follows them where they are the same
+-- two numbers decide if they are different; the order after them decides if they are the same
 nat-apart : (p q : ℕ) (o : Ordering) → (p ≡ q → ⊥) → ltb p q ≡ is_lt (ordering_then (nat_cmp p q) o)
 nat-apart p q o n = elim (ltb p q)
     as (λ t. t ≡ is_lt (ordering_then (cond t Less (cond (eqb p q) Equal Greater)) o)) [
@@ -55,7 +55,7 @@ rule-at : (rules : List ClassRule) (p : ClassRule) (x : PendingNotice) → IsEnt
     rule_of (get_or rules x.class p) ≡ rule_at (map rule_of rules) x.class
 rule-at rules p x h = sym (get_or-map rule_of rules x.class p _ (class-below rules x h))
 
--- what decides behind the times, and behind the classes
+-- the orders that decide after the times, and after the classes
 abbrev by_keys_then : List Rule → PendingNotice → PendingNotice → Ordering
 by_keys_then rules a b =
     ordering_then (by_keys (rule_at rules a.class).ties a.keys.items b.keys.items) (nat_cmp a.filing b.filing)

@@ -20,7 +20,7 @@ decreases-subscript_told g l = goal.size-subscript_told g l
 abbrev pub decreases-arguments_told : goal.decreases-arguments_told
 decreases-arguments_told g l = goal.size-arguments_told g l
 
--- with the terms that are left what is told is that of the expression
+-- with the terms that are left the finding is that of the expression
 abbrev pub invariant-sum_told-loop-further : goal.invariant-sum_told-loop-further
 invariant-sum_told-loop-further g l =
     sums_told l.machine.input.program l.machine.state l.told

@@ -2,7 +2,7 @@ use Rattle.std.proofs.Common.{◌≡◌, ◌+◌, length}
 use Rattle.ss_journal.specs.Undoing.{unapply_all, FitsAll}
 use Rattle.ss_journal.proofs.undo.roll_back.Given as goal
 
--- what is left to take back fits, and leads to the same state; what was taken back left its room
+-- the changes left fit and lead to the state before all of them; each undone one left its room
 abbrev pub invariant-loop-change : goal.invariant-loop-change
 invariant-loop-change g l =
     let fits = g.U.Undo.fits in

@@ -1,3 +1,5 @@
+//! The candidates of a FOR phrase: the loop at its entry, the next candidate, and its qualifiers.
+
 ghost use Rattle.std.specs.Prelude.{◌≡◌, ◌<◌, length, Ok};
 ghost use Rattle.ss_program.specs.ProgramSound.{IsSoundPhrase, IsSoundExpr, IsSoundSetRef, IsSoundOption, IsSoundBegin};
 ghost use Rattle.ss_program.specs.ProgramSound.{AreSoundQualifiers};
@@ -25,7 +27,7 @@ fn candidate_within(direction: Direction, last: i64, x: i64) -> Option<i64>
     if is_within { Some(x) } else { None }
 }
 
-/// The number behind another one; none past the last, or past the integers' end.
+/// The number after another one; none past the last, or past the integers' end.
 fn next_number(direction: Direction, last: i64, step: i64, x: i64) -> Option<i64>
     ensures { result ≡ loops.next_number direction last step x }
 {
@@ -48,7 +50,7 @@ fn as_candidate(member: Option<u32>) -> Option<i64>
     }
 }
 
-/// The member at the end where a walk in this direction begins, or none.
+/// The member at the end at which a walk in this direction begins, or none.
 fn end_member<S: SetBoard>(
     view: View<'_, S>,
     direction: Direction,
@@ -64,7 +66,7 @@ fn end_member<S: SetBoard>(
     }
 }
 
-/// The member behind another one in this direction, or none.
+/// The member after another one in this direction, or none.
 fn member_behind<S: SetBoard>(
     view: View<'_, S>,
     direction: Direction,
@@ -81,7 +83,7 @@ fn member_behind<S: SetBoard>(
     }
 }
 
-/// The candidate behind another one; F14 where that one has left its list.
+/// The candidate after another one; F14 if that one has left its list.
 pub fn next_candidate<S: SetBoard>(
     view: View<'_, S>,
     walk: Walk,
@@ -107,7 +109,7 @@ pub fn next_candidate<S: SetBoard>(
     }
 }
 
-/// The value that names a member of the list; F5 where that is not in the list.
+/// The value that names a member of the list; F5 if the member is not in the list.
 fn member_named<S: SetBoard>(
     view: View<'_, S>,
     set: usize,
@@ -124,7 +126,7 @@ fn member_named<S: SetBoard>(
     }
 }
 
-/// The member of the list that a value names; F5 where that is not in the list.
+/// The member of the list that a value names; F5 if the member is not in the list.
 fn member_got<S: SetBoard>(
     view: View<'_, S>,
     set: usize,
@@ -292,7 +294,7 @@ pub fn loop_variable(phrase: &Phrase) -> Variable
     }
 }
 
-/// What the qualifiers say, in written order, or the first fault.
+/// The verdict of the qualifiers, in written order, or the first fault.
 pub fn verdict<S: SetBoard>(view: View<'_, S>, qualifiers: &Qualifiers) -> Result<Verdict, RunFault>
     requires { InView view AreSoundQualifiers qualifiers.now }
     ensures { Gives result (loops.verdict_of (view_readings view.entry) qualifiers.now)

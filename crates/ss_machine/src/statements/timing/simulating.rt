@@ -114,7 +114,7 @@ impl<S: SetBoard> Executor<S> {
         Ok(())
     }
 
-    /// Starts the event of the least notice, or goes on where none is pending.
+    /// Starts the event of the least notice, or goes on if none is pending.
     fn simulate(&mut self, program: &Program, next: usize) -> Result<(), AllocError>
         requires well { IsInBounds program.now (state self.old) }
         requires main { is_main (section_of program.now (state self.old).frame.section) ≡ true }

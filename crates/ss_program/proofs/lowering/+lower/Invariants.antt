@@ -4,7 +4,7 @@ use Rattle.ss_program.specs.ProgramExpr.{expr_of, term_of, factor_of, signed_of,
 use Rattle.ss_program.specs.Lowering.{lowered, lowered_term, sums_onto, products_onto}
 use Rattle.ss_program.proofs.lowering.+lower.Given as goal
 
--- the size of what is read
+-- the size of the tree that is read
 abbrev pub decreases-lower_sum : goal.decreases-lower_sum
 decreases-lower_sum l = goal.size-lower_sum l
 

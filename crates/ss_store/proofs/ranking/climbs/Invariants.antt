@@ -5,7 +5,7 @@ use Rattle.ss_store.proofs.SearchPlaces.{rest_from}
 use Rattle.ss_store.proofs.Climbing.{Walks}
 use Rattle.ss_store.proofs.ranking.climbs.Given as goal
 
--- none that was passed ranks behind one that stands later
+-- no member that was passed ranks after a later one
 abbrev pub invariant-loop-at : goal.invariant-loop-at
 invariant-loop-at g l = Walks (seat_after l.entities l.numbers l.keys l.class)
     (list_at (g.S.SetBoard.board l.board).lists l.head) l.before l.at

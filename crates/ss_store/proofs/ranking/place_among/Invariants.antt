@@ -7,7 +7,7 @@ use Rattle.ss_store.specs.Parts.{number_at}
 use Rattle.ss_store.proofs.SearchPlaces.{rest_from}
 use Rattle.ss_store.proofs.ranking.place_among.Given as goal
 
--- the list is what was passed, none of which ranks behind, and what is left
+-- the list is the seats that were passed, none of which ranks after, and the seats that are left
 abbrev pub invariant-loop-at : goal.invariant-loop-at
 invariant-loop-at g l = Among (list_at (g.S.SetBoard.board l.board).lists l.head)
     (λ t. is_gt (by_keys l.keys (keys_in l.entities l.keys l.class (number_at l.numbers t)) (key_values l.keys l.ours)))

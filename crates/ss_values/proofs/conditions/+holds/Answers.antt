@@ -3,7 +3,7 @@ use Rattle.std.proofs.lemmas.Grind as steps
 use Rattle.ss_program.specs.declared.condition.Relation.TheFolds as folds
 use Rattle.ss_values.proofs.conditions.+holds.Goals as goal
 
--- what the tactics show late, by the one that shows it
+-- goals that the tactics prove only late, here by the tactic that proves them
 pub all_hold-returns-then-not-truth : goal.all_hold-returns-then-not-truth
 all_hold-returns-then-not-truth g c = grind (usual.arith, steps.common_steps) steps 2000000
 

@@ -15,7 +15,7 @@ decreases-all_hold g l = goal.size-all_hold g l
 abbrev pub decreases-relation_holds : goal.decreases-relation_holds
 decreases-relation_holds g l = goal.size-relation_holds g l
 
--- the conjunctions that are left, behind this truth, decide
+-- the conjunctions that are left, after this truth, decide
 abbrev pub invariant-any_holds-loop-further : goal.invariant-any_holds-loop-further
 invariant-any_holds-loop-further g l = record {
   sound : InView l.view AreSoundConjunctions
@@ -25,7 +25,7 @@ invariant-any_holds-loop-further g l = record {
       ≡ holds (view_readings l.view) (condition_of l.fn.c);
 }
 
--- the relations that are left, behind this truth, decide
+-- the relations that are left, after this truth, decide
 abbrev pub invariant-all_hold-loop-further : goal.invariant-all_hold-loop-further
 invariant-all_hold-loop-further g l = record {
   sound : InView l.view AreSoundRelations (relations_of (map relation_of (drop l.further-index l.further-items)));

@@ -4,7 +4,7 @@ use borrow.Author.Tests as branches
 use Rattle.ss_program.specs.declared.sum.Factor.TheFolds as folds
 use Rattle.ss_values.proofs.evaluation.+value.Goals as goal
 
--- what the tactics show late, by the one that shows it
+-- goals that the tactics prove only late, here by the tactic that proves them
 pub factor_value-member_kept-requires : goal.factor_value-member_kept-requires
 factor_value-member_kept-requires g c =
     grind (folds.the_lemmas, usual.arith, steps.common_steps) steps 2000000

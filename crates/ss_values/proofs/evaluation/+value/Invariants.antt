@@ -8,7 +8,7 @@ use Rattle.ss_values.specs.Values.{least_value}
 use Rattle.ss_values.specs.Seen.{view_readings, scope_of}
 use Rattle.ss_values.proofs.evaluation.+value.Given as goal
 
--- twice the size of what is read, and one more where that is handed on whole
+-- twice the size of the tree that is read, and one more if the whole tree is handed on
 abbrev pub decreases-entity_named : goal.decreases-entity_named
 decreases-entity_named g l = 2 * goal.size-entity_named g l
 

@@ -8,12 +8,15 @@ use Rattle.ss_values.specs.Values.{least_value}
 use Rattle.ss_values.specs.Seen.{view_readings, scope_of}
 use Rattle.ss_values.proofs.fast.+fast.Given as goal
 
--- twice the size of what is read, and one more where that is handed on whole
+-- twice the size of the tree that is read, and one more if the whole tree is handed on
 abbrev pub decreases-entity_or_none : goal.decreases-entity_or_none
 decreases-entity_or_none g l = 2 * goal.size-entity_or_none g l
 
 abbrev pub decreases-factor_or_none : goal.decreases-factor_or_none
 decreases-factor_or_none g l = 2 * goal.size-factor_or_none g l + 1
+
+abbrev pub decreases-attribute_or_none : goal.decreases-attribute_or_none
+decreases-attribute_or_none g l = 2 * goal.size-attribute_or_none g l
 
 abbrev pub decreases-far_factor_or_none : goal.decreases-far_factor_or_none
 decreases-far_factor_or_none g l = 2 * goal.size-far_factor_or_none g l

@@ -4,7 +4,7 @@ use Rattle.ss_values.specs.Seen.{view_readings, scope_of}
 use Rattle.ss_values.specs.Running.{IsSoundOp, run}
 use Rattle.ss_values.proofs.running.run_ops.Given as goal
 
--- the operations that are left bring the accumulator to what all make of 0
+-- the operations that are left bring the accumulator to the result of all from 0
 abbrev pub invariant-loop-op : goal.invariant-loop-op
 invariant-loop-op g l = record {
   sound : All (IsSoundOp (scope_of (view_readings l.view))) (drop l.op-index l.code);

@@ -10,7 +10,7 @@ changes_left : (g : given.Over) (c : goal.After-drop-drain g)
     → c.drop-drain.new.self.0.items ≡ drop c.count_before-past.result c.self.inside.changes.items
 changes_left g c = c.drop-drain.ensures.items ∙ c.drain.ensures.kept
 
--- the changes that are kept, and behind them those that are not
+-- the changes that are kept, and after them those that are not
 all_parted : (g : given.Over) (c : goal.After-drop-drain g)
     → reverse c.self.inside.changes.items
     ≡ reverse c.drop-drain.new.self.0.items ++ reverse (take c.count_before-past.result c.self.inside.changes.items)

@@ -1,7 +1,7 @@
 use Rattle.std.proofs.Common.{◌≡◌, ◌+◌, ◌-◌, length, sum, take}
 use Rattle.ss_byte_journal.proofs.step_sizes.StepSizes.forget.Given as goal
 
--- so many sizes were taken out
+-- each turn has taken out one size, the oldest first
 abbrev pub invariant-loop : goal.invariant-loop
 invariant-loop l = record {
   sizes : l.self.sizes ≡ take (length l.fn.self.sizes - l.counter) l.fn.self.sizes;

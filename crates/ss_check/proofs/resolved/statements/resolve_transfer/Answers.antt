@@ -5,7 +5,7 @@ use Rattle.ss_routines.specs.declared.tree.simple.Listing.TheVariants.{Unwritten
 use Rattle.ss_check.specs.Resolved.{resolved_listing}
 use Rattle.ss_check.proofs.resolved.statements.resolve_transfer.Goals as goal
 
--- how a list is written does not depend on what is listed
+-- how a list is written does not depend on the parts that are listed
 listing_same : {X A : Type 0} (f : X → A) (l : Listing X) →
     resolved_listing (listing_view (λ (x : X). x) l) ≡ resolved_listing (listing_view f l)
 listing_same f Unwritten = refl

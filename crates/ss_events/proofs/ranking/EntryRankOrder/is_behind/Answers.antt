@@ -10,7 +10,7 @@ use Rattle.ss_events.proofs.BeforeLaws.{int-apart}
 use Rattle.ss_events.proofs.Due.{time-of}
 use Rattle.ss_events.proofs.ranking.EntryRankOrder.is_behind.Goals as goal
 
--- the times decide, where they are different
+-- the times decide, if they are different
 pub returns-then-self-time : goal.returns-then-self-time
 returns-then-self-time c =
     let rules_of = map rule_of c.args.self.now.rules.now in

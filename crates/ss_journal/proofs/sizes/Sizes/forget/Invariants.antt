@@ -1,7 +1,7 @@
 use Rattle.std.proofs.Common.{◌≡◌, ◌+◌, ◌-◌, length, sum, take}
 use Rattle.ss_journal.proofs.sizes.Sizes.forget.Given as goal
 
--- so many sizes were taken out
+-- n sizes were taken out; n is the counter
 abbrev pub invariant-loop : goal.invariant-loop
 invariant-loop l = record {
   sizes : l.self.sizes ≡ take (length l.fn.self.sizes - l.counter) l.fn.self.sizes;

@@ -62,7 +62,7 @@ into_box_spec 𝓤 𝓛 𝓜 𝓡 wired X Z LX LZ g d dd allocator met_drop =
     first ! $ blocks ! $ sets ! (of_opd ! (get ! refl)) refl fits $
     move ! (4 ∷ []) $ split3 ! $ move ! (2 ∷ []) $ drop ! $
     move ! (1 ∷ 2 ∷ []) $ join ! $ move ! (1 ∷ 0 ∷ []) $ join ! $
-    -- [what the callee asks for; the allocator; nothing; the tokens]
+    -- [the callee's requirements; the allocator; nothing; the tokens]
     move ! (2 ∷ []) $ feq_i ! (List Val) (vptr b o ∷ []) (vptr b o ∷ []) refl $ fjoin ! $
     move ! (2 ∷ 0 ∷ []) $ fjoin ! $ move ! (2 ∷ 0 ∷ []) $ join ! $ join ! $ use1 𝓛 (raw (G.pre z)) (id⊢ 𝓤 _) $
     let called = code.calls-std_alloc::boxed::Box::from_raw 𝓡.env wired in

@@ -55,7 +55,7 @@ of_spec 𝓤 𝓛 𝓜 𝓡 wired X Z LX LZ g d dd dx allocator met_drop glue =
     fjoin ! $ move ! (1 ∷ 0 ∷ []) $ join ! $ join ! $ use1 𝓛 (raw (G.pre z)) (id⊢ 𝓤 _) $
     let Runs = λ (us : List Val). prop (WpFn 𝓤 𝓛.H 𝓣.C 𝓣.Λ fn us (W.post y)) in
     regoal ! Runs (λ i. ws i ++ []) refl $
-    -- [what the callee asks for]
+    -- [the callee's requirements]
     enter ! _ _ _ _ _ $ alloc_all ! (λ l. pass_all ! refl (typed, tt) $
     sets ! (of_opd ! (get ! refl)) refl typed $
     let called = code.calls-std_alloc::boxed::Box::into_raw_with_allocator 𝓡.env wired in

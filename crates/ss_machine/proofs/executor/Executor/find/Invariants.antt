@@ -3,7 +3,7 @@ use Rattle.ss_machine.specs.Noting.{Notes}
 use Rattle.ss_state.specs.Statements.Looping.{state_with_found, state_with_loops}
 use Rattle.ss_machine.proofs.executor.Executor.find.Given as goal
 
--- so many loops are closed
+-- `counter` loops are closed
 abbrev pub invariant-loop : goal.invariant-loop
 invariant-loop g l = record {
   state : l.self.held.state ≡ state_with_loops (state_with_found l.fn.self.held.state true)

@@ -3,7 +3,7 @@ use Rattle.ss_journal.specs.Undoing.{unapply_all, FitsAll}
 use Rattle.ss_state.specs.Change.{Fits, unapply}
 use Rattle.ss_machine.proofs.executor.Executor.roll_back.Given as goal
 
--- what is left to take back fits, and leads to the same state
+-- the changes left to take back fit, and lead to the same state as all of them
 abbrev pub invariant-loop : goal.invariant-loop
 invariant-loop g l = record {
   leads : unapply_all unapply l.self.journal.current l.self.held

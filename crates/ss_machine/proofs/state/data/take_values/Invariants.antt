@@ -3,7 +3,7 @@ use Rattle.ss_values.specs.Faults.{◌>>=◌}
 use Rattle.ss_state.specs.Statements.Reading.{values_taken}
 use Rattle.ss_machine.proofs.state.data.take_values.Given as goal
 
--- the values taken so far, and behind them those for the targets that are left, are the values of all
+-- the values taken so far, and after them those for the targets left, are the values of all
 abbrev pub invariant-loop-target : goal.invariant-loop-target
 invariant-loop-target l = record {
   items : l.feed.items ≡ l.fn.feed.items;

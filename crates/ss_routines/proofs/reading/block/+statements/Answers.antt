@@ -17,7 +17,7 @@ use Rattle.ss_routines.proofs.NotingRooms.{for_done, for_undone}
 use Rattle.ss_routines.proofs.PartAnswers.{stops, stops_behind, gives_behind}
 use Rattle.ss_routines.proofs.reading.block.+statements.Goals as goal
 
--- a statement, where so many may be open
+-- a statement, with the rooms for IFs and phrases
 abbrev item : List ℕ → ℕ → ℕ → ℕ → List Spot → Reading (Bool × List Spot)
 item lines n i f = noting_statement lines n (noting_if lines n i f) (noting_loop lines n (noting_if lines n i) f)
 

@@ -4,7 +4,7 @@ use Rattle.ss_words.specs.Words.{word_at}
 use Rattle.ss_words.proofs.TextIsTracked.{tracked-push}
 use Rattle.ss_words.proofs.scan.collected.Collected.push.Goals as goal
 
--- what is kept of the words stays true of them
+-- the tracked facts about the words stay true of them
 pub invariant_of-self-2 : goal.invariant_of-self-2
 invariant_of-self-2 c =
     rw (
