@@ -30,6 +30,7 @@ SESSION = """simscript2-mode
 ssdap-debug MAIN 18 18
 dap-continue CLOSING 54 54
 T 2
+shown T: 2 x.sim
 dap-next CLOSING 55 55
 ssdap-step-back CLOSING 54 54
 dap-continue CLOSING 58 58
