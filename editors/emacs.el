@@ -5,7 +5,8 @@
 ;; With dap-mode, in a buffer with a model: C-c C-d starts the debugger, over x.data if it is beside x.sim; C-c C-k sets
 ;; or clears a break point; C-c C-n, C-s, C-o and C-c go on (next, step in, step out, continue), C-c C-b and C-r go
 ;; back (step back, reverse continue); C-c C-w stops at each change of what a question asks, as SET LINE.UP 2, in both
-;; directions, and with a prefix argument at no change more; C-c C-e is the console.
+;; directions, and with a prefix argument at no change more; C-c C-v shows the variables, C-c C-e is the console, and
+;; C-c C-q ends the session.
 
 ;;; Code:
 
@@ -35,10 +36,13 @@
                        :model dape-buffer-default :stopOnEntry t)))
 
 ;; dap-mode
+;; lsp-treemacs 0.4, which shows the variables, reads this; treemacs has it from version 3 on.
+(defvar treemacs-text-scale nil)
 (declare-function dap-debug "dap-mode")
 (declare-function dap-register-debug-provider "dap-mode")
 (declare-function dap-register-debug-template "dap-mode")
 (declare-function dap-request "dap-mode")
+(declare-function dap-ui-locals "dap-ui")
 (declare-function dap--cur-session-or-die "dap-mode")
 (declare-function dap--debug-session-launch-args "dap-mode")
 (declare-function dap--debug-session-metadata "dap-mode")
@@ -74,6 +78,11 @@
                    :breakpoints (apply #'vector (mapcar (lambda (it) (list :dataId it)) (gethash 'ssdap kept))))
       (message "Stops at changes of: %s" (or (gethash 'ssdap kept) "nothing")))))
 
+(defun ssdap-variables ()
+  "Show the variables in a window of their own, and leave the focus where it is."
+  (interactive)
+  (save-selected-window (dap-ui-locals)))
+
 (defun ssdap-show-frame (show session frame)
   "Call SHOW to show FRAME of SESSION, and leave the focus where it is, in the console too."
   (let ((path (and frame (dap--get-path-for-frame frame))))
@@ -92,7 +101,8 @@
   (pcase-dolist (`(,key . ,command) '(("C-d" . ssdap-debug) ("C-k" . dap-breakpoint-toggle) ("C-n" . dap-next)
                                       ("C-s" . dap-step-in) ("C-o" . dap-step-out) ("C-c" . dap-continue)
                                       ("C-b" . ssdap-step-back) ("C-r" . ssdap-reverse-continue)
-                                      ("C-w" . ssdap-watch) ("C-e" . dap-ui-repl)))
+                                      ("C-w" . ssdap-watch) ("C-v" . ssdap-variables) ("C-e" . dap-ui-repl)
+                                      ("C-q" . dap-disconnect)))
     (define-key simscript2-mode-map (kbd (concat "C-c " key)) command)))
 
 ;;; emacs.el ends here

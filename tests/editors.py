@@ -11,6 +11,11 @@ from programs import ROOM, TOP, read, run, started, text_of, write
 KINDS = {"object": dict, "array": list, "string": str, "boolean": bool}
 # How Vim and Neovim say the type of a file.
 SAYS = ["-c", "redir! > said", "-c", "set filetype?", "-c", "redir END", "-c", "qa!"]
+# How they say what is at signs of the bank: the dropped word of line 9, THUS of line 24, and the first sign and the end
+# of its picture; and what these are.
+SIGNS = "[[9, 24], [24, 51], [25, 1], [26, 10]]"
+COLOURS = f"echo join(map({SIGNS}, {{_, it -> synIDattr(synID(it[0], it[1], 1), 'name')}}))"
+COLOURED = "filetype=simscript2 simDropped simStatement simField simPicture"
 # What is loaded in place of nvim-dap, and says what it was configured with.
 STUB = "package.loaded.dap = { adapters = {}, configurations = {} }\n"
 CONFIGURED = """
@@ -25,6 +30,7 @@ SESSION = """simscript2-mode
 ssdap-debug MAIN 18 18
 dap-continue CLOSING 54 54
 T 2
+shown T: 2 x.sim
 dap-next CLOSING 55 55
 ssdap-step-back CLOSING 54 54
 dap-continue CLOSING 58 58
@@ -58,12 +64,12 @@ def start(folder, *words):
 
 
 def wrong_type(name, config, *words):
-    """Returns what is wrong with the type of a model in an editor that has the files of editors/vim."""
+    """Returns what is wrong with a model, its type and its colours, in an editor that has the files of editors/vim."""
     folder = home(name)
     for part in ("ftdetect", "syntax"):
         shutil.copytree(f"{TOP}/editors/vim/{part}", f"{folder}/{config}/{part}")
-    found = start(folder, name, *words, "x.sim", *SAYS)
-    return "" if found.strip() == "filetype=simscript2" else found
+    found = start(folder, name, *words, "x.sim", "-c", "syntax on", *SAYS[:4], "-c", COLOURS, *SAYS[4:])
+    return "" if found.split() == COLOURED.split() else found
 
 
 def wrong_lines():

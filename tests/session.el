@@ -3,6 +3,8 @@
 ;; tests/editors.py runs it over x.sim, the model of the bank. It does what a user does, by the keys of
 ;; editors/emacs.el, and writes a line for each thing that is seen to the file `said`.
 
+(defvar dap-ui--locals-buffer)
+
 (defvar stops 0 "How many times a frame was shown.")
 
 (defun say (&rest parts)
@@ -36,6 +38,16 @@
          (rows (dap-request session "variables" :variablesReference (gethash "variablesReference" scope))))
     (say name (gethash "value" (part rows "variables" name)))))
 
+(defun say-shown (row)
+  "Say the first row that matches ROW of the window that shows the variables, and which buffer has the focus then."
+  (call-interactively (key-binding (kbd "C-c C-v")))
+  ;; A timer does this when Emacs is idle, which it never is in batch.
+  (dap-ui-locals--refresh)
+  (say "shown" (with-current-buffer dap-ui--locals-buffer
+                 (goto-char (point-min))
+                 (and (re-search-forward row nil t) (match-string 0)))
+       (buffer-name)))
+
 (defun say-console (line)
   "Type LINE in the console, and say which buffer has the focus then."
   (let ((before stops))
@@ -55,6 +67,7 @@
 (press "C-c C-d")
 (press "C-c C-c")
 (say-local "T")
+(say-shown "\\_<T: .*")
 (press "C-c C-n")
 (press "C-c C-b")
 (ssdap-watch "SET LINE.UP 2")

@@ -18,13 +18,14 @@ syntax keyword simStatement ELSE OTHERWISE ALWAYS REGARDLESS FOUND NONE NOT EMPT
 syntax keyword simStatement GT GR LE GE FOR BACK REVERSE WITH UNLESS WHILE UNTIL DO LOOP REPEAT FIND
 syntax keyword simStatement CASE COMPUTE NUMBER SUM MAXIMUM MINIMUM SCHEDULE CAUSE CANCEL NOW UNIT
 syntax keyword simStatement UNITS DAY DAYS START SIMULATION STOP CALL RETURN READ PRINT LINE LINES
-syntax keyword simStatement THUS FOLLOWS SKIP
+syntax keyword simStatement SKIP
+syntax keyword simStatement THUS FOLLOWS nextgroup=simPicture skipwhite skipnl
 
 syntax match simNumber "\<\d\+\>"
 syntax match simKept "\<\([NFLPSM]\.[A-Z0-9.]\+\|TIME\.V\)\>"
 syntax region simComment start="''" end="''\|$"
-" A picture: the lines behind THUS, up to the next statement.
-syntax region simPicture start="\<THUS\s*$"hs=e+1 end="^\ze\s*\(END\|LET\|ADD\|SUBTRACT\|CREATE\|DESTROY\|FILE\|REMOVE\|IF\|ELSE\|OTHERWISE\|ALWAYS\|REGARDLESS\|FOR\|WHILE\|UNTIL\|DO\|LOOP\|REPEAT\|FIND\|COMPUTE\|SCHEDULE\|CAUSE\|CANCEL\|START\|STOP\|CALL\|RETURN\|READ\|PRINT\|SKIP\)\>" contains=simField
+" A picture: the lines after THUS or AS FOLLOWS, up to the next statement. `rs=s`: its first sign may be a field.
+syntax region simPicture contained start="."rs=s end="^\ze\s*\(END\|LET\|ADD\|SUBTRACT\|CREATE\|DESTROY\|FILE\|REMOVE\|IF\|ELSE\|OTHERWISE\|ALWAYS\|REGARDLESS\|FOR\|WHILE\|UNTIL\|DO\|LOOP\|REPEAT\|FIND\|COMPUTE\|SCHEDULE\|CAUSE\|CANCEL\|START\|STOP\|CALL\|RETURN\|READ\|PRINT\|SKIP\)\>" contains=simField
 syntax match simField "\*\+" contained
 
 highlight default link simDropped NonText
