@@ -40,10 +40,15 @@ def sum_of(parts):
     return hashlib.sha256(b"".join(b"%d %s" % (len(it), it) for it in parts)).hexdigest()[:8]
 
 
+def bare(text):
+    """Returns a text without its lines of comments, which change no verdict."""
+    return re.sub(rb"(?m)^[ \t]*(?://|--).*\n?", b"", text)
+
+
 def files_below(folder):
-    """Returns the names of a folder's files, and what is in each."""
+    """Returns the names of a folder's files, and each file without comments."""
     found = sorted(filter(os.path.isfile, glob.glob(f"{folder}/**", recursive=True)))
-    return [part for it in found for part in (os.path.relpath(it, folder), read(it))]
+    return [part for it in found for part in (os.path.relpath(it, folder), bare(read(it)))]
 
 
 def own_sum(text, edit):
@@ -51,7 +56,8 @@ def own_sum(text, edit):
     written of its proof; where it is of no function, of the files that it changes."""
     parts = [text.crate.name, os.path.basename(edit.path), read(edit.path)]
     for it in edit.functions:
-        parts += text.lines[it.file][it.first : it.last + 1]
+        function = "\n".join(text.lines[it.file][it.first : it.last + 1])
+        parts.append(bare(function.encode()))
         parts += files_below(f"{text.crate.folder}/{text.folder(it)}")
     for file in [] if edit.functions else sorted(edit.lines):
         parts += text.lines.get(file, [])
@@ -107,7 +113,7 @@ def defined_sum(text, edit):
     for it in edit.functions:
         own, declared = contracts(text, it)
         found |= declared.union(*map(reached, own | declared))
-    return sum_of(part for it in sorted(found) for part in (os.path.relpath(it, TOP), read(it)))
+    return sum_of(part for it in sorted(found) for part in (os.path.relpath(it, TOP), bare(read(it))))
 
 
 class Tried:
