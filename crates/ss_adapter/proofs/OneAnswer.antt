@@ -25,7 +25,7 @@ use Rattle.ss_adapter.specs.Going.{going_of, going_answer, state_behind, watched
 use Rattle.ss_adapter.specs.Console.{point_told}
 use Rattle.ss_adapter.specs.Turn.{AdapterState, report_at, untold_output, stop_events, end_by, end_of}
 use Rattle.ss_adapter.specs.Turn.{behind_movement, behind_going, going_to_stop, point_behind, behind_command}
-use Rattle.ss_adapter.specs.Turn.{console_after, answer_to_question, answer_on_fault}
+use Rattle.ss_adapter.specs.Turn.{console_command, console_after, answer_to_question, answer_on_fault}
 use Rattle.ss_adapter.specs.Turn.{answer_to_goto, going_to_state, answers_elsewhere}
 use Rattle.ss_adapter.specs.Turn.{answer_about_run, told_debugged, told_by, undebugged_count, answers_by, answer_to_configuration}
 use Rattle.ss_adapter.specs.Turn.{exit_events, stopped_event, reply_with_stop, reply_with_going, source_messages}
@@ -141,8 +141,8 @@ unfolding told_debugged answer_about_run
 standing_answered state ConfigurationDone = configuration_answered state
 standing_answered state (Goto target) = goto_answered state target
 standing_answered state (Obey text) =
-    command_told state (prompt_command_of state.input.program text)
-    (is_movement (prompt_command_of state.input.program text))
+    command_told state (console_command (prompt_command_of state.input.program text))
+    (is_movement (console_command (prompt_command_of state.input.program text)))
 standing_answered state (Ask text) =
     question_answered state.input state.debugger.position (asked_of state.input.program text)
 standing_answered state (Source reference) = source_answered (report_at state.input state.debugger) reference

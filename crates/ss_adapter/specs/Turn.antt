@@ -11,6 +11,8 @@ use Rattle.ss_debug.specs.View.{DebuggerView, debugger_state_of}
 use Rattle.ss_trace.specs.declared.question.Question.{Question}
 use Rattle.ss_trace.specs.Value.{value_at}
 use Rattle.ss_prompt.specs.declared.commands.PromptCommand.{PromptCommand}
+use Rattle.ss_prompt.specs.declared.commands.PromptCommand.TheVariants.{Plain, ClearAll}
+use Rattle.ss_debug.specs.declared.commands.Command.TheVariants.{Bad}
 use Rattle.ss_prompt.specs.declared.missing.Missing.{Missing as NoName}
 use Rattle.ss_prompt.specs.PromptState.{PromptState}
 use Rattle.ss_prompt.specs.Points.{is_movement, point_of}
@@ -158,7 +160,7 @@ going_to_stop state =
 abbrev pub reply_with_stop : Input → ℕ → List ℕ → List Sent
 reply_with_stop input p reason = reply (codes "{}") ∷ stopped_event reason (without_last (state_line input p)) None ∷ []
 
--- the console is a prompt over the debugger
+-- the console is a prompt over the debugger, in which LIST does not go on
 abbrev pub at_console : AdapterState → PromptState
 at_console state = record {
   model = state.desk.model;
@@ -166,6 +168,7 @@ at_console state = record {
   input = state.input;
   debugger = state.debugger;
   displays = state.desk.displays;
+  listed = None;
 }
 
 -- the answer of the prompt to a command
@@ -194,10 +197,19 @@ behind_command state command true =
     (first_line (console_answer state command)) None
 behind_command state command false = point_behind state command (point_of state.input.program command)
 
--- a command of the console: the answer of the prompt, and the messages after it
-abbrev pub answer_to_line : AdapterState → PromptCommand → List Sent
-answer_to_line state command =
+-- a command as the console takes it: CLEAR needs a line, since an editor hears of one at a time
+abbrev pub console_command : PromptCommand → PromptCommand
+console_command ClearAll = Plain Bad
+console_command command = command
+
+-- a command that the console takes: the answer of the prompt, and the messages after it
+abbrev pub answer_to_command : AdapterState → PromptCommand → List Sent
+answer_to_command state command =
     reply (result_body (console_answer state command)) ∷ behind_command state command (is_movement command)
+
+-- a command of the console
+abbrev pub answer_to_line : AdapterState → PromptCommand → List Sent
+answer_to_line state command = answer_to_command state (console_command command)
 
 -- a question that is answered: by its value, if the program has its names
 abbrev pub answer_to_question : Input → ℕ → Option (Result Question NoName) → List Sent
@@ -361,9 +373,14 @@ abbrev pub desk_after : AdapterState → PromptCommand → Bool → DeskView
 desk_after state command true = told_with state.desk (report_at state.input (console_after state command).debugger)
 desk_after state command false = desk_behind state command (point_of state.input.program command)
 
+-- the state after a command that the console takes
+abbrev pub after_command : AdapterState → PromptCommand → AdapterState
+after_command state command =
+    left_at state (console_after state command) (desk_after state command (is_movement command))
+
 -- the state after a command of the console
 abbrev pub behind_line : AdapterState → PromptCommand → AdapterState
-behind_line state command = left_at state (console_after state command) (desk_after state command (is_movement command))
+behind_line state command = after_command state (console_command command)
 
 -- the state after break lines
 abbrev pub behind_setting : AdapterState → Setting → AdapterState

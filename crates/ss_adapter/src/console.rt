@@ -9,11 +9,12 @@ ghost use Rattle.ss_adapter.specs.Console.{has_place, point_told, first_line};
 ghost use Rattle.ss_adapter.specs.Console.{desk_with, desk_showing};
 ghost use Rattle.ss_adapter.specs.Turn.{adapter_state_of, console_answer, console_after};
 ghost use Rattle.ss_adapter.specs.Turn.{behind_command, left_at, desk_after, answer_to_line, behind_line};
+ghost use Rattle.ss_adapter.specs.Turn.{console_command};
 
 use crate::breaks::next_line;
 use crate::desk::{Desk, MOST_WATCHED};
 use crate::telling::tell_movement;
-use ss_debug::{Debugger, split_line};
+use ss_debug::{Command, Debugger, split_line};
 use ss_links::SetBoard;
 use ss_messages::{Post, Request, Source, new_point_body, removed_point_body, result_body};
 use ss_program::Program;
@@ -196,7 +197,18 @@ fn obey_standing<S: SetBoard>(
     tell_point(program, desk.source(), request, post, line, is_set, was_set)
 }
 
-/// Answers a line as the prompt does.
+/// A command as the console takes it: CLEAR needs a line, since an editor hears of one line at a
+/// time.
+fn console_command(command: PromptCommand) -> PromptCommand
+    ensures { result ≡ console_command command }
+{
+    match command {
+        PromptCommand::ClearAll => PromptCommand::Plain(Command::Bad),
+        other => other,
+    }
+}
+
+/// Answers a line as the prompt does, but for CLEAR without a line.
 pub fn obey_line<S: SetBoard>(
     debugger: &mut Debugger<S>,
     desk: &mut Desk,
@@ -214,6 +226,7 @@ pub fn obey_line<S: SetBoard>(
         (prompt_command_of debugger.old.machine.input.program line.now)) }
 {
     let command = prompt_command(debugger.machine().program(), line);
+    let command = console_command(command);
     if command.is_movement() {
         obey_movement(debugger, desk, request, post, command)
     } else {

@@ -1,8 +1,10 @@
 -- A desk over the lines of a model, with a debugger that is lent.
-use Rattle.std.proofs.Common.{◌≡◌, ℕ, List, [], refl, ap, ◌∙◌, sym}
+use Rattle.std.proofs.Common.{◌≡◌, ℕ, List, [], None, Result, Ok, Err, OnOk, OnErr, refl, ap, ◌∙◌, sym}
 use Rattle.ss_debug.specs.View.{DebuggerView}
 use Rattle.ss_trace.specs.declared.question.Question.{Question}
-use Rattle.ss_prompt.specs.PromptState.{PromptDeskView, with_questions, state_at, lent_state}
+use Rattle.ss_prompt.specs.PromptState.{PromptState, PromptDeskView, with_questions, state_at, lent_state, unlisted}
+use Rattle.ss_prompt.specs.Prompting.{IsRefused}
+use Rattle.ss_prompt.specs.declared.commands.PromptCommand.{PromptCommand}
 use Rattle.ss_prompt.specs.Source.{source_lines}
 
 -- a desk is that of a model, with these questions
@@ -13,7 +15,7 @@ pub record IsDeskOf (model : List ℕ) (displays : List Question) (k : PromptDes
 
 -- a new desk that took the questions
 pub taken : (model : List ℕ) (lines : List (List ℕ)) (displays : List Question) (new k : PromptDeskView) →
-    new ≡ record { model = model; lines = lines; displays = [] } → k ≡ with_questions new displays →
+    new ≡ record { model = model; lines = lines; displays = []; listed = None } → k ≡ with_questions new displays →
     lines ≡ source_lines model → IsDeskOf model displays k
 taken model lines displays new k n t l = record {
   model_is = ap (λ (v : PromptDeskView). v.model) t ∙ ap (λ (v : PromptDeskView). v.model) n;
@@ -31,7 +33,39 @@ given model displays others k after h m l d = record {
   displays_are = sym d;
 }
 
+-- no line is listed on it
+pub unlisted_still : (model : List ℕ) (lines : List (List ℕ)) (displays : List Question) (new k : PromptDeskView) →
+    new ≡ record { model = model; lines = lines; displays = []; listed = None } → k ≡ with_questions new displays →
+    k.listed ≡ None
+unlisted_still model lines displays new k n t =
+    ap (λ (v : PromptDeskView). v.listed) t ∙ ap (λ (v : PromptDeskView). v.listed) n
+
 -- the state of the prompt for a lent debugger is that of the debugger and such a desk
 pub lent_is : (d : DebuggerView) (model : List ℕ) (displays : List Question) (k : PromptDeskView) →
-    IsDeskOf model displays k → lent_state d model displays ≡ state_at d k
-lent_is d model displays k h = rw (h.model_is, h.lines_are, h.displays_are) refl
+    IsDeskOf model displays k → k.listed ≡ None → lent_state d model displays ≡ state_at d k
+lent_is d model displays k h l = rw (h.model_is, h.lines_are, h.displays_are, l) refl
+
+-- and so it is with any such desk, but for where LIST goes on
+pub lent_unlisted : (d : DebuggerView) (model : List ℕ) (displays : List Question) (k : PromptDeskView) →
+    IsDeskOf model displays k → lent_state d model displays ≡ unlisted (state_at d k)
+lent_unlisted d model displays k h = rw (h.model_is, h.lines_are, h.displays_are) refl
+
+-- after a command that was obeyed
+pub obeyed_so : {T E : Type 0} (result : Result T E) (a b : PromptState) → OnOk result (a ≡ b) →
+    OnOk result (unlisted a ≡ unlisted b)
+obeyed_so (Ok value) a b e = ap unlisted e
+obeyed_so (Err error) a b e = e
+
+-- the desk if memory was refused: no line is listed on it
+pub none_listed : {T E : Type 0} (result : Result T E) (k after : PromptDeskView) → k.listed ≡ None →
+    OnErr result (after.listed ≡ k.listed) → OnErr result (after.listed ≡ None)
+none_listed (Ok value) k after e h = h
+none_listed (Err error) k after e h = h ∙ e
+
+-- after a command for which memory was refused
+pub refused_so : {T E : Type 0} (result : Result T E) (s : PromptState) (command : PromptCommand) (d : DebuggerView)
+    (model : List ℕ) (displays : List Question) (k : PromptDeskView) → IsDeskOf model displays k →
+    OnErr result (k.listed ≡ None) → OnErr result (IsRefused s command (state_at d k)) →
+    OnErr result (IsRefused s command (lent_state d model displays))
+refused_so (Ok value) s command d model displays k i l h = h
+refused_so (Err error) s command d model displays k i l h = rw (lent_is d model displays k i l) h

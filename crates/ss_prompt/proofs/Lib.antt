@@ -14,4 +14,7 @@ pub mod Quits
 pub mod Others
 pub mod Searches
 pub mod StopRefusals
+pub mod Once
+pub mod Cleared
+pub mod Listed
 pub mod MissingLaws

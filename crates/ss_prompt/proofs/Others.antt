@@ -1,14 +1,16 @@
 -- The parts of the state that commands leave as they are.
-use Rattle.std.proofs.Common.{◌≡◌, ℕ, Bool, true, false, nat_le, Option, Some, None, refl}
-use Rattle.ss_debug.specs.Turn.{debugger_state_after}
+use Rattle.std.proofs.Common.{◌≡◌, ℕ, Bool, true, false, nat_le, List, [], ◌∷◌, Option, Some, None, refl, ◌∙◌}
+use Rattle.ss_state.specs.Run.{Input}
+use Rattle.ss_debug.specs.Turn.{DebuggerState, debugger_state_after}
 use Rattle.ss_debug.specs.declared.commands.Command.{Command}
 use Rattle.ss_debug.specs.declared.commands.Command.TheVariants as plain
 use Rattle.ss_prompt.specs.declared.commands.PromptCommand.{PromptCommand}
 use Rattle.ss_prompt.specs.declared.commands.PromptCommand.TheVariants as prompt
 use Rattle.ss_debug.specs.declared.limits.TheConstants.{GREATEST_LINE}
+use Rattle.ss_prompt.specs.Cleared.{after_clear}
 use Rattle.ss_prompt.specs.Laws.{OthersLeaveTheBreakLines, OthersStandStill}
 use Rattle.ss_prompt.specs.Points.{is_movement, point_of}
-use Rattle.ss_prompt.specs.Prompting.{prompt_state_after}
+use Rattle.ss_prompt.specs.Prompting.{prompt_state_after, state_led}
 use Rattle.ss_prompt.specs.PromptState.{PromptState}
 use Rattle.ss_prompt.specs.Sections.{command_on, taken_line, line_of_section, on_line_next}
 
@@ -40,29 +42,31 @@ on_line s make None h = refl
 on_line s make (Some line) h = untaken s make line (nat_le line GREATEST_LINE) refl h
 
 pub breaks : OthersLeaveTheBreakLines
-unfolding prompt_state_after
-breaks s (prompt.Plain command) h = plain_breaks s command h
-breaks s (prompt.Travel movement) h = refl
-breaks s (prompt.Lines line) h = refl
-breaks s (prompt.LinesBetween from to) h = refl
-breaks s (prompt.SectionLines name) h = refl
-breaks s (prompt.BreakSection name) h = on_line s plain.Break (line_of_section s.input.program name) h
-breaks s (prompt.NoPlace line next) h = refl
-breaks s (prompt.ClearSection name) h = on_line s plain.Clear (line_of_section s.input.program name) h
-breaks s prompt.Breaks h = refl
-breaks s (prompt.Ask question) h = refl
-breaks s (prompt.See sight) h = refl
-breaks s prompt.Changed h = refl
-breaks s (prompt.Why question) h = refl
-breaks s (prompt.History question rows) h = refl
-breaks s (prompt.Display question) h = refl
-breaks s prompt.Undisplay h = refl
-breaks s (prompt.UndisplayOne question) h = refl
-breaks s (prompt.Unread word numbered) h = refl
-breaks s (prompt.Missing missing) h = refl
-breaks s (prompt.Names name) h = refl
-breaks s prompt.Warnings h = refl
-breaks s (prompt.Help word) h = refl
+unfolding prompt_state_after state_led
+breaks s (prompt.Plain command) h k = plain_breaks s command h
+breaks s (prompt.Travel movement) h k = refl
+breaks s (prompt.Once line) h k = absurd (cc)
+breaks s (prompt.Lines line) h k = refl
+breaks s (prompt.LinesBetween from to) h k = refl
+breaks s (prompt.SectionLines name) h k = refl
+breaks s (prompt.BreakSection name) h k = on_line s plain.Break (line_of_section s.input.program name) h
+breaks s (prompt.NoPlace line next) h k = refl
+breaks s (prompt.ClearSection name) h k = on_line s plain.Clear (line_of_section s.input.program name) h
+breaks s prompt.ClearAll h k = absurd (cc)
+breaks s prompt.Breaks h k = refl
+breaks s (prompt.Ask question) h k = refl
+breaks s (prompt.See sight) h k = refl
+breaks s prompt.Changed h k = refl
+breaks s (prompt.Why question) h k = refl
+breaks s (prompt.History question rows) h k = refl
+breaks s (prompt.Display question) h k = refl
+breaks s prompt.Undisplay h k = refl
+breaks s (prompt.UndisplayOne question) h k = refl
+breaks s (prompt.Unread word numbered) h k = refl
+breaks s (prompt.Missing missing) h k = refl
+breaks s (prompt.Names name) h k = refl
+breaks s prompt.Warnings h k = refl
+breaks s (prompt.Help word) h k = refl
 
 -- ---- the position
 
@@ -92,10 +96,25 @@ stands_on : (s : PromptState) (make : ℕ → Command) (line : Option ℕ) →
 stands_on s make None h = refl
 stands_on s make (Some line) h = line_position s make line (nat_le line GREATEST_LINE) refl h
 
+-- CLEAR of a line
+clear_stands : (t : Input) (d : DebuggerState) (line : ℕ) (taken : Bool) → nat_le line GREATEST_LINE ≡ taken →
+    (debugger_state_after t d (command_on plain.Clear line)).position ≡ d.position
+unfolding debugger_state_after
+clear_stands t d line true e = rw e refl
+clear_stands t d line false e = rw e refl
+
+-- CLEAR of some lines
+all_stand : (t : Input) (d : DebuggerState) (lines : List ℕ) → (after_clear t d lines).position ≡ d.position
+all_stand t d [] = refl
+all_stand t d (line ∷ lines) =
+    all_stand t (debugger_state_after t d (command_on plain.Clear line)) lines
+    ∙ clear_stands t d line (nat_le line GREATEST_LINE) refl
+
 pub position : OthersStandStill
-unfolding prompt_state_after
+unfolding prompt_state_after state_led
 position s (prompt.Plain command) h = plain_position s command h
 position s (prompt.Travel movement) h = absurd (cc)
+position s (prompt.Once line) h = absurd (cc)
 position s (prompt.Lines line) h = refl
 position s (prompt.LinesBetween from to) h = refl
 position s (prompt.SectionLines name) h = refl
@@ -104,6 +123,7 @@ position s (prompt.BreakSection name) h =
 position s (prompt.NoPlace line next) h = refl
 position s (prompt.ClearSection name) h =
     stands_on s plain.Clear (line_of_section s.input.program name) (λ l. plain_position s (plain.Clear l) refl)
+position s prompt.ClearAll h = all_stand s.input s.debugger s.debugger.breaks
 position s prompt.Breaks h = refl
 position s (prompt.Ask question) h = refl
 position s (prompt.See sight) h = refl

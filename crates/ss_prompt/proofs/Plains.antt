@@ -16,7 +16,7 @@ use Rattle.ss_prompt.specs.declared.commands.PromptCommand.TheVariants.{Plain}
 use Rattle.ss_prompt.specs.Places.{next_line}
 use Rattle.ss_prompt.specs.Reading.{or_own, or_else, own_command_of, prompt_command_of, plain_command_of}
 use Rattle.ss_prompt.specs.Reading.{first_whole_command_of, plain_meant, break_command}
-use Rattle.ss_prompt.specs.Prompting.{prompt_answer, prompt_state_after}
+use Rattle.ss_prompt.specs.Prompting.{prompt_answer, prompt_state_after, state_led}
 use Rattle.ss_prompt.specs.Plain.{plain_stop}
 use Rattle.ss_prompt.specs.Laws.{PlainLinesStay, FewAreMeantOtherwise, IsMeant, PlainAnswersComeFirst}
 
@@ -115,5 +115,5 @@ few_others program (Show q) = show_few program q
 few_others program Quit = inl refl
 
 pub plain_answers : PlainAnswersComeFirst
-unfolding prompt_answer prompt_state_after
+unfolding prompt_answer prompt_state_after state_led
 plain_answers s command = ((plain_stop s command, refl), refl)

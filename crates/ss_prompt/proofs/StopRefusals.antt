@@ -38,10 +38,11 @@ same s after e = (
   ap (λ (v : PromptState). v.lines) e,
   ap (λ (v : PromptState). v.input) e,
   ap (λ (v : PromptState). v.displays) e,
+  ap (λ (v : PromptState). v.listed) e,
 )
 
 -- all but the debugger is the same
-beside : (s after : PromptState) → IsStopRefused s after → IsSameBeside s after
+pub beside : (s after : PromptState) → IsStopRefused s after → IsSameBeside s after
 unfolding IsStopRefused HasSearchedPast HasLookedBeside HasLookedBack
 beside s after (inl h) = h.0
 beside s after (inr (inl e)) = same s after e

@@ -1,8 +1,8 @@
 -- Definitions that functions unfold together.
 use Rattle.std.specs.Prelude.{⊤}
-use Rattle.ss_prompt.specs.Prompting.{prompt_answer, prompt_state_after, IsRefused}
+use Rattle.ss_prompt.specs.Prompting.{prompt_answer, state_led, IsRefused}
 
 -- a command's answer, and the states after it
 unfoldable pub commands : ⊤
-unfolding prompt_answer prompt_state_after IsRefused
+unfolding prompt_answer state_led IsRefused
 commands = tt

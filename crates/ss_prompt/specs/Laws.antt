@@ -1,11 +1,12 @@
 -- Laws of the prompt, in other words than those of its definitions.
-use Rattle.std.specs.Prelude.{ℕ, ℤ, ◌≡◌, ◌⊎◌, true, false, List, [], ◌∷◌}
+use Rattle.std.specs.Prelude.{ℕ, ℤ, ◌≡◌, ◌≤◌, ◌⊎◌, true, false, List, [], ◌∷◌}
 use Rattle.std.specs.Prelude.{◌++◌, map, ⊤, Option, Some, None, Err, is_some}
 use Rattle.ss_program.specs.Program.{ProgramTable}
 use Rattle.ss_debug.specs.declared.commands.Command.{Command}
 use Rattle.ss_debug.specs.declared.commands.Command.TheVariants.{Bad, Break, Show}
 use Rattle.ss_debug.specs.declared.commands.Question.TheVariants.{Variable, Entity, Set}
 use Rattle.ss_debug.specs.Entities.{class_named, set_named}
+use Rattle.ss_debug.specs.declared.limits.TheConstants.{GREATEST_LINE}
 use Rattle.ss_debug.specs.CommandLines.{command_lines}
 use Rattle.ss_debug.specs.Command.{command_of}
 use Rattle.ss_state.specs.Run.{Input, run}
@@ -17,8 +18,8 @@ use Rattle.ss_console.specs.Dialogue.{answered, state_after_all}
 use Rattle.ss_console.specs.Lines.{lines, kept_part}
 use Rattle.ss_console.specs.Laws.{answers}
 use Rattle.ss_prompt.specs.declared.commands.PromptCommand.{PromptCommand}
-use Rattle.ss_prompt.specs.declared.commands.PromptCommand.TheVariants.{Plain}
-use Rattle.ss_prompt.specs.Points.{is_movement, point_of}
+use Rattle.ss_prompt.specs.declared.commands.PromptCommand.TheVariants.{Plain, ClearAll}
+use Rattle.ss_prompt.specs.Points.{is_movement, point_of, clears_all}
 use Rattle.ss_prompt.specs.declared.missing.Missing.{Missing}
 use Rattle.ss_prompt.specs.declared.missing.Missing.TheVariants as missing
 use Rattle.ss_prompt.specs.Missing.{is_variable, has_attribute, listed, missing_text}
@@ -101,11 +102,21 @@ PlainTextsAnswerTheBatch =
     AnswersFirst s.input s.debugger (obeyed_lines (command_lines text))
     (answers prompt_meaning s (map kept_part (lines text)))
 
--- a command that names no line of the model leaves the break lines as they are
+-- a command that names no line of the model, and does not clear all, leaves the break lines
 abbrev pub OthersLeaveTheBreakLines : Type 0
 OthersLeaveTheBreakLines =
     (s : PromptState) (command : PromptCommand) → point_of s.input.program command ≡ None →
-    (prompt_state_after s command).debugger.breaks ≡ s.debugger.breaks
+    clears_all command ≡ false → (prompt_state_after s command).debugger.breaks ≡ s.debugger.breaks
+
+-- each of some lines is one that BREAK and CLEAR take
+abbrev pub AreTaken : List ℕ → Type 0
+AreTaken [] = ⊤
+AreTaken (line ∷ lines) = (line ≤ GREATEST_LINE) × AreTaken lines
+
+-- after CLEAR without a line there is no break line, if BREAK takes each
+abbrev pub ClearLeavesNoBreakLine : Type 0
+ClearLeavesNoBreakLine =
+    (s : PromptState) → AreTaken s.debugger.breaks → (prompt_state_after s ClearAll).debugger.breaks ≡ []
 
 -- one that is no movement leaves the debugger at its position
 abbrev pub OthersStandStill : Type 0

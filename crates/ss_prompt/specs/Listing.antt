@@ -1,6 +1,6 @@
 -- Lines of the model, as LIST prints them.
 use Rattle.std.specs.Prelude.{ℕ, zero, suc, ◌+◌, ◌-◌, max, min, ◌||◌, List, [], ◌∷◌, ◌++◌, length, codes, decimal}
-use Rattle.std.specs.Prelude.{Option, Some, None, if◌then◌else◌, nat_eq, nat_lt}
+use Rattle.std.specs.Prelude.{Option, Some, None, if◌then◌else◌, nat_eq, nat_lt, nat_le}
 use Rattle.ss_debug.specs.Move.{line_at}
 use Rattle.ss_program.specs.Program.{section_of}
 use Rattle.ss_prompt.specs.Source.{marked_line}
@@ -35,10 +35,24 @@ listed_about lines present l =
     if nat_eq l 0 || nat_lt (length lines) l then no_line_text l
     else listed_to lines present (max 1 (l - 5)) (l + 5)
 
+-- that no line comes after line l
+abbrev pub no_lines_after_text : ℕ → List ℕ
+no_lines_after_text l = codes "NO LINES AFTER " ++ decimal l ++ 10 ∷ []
+
+-- the eleven lines after line l
+abbrev pub listed_further : List (List ℕ) → ℕ → ℕ → List ℕ
+listed_further lines present l =
+    if nat_le (length lines) l then no_lines_after_text l else listed_to lines present (l + 1) (l + 11)
+
+-- the lines after the last one that LIST printed, or else those about the present one
+abbrev pub listed_on : List (List ℕ) → ℕ → Option ℕ → List ℕ
+listed_on lines present (Some last) = listed_further lines present last
+listed_on lines present None = listed_about lines present present
+
 -- the answer to LIST, with a line or without
 abbrev pub lines_said : PromptState → Option ℕ → List ℕ
 lines_said state (Some l) = listed_about state.lines (present_line state) l
-lines_said state None = listed_about state.lines (present_line state) (present_line state)
+lines_said state None = listed_on state.lines (present_line state) state.listed
 
 -- the lines from one to another that there are, or that the first is none
 abbrev pub listed_between : List (List ℕ) → ℕ → ℕ → ℕ → List ℕ

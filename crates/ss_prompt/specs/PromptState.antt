@@ -1,5 +1,5 @@
 -- The state of the prompt, and the text at a stop.
-use Rattle.std.specs.Prelude.{ℕ, ◌≡◌, List, [], ◌∷◌, ◌++◌, codes}
+use Rattle.std.specs.Prelude.{ℕ, ◌≡◌, List, [], ◌∷◌, ◌++◌, codes, Option, None}
 use Rattle.ss_state.specs.Run.{Input, run}
 use Rattle.ss_trace.specs.declared.question.Question.{Question}
 use Rattle.ss_trace.specs.Question.{answer_at}
@@ -11,7 +11,8 @@ use Rattle.ss_prompt.specs.Source.{source_lines, marked_line}
 use Rattle.ss_prompt.specs.Names.{warnings_told}
 use Rattle.ss_faults.specs.Sentence.{fault_text}
 
--- a debugger in the run of an input, its model and its lines, and the questions of each stop
+-- a debugger in the run of an input, its model and its lines, the questions of each stop, and where
+-- LIST goes on
 pub record PromptState : Type 0 where
   -- the bytes of the model
   pub model : List ℕ
@@ -23,8 +24,11 @@ pub record PromptState : Type 0 where
   pub debugger : DebuggerState
   -- the questions that are answered at each stop
   pub displays : List Question
+  -- the last line that LIST printed, if no movement came after it
+  pub listed : Option ℕ
 
--- the state of the prompt for a debugger with this model, these lines and these questions
+-- the state of the prompt for a debugger with this model, these lines and these questions; LIST
+-- printed nothing
 abbrev pub prompt_state_of : DebuggerView → List ℕ → List (List ℕ) → List Question → PromptState
 prompt_state_of debugger model lines displays = record {
   model = model;
@@ -32,6 +36,7 @@ prompt_state_of debugger model lines displays = record {
   input = debugger.machine.input;
   debugger = debugger_state_of debugger;
   displays = displays;
+  listed = None;
 }
 
 -- the parts of the prompt that are not the debugger's
@@ -42,14 +47,29 @@ pub record PromptDeskView : Type 0 where
   pub lines : List (List ℕ)
   -- the questions that are answered at each stop
   pub displays : List Question
+  -- the last line that LIST printed, if no movement came after it
+  pub listed : Option ℕ
 
 -- the same desk, with other questions
 abbrev pub with_questions : PromptDeskView → List Question → PromptDeskView
-with_questions desk displays = record { model = desk.model; lines = desk.lines; displays = displays }
+with_questions desk displays =
+    record { model = desk.model; lines = desk.lines; displays = displays; listed = desk.listed }
+
+-- the same desk, with another line after which LIST goes on
+abbrev pub noting : PromptDeskView → Option ℕ → PromptDeskView
+noting desk listed =
+    record { model = desk.model; lines = desk.lines; displays = desk.displays; listed = listed }
 
 -- the state of the prompt for a debugger and a desk
 abbrev pub state_at : DebuggerView → PromptDeskView → PromptState
-state_at debugger desk = prompt_state_of debugger desk.model desk.lines desk.displays
+state_at debugger desk = record {
+  model = desk.model;
+  lines = desk.lines;
+  input = debugger.machine.input;
+  debugger = debugger_state_of debugger;
+  displays = desk.displays;
+  listed = desk.listed;
+}
 
 -- the state of the prompt for a lent debugger, in the run of a model, with these questions
 abbrev pub lent_state : DebuggerView → List ℕ → List Question → PromptState
@@ -64,6 +84,7 @@ with_debugger state debugger =
       input = state.input;
       debugger = debugger;
       displays = state.displays;
+      listed = state.listed;
     }
 
 -- a state of the prompt, with other questions
@@ -75,13 +96,30 @@ with_displays state displays =
       input = state.input;
       debugger = state.debugger;
       displays = displays;
+      listed = state.listed;
     }
+
+-- a state of the prompt, with another line after which LIST goes on
+abbrev pub with_listed : PromptState → Option ℕ → PromptState
+with_listed state listed =
+    record {
+      model = state.model;
+      lines = state.lines;
+      input = state.input;
+      debugger = state.debugger;
+      displays = state.displays;
+      listed = listed;
+    }
+
+-- a state of the prompt in which LIST does not go on
+abbrev pub unlisted : PromptState → PromptState
+unlisted state = with_listed state None
 
 -- all but the state of the debugger is the same
 abbrev pub IsSameBeside : PromptState → PromptState → Type 0
 IsSameBeside state after =
     (after.model ≡ state.model) × (after.lines ≡ state.lines) × (after.input ≡ state.input)
-    × (after.displays ≡ state.displays)
+    × (after.displays ≡ state.displays) × (after.listed ≡ state.listed)
 
 -- the line of the place of a state, as it is written in the model
 abbrev pub source_line : PromptState → List ℕ

@@ -5,19 +5,22 @@ use Rattle.ss_debug.specs.Turn.{is_quit as is_plain_quit}
 use Rattle.ss_trace.specs.Question.{answer_at}
 use Rattle.ss_console.specs.Meaning.{Meaning}
 use Rattle.ss_prompt.specs.declared.commands.PromptCommand.{PromptCommand}
-use Rattle.ss_prompt.specs.declared.commands.PromptCommand.TheVariants.{Plain, Travel, Lines, SectionLines}
-use Rattle.ss_prompt.specs.declared.commands.PromptCommand.TheVariants.{BreakSection, ClearSection, Breaks}
+use Rattle.ss_prompt.specs.declared.commands.PromptCommand.TheVariants.{Plain, Travel, Once, Lines, SectionLines}
+use Rattle.ss_prompt.specs.declared.commands.PromptCommand.TheVariants.{BreakSection, ClearSection, ClearAll, Breaks}
 use Rattle.ss_prompt.specs.declared.commands.PromptCommand.TheVariants.{Changed, Missing, NoPlace}
 use Rattle.ss_prompt.specs.declared.commands.PromptCommand.TheVariants.{LinesBetween, UndisplayOne, Unread}
 use Rattle.ss_prompt.specs.declared.commands.PromptCommand.TheVariants.{Ask, See, Why, History, Display, Undisplay}
 use Rattle.ss_prompt.specs.declared.commands.PromptCommand.TheVariants.{Names, Warnings, Help}
 use Rattle.ss_prompt.specs.Reading.{plain_command_of, prompt_command_of}
-use Rattle.ss_prompt.specs.PromptState.{PromptState}
+use Rattle.ss_prompt.specs.PromptState.{PromptState, with_listed}
 use Rattle.ss_prompt.specs.Plain.{plain_next, plain_said, IsPlainRefused}
 use Rattle.ss_prompt.specs.Travel.{travel_next, travel_said, IsTravelRefused}
+use Rattle.ss_prompt.specs.Once.{once_said, once_next, IsOnceRefused}
 use Rattle.ss_prompt.specs.Sections.{on_section_said, on_section_next}
 use Rattle.ss_prompt.specs.Breaks.{breaks_said}
+use Rattle.ss_prompt.specs.Cleared.{clear_all_said, clear_all_next, IsClearRefused}
 use Rattle.ss_prompt.specs.Listing.{lines_said, lines_between_said, section_lines_said}
+use Rattle.ss_prompt.specs.Listed.{listed_after}
 use Rattle.ss_prompt.specs.Missing.{missing_text}
 use Rattle.ss_prompt.specs.Places.{no_place_text}
 use Rattle.ss_prompt.specs.Displays.{display_said, display_next, undisplay_said, undisplay_next}
@@ -34,12 +37,14 @@ use Rattle.ss_prompt.specs.Refusal.{refusal_at}
 unfoldable pub prompt_answer : PromptState → PromptCommand → List ℕ
 prompt_answer state (Plain command) = plain_said state command
 prompt_answer state (Travel m) = travel_said state m
+prompt_answer state (Once line) = once_said state line
 prompt_answer state (Lines line) = lines_said state line
 prompt_answer state (LinesBetween from to) = lines_between_said state from to
 prompt_answer state (SectionLines name) = section_lines_said state name
 prompt_answer state (BreakSection name) = on_section_said state Break name
 prompt_answer state (NoPlace line next) = no_place_text line next
 prompt_answer state (ClearSection name) = on_section_said state Clear name
+prompt_answer state ClearAll = clear_all_said state
 prompt_answer state Breaks = breaks_said state
 prompt_answer state (Ask x) = answer_at state.input x state.debugger.position
 prompt_answer state (See sight) = sight_said sight state.input state.debugger.position
@@ -55,16 +60,22 @@ prompt_answer state (Names name) = names_said state.model name
 prompt_answer state Warnings = warnings_said state.input.program state.model
 prompt_answer state (Help word) = help_said word
 
+-- the state after a command, but for the line after which LIST goes on
+unfoldable pub state_led : PromptState → PromptCommand → PromptState
+state_led state (Plain command) = plain_next state command
+state_led state (Travel m) = travel_next state m
+state_led state (Once line) = once_next state line
+state_led state (BreakSection name) = on_section_next state Break name
+state_led state (ClearSection name) = on_section_next state Clear name
+state_led state ClearAll = clear_all_next state
+state_led state (Display q) = display_next state q
+state_led state Undisplay = undisplay_next state
+state_led state (UndisplayOne q) = undisplay_one_next state q
+state_led state _ = state
+
 -- the state after a command
 unfoldable pub prompt_state_after : PromptState → PromptCommand → PromptState
-prompt_state_after state (Plain command) = plain_next state command
-prompt_state_after state (Travel m) = travel_next state m
-prompt_state_after state (BreakSection name) = on_section_next state Break name
-prompt_state_after state (ClearSection name) = on_section_next state Clear name
-prompt_state_after state (Display q) = display_next state q
-prompt_state_after state Undisplay = undisplay_next state
-prompt_state_after state (UndisplayOne q) = undisplay_one_next state q
-prompt_state_after state _ = state
+prompt_state_after state command = with_listed (state_led state command) (listed_after state command)
 
 -- whether a command ends the dialogue: only QUIT does
 abbrev pub is_quit : PromptCommand → Bool
@@ -72,11 +83,15 @@ is_quit (Plain command) = is_plain_quit command
 is_quit _ = false
 
 -- if memory was refused: a movement was made in part or whole, and the debugger is then perhaps one
--- step away, or, at a fault on which the history has a text, at an earlier state; WHY and HISTORY
--- left it perhaps at an earlier state, SHOW CHANGED one step away; other commands changed nothing
+-- step away, or, at a fault on which the history has a text, at an earlier state; the line of
+-- TBREAK is perhaps still a break line; CLEAR cleared perhaps the first break lines; WHY and HISTORY
+-- left the debugger perhaps at an earlier state, SHOW CHANGED one step away; other commands changed
+-- nothing
 unfoldable pub IsRefused : PromptState → PromptCommand → PromptState → Type 0
 IsRefused state (Plain command) after = IsPlainRefused state command after
 IsRefused state (Travel m) after = IsTravelRefused state m after
+IsRefused state (Once line) after = IsOnceRefused state line after
+IsRefused state ClearAll after = IsClearRefused state after
 IsRefused state Changed after = HasLookedBeside state after
 IsRefused state (Why x) after = HasLookedBack state after
 IsRefused state (History x rows) after = HasLookedBack state after

@@ -28,7 +28,7 @@ use Rattle.ss_prompt.specs.Sights.{sight_of}
 use Rattle.ss_prompt.specs.Cuts.{whole_line, first_whole_line}
 use Rattle.ss_prompt.specs.declared.commands.PromptCommand.{PromptCommand}
 use Rattle.ss_prompt.specs.declared.commands.PromptCommand.TheVariants.{Plain, Travel, Lines, SectionLines}
-use Rattle.ss_prompt.specs.declared.commands.PromptCommand.TheVariants.{BreakSection, ClearSection, Breaks}
+use Rattle.ss_prompt.specs.declared.commands.PromptCommand.TheVariants.{BreakSection, ClearSection, ClearAll, Breaks, Once}
 use Rattle.ss_prompt.specs.declared.commands.PromptCommand.TheVariants.{Changed, Missing, NoPlace}
 use Rattle.ss_prompt.specs.declared.commands.PromptCommand.TheVariants.{LinesBetween, UndisplayOne, Unread}
 use Rattle.ss_prompt.specs.declared.commands.PromptCommand.TheVariants.{Ask, See, Why, History, Display, Undisplay}
@@ -161,10 +161,25 @@ abbrev pub help_command : List (List ℕ) → PromptCommand
 help_command [] = Help None
 help_command (word ∷ rest) = made_or_bad (λ name. Help (Some name)) (only_name_of (word ∷ []))
 
+-- the words after CLEAR: none, or the name of a section
+abbrev pub clear_command : List (List ℕ) → PromptCommand
+clear_command [] = ClearAll
+clear_command (word ∷ rest) = made_or_bad ClearSection (only_name_of (word ∷ rest))
+
 -- the words after UNDISPLAY: none, or a question
 abbrev pub undisplay_command : ProgramTable → List (List ℕ) → PromptCommand
 undisplay_command program [] = Undisplay
 undisplay_command program (word ∷ rest) = question_command program UndisplayOne (word ∷ rest)
+
+-- a command on a line with a place, or the next one that has one
+abbrev pub placed : PromptCommand → ℕ → Option ℕ → PromptCommand
+placed command line None = NoPlace line None
+placed command line (Some next) = if nat_eq next line then command else NoPlace line (Some next)
+
+-- TBREAK: a line as BREAK takes it
+abbrev pub once_of : ProgramTable → Command → PromptCommand
+once_of program (Break line) = placed (Once line) line (next_line program line)
+once_of program _ = bad
 
 -- the command in the words of a line that is none of docs/DEBUGGER.md
 unfoldable pub own_in_words : ProgramTable → List (List ℕ) → PromptCommand
@@ -180,8 +195,9 @@ own_in_words program (verb ∷ rest) =
     if bytes_eq verb (codes "GO") then go_command rest else
     if bytes_eq verb (codes "LIST") then list_command rest else
     if bytes_eq verb (codes "BREAK") then made_or_bad BreakSection (only_name_of rest) else
-    if bytes_eq verb (codes "CLEAR") then made_or_bad ClearSection (only_name_of rest) else
+    if bytes_eq verb (codes "CLEAR") then clear_command rest else
     if bytes_eq verb (codes "BREAKS") then alone Breaks rest else
+    if bytes_eq verb (codes "TBREAK") then once_of program (command_behind (codes "BREAK") rest) else
     if bytes_eq verb (codes "DISPLAY") then question_command program Display rest else
     if bytes_eq verb (codes "UNDISPLAY") then undisplay_command program rest else
     if bytes_eq verb (codes "NAMES") then names_command rest else
@@ -190,8 +206,7 @@ own_in_words program (verb ∷ rest) =
 
 -- BREAK of a line with a place, or the next one that has one
 abbrev pub break_command : ℕ → Option ℕ → PromptCommand
-break_command line None = NoPlace line None
-break_command line (Some next) = if nat_eq next line then Plain (Break line) else NoPlace line (Some next)
+break_command line next = placed (Plain (Break line)) line next
 
 -- c k; c may be a set
 abbrev pub entity_command : ProgramTable → List ℕ → ℤ → PromptCommand

@@ -6,7 +6,7 @@ ghost use Rattle.ss_prompt.specs.Reading.{made_or_bad, alone, over_of, back_over
 ghost use Rattle.ss_prompt.specs.Reading.{go_command, back_command, list_command, names_command, help_command};
 ghost use Rattle.ss_prompt.specs.Reading.{run_command, sight_command, show_command, bare_command};
 ghost use Rattle.ss_prompt.specs.Reading.{seen_command, question_command, history_by, history_command};
-ghost use Rattle.ss_prompt.specs.Reading.{undisplay_command, lines_between};
+ghost use Rattle.ss_prompt.specs.Reading.{undisplay_command, clear_command, lines_between};
 ghost use Rattle.ss_prompt.specs.Asked.{own_asked};
 ghost use Rattle.ss_prompt.specs.declared.commands.PromptCommand.TheVariants as prompt;
 ghost use Rattle.ss_trace.specs.declared.movement.Movement.TheVariants as trace;
@@ -287,10 +287,13 @@ pub(crate) fn break_section(rest: &[u8]) -> PromptCommand
     }
 }
 
-/// The words after CLEAR: the name of a section.
-pub(crate) fn clear_section(rest: &[u8]) -> PromptCommand
-    ensures { result ≡ made_or_bad prompt.ClearSection (only_name_of (command_words rest.now)) }
+/// The words after CLEAR: none, or the name of a section.
+pub(crate) fn clear(rest: &[u8]) -> PromptCommand
+    ensures { result ≡ clear_command (command_words rest.now) }
 {
+    if next_word(rest).is_none() {
+        return PromptCommand::ClearAll;
+    }
     match only_name(rest) {
         Some(name) => PromptCommand::ClearSection(name),
         None => PromptCommand::Plain(Command::Bad),

@@ -1,8 +1,10 @@
-//! Prints the break lines.
+//! Prints the break lines, and how many were cleared.
 ghost use Rattle.std.specs.Prelude.{◌≡◌, ◌++◌, map, OnOk};
 ghost use Rattle.ss_prompt.specs.Breaks.{break_rows, breaks_text};
+ghost use Rattle.ss_prompt.specs.Cleared.{cleared_text};
 
 use crate::source::push_marked_line;
+use itoa::Buffer;
 use std::alloc::AllocError;
 
 /// Appends some lines of the model, each after its number and a colon.
@@ -34,4 +36,14 @@ pub(crate) fn push_break_lines(
         return text.extend_from_slice(b"NO BREAKS\n");
     }
     push_break_rows(text, lines, breaks)
+}
+
+/// Appends how many break lines were cleared.
+pub(crate) fn push_cleared(text: &mut Vec<u8>, breaks: &[usize]) -> Result<(), AllocError>
+    ensures { OnOk result (text.new.items ≡ text.old.items ++ cleared_text breaks.now) }
+{
+    let mut buffer = Buffer::new();
+    text.extend_from_slice(b"BREAKS CLEARED: ")?;
+    text.extend_from_slice(buffer.format(breaks.len()).as_bytes())?;
+    text.extend_from_slice(b"\n")
 }

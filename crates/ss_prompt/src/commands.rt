@@ -16,6 +16,8 @@ pub enum PromptCommand {
     Plain(Command),
     /// A movement that is none of docs/DEBUGGER.md.
     Travel(Movement),
+    /// TBREAK: forward to this line, which is a break line for that once.
+    Once(u32),
     /// LIST: the lines about this one, or about the present one.
     Lines(Option<u32>),
     /// LIST l m: the lines from one to another.
@@ -28,6 +30,8 @@ pub enum PromptCommand {
     NoPlace(u32, Option<usize>),
     /// CLEAR r: that line is no break line any more.
     ClearSection(Name),
+    /// CLEAR: no line is a break line any more.
+    ClearAll,
     /// BREAKS: the break lines.
     Breaks,
     /// SHOW c k a, SHOW COUNT: a question that is none of docs/DEBUGGER.md.
@@ -67,17 +71,21 @@ impl PromptCommand {
     {
         matches!(
             self,
-            PromptCommand::Plain(Command::Move(_)) | PromptCommand::Travel(_)
+            PromptCommand::Plain(Command::Move(_))
+                | PromptCommand::Travel(_)
+                | PromptCommand::Once(_)
         )
     }
 
-    /// The line that it makes a break line, or no break line any more, if it does one of these.
+    /// The line that it makes a break line, or no break line any more, if it does one of these or
+    /// both.
     pub fn point(&self, program: &Program) -> Option<u32>
         ensures { result ≡ point_of program.now self.now }
     {
         match self {
             PromptCommand::Plain(Command::Break(line)) => Some(*line),
             PromptCommand::Plain(Command::Clear(line)) => Some(*line),
+            PromptCommand::Once(line) => Some(*line),
             PromptCommand::BreakSection(name) => point_in(program, name.as_slice()),
             PromptCommand::ClearSection(name) => point_in(program, name.as_slice()),
             _ => None,

@@ -1,5 +1,5 @@
 //! The parts of the prompt that are not the debugger's: with a lent debugger they obey commands.
-ghost use Rattle.std.specs.Prelude.{◌≡◌, ◌++◌, [], map, OnOk, OnErr, IfOk, IsOk, true};
+ghost use Rattle.std.specs.Prelude.{◌≡◌, ◌++◌, [], map, None, OnOk, OnErr, IfOk, IsOk, true};
 ghost use Rattle.ss_console.specs.Going.{go_of};
 ghost use Rattle.ss_machine.specs.Moment.{position};
 ghost use Rattle.ss_debug.specs.Answer.{state_line};
@@ -15,9 +15,12 @@ ghost use Rattle.ss_prompt.specs.Histories.{why_said, history_said, HasLookedBac
 ghost use Rattle.ss_prompt.specs.Names.{warnings_told};
 ghost use Rattle.ss_prompt.specs.Displays.{displays_with, display_text, cleared_text};
 ghost use Rattle.ss_prompt.specs.Displays.{displays_without, undisplay_text};
-ghost use Rattle.ss_prompt.specs.Prompting.{prompt_answer, prompt_state_after, IsRefused, is_quit};
+ghost use Rattle.ss_prompt.specs.Prompting.{prompt_answer, state_led, prompt_state_after, IsRefused, is_quit};
 
+mod cleared;
+mod listed;
 mod model;
+mod once;
 mod past;
 
 use crate::advice::push_unread;
@@ -42,13 +45,14 @@ use std::alloc::{AllocError, Global};
 use std::marker::Model;
 use std::mem::swap;
 
-/// The parts of the prompt that are not the debugger's: the model, its lines, and the questions
-/// that are answered at each stop.
+/// The parts of the prompt that are not the debugger's: the model, its lines, the questions that
+/// are answered at each stop, and the last line that LIST printed, if no movement came after it.
 #[derive(Drop)]
 pub(crate) struct PromptDesk<'a> {
     model: &'a [u8],
     lines: Vec<&'a [u8]>,
     displays: Vec<Question>,
+    listed: Option<usize>,
     alloc: Global,
 }
 
@@ -62,6 +66,7 @@ impl<'a> Model for PromptDesk<'a> {
       model = k.model.now;
       lines = map (λ l. l.now) k.lines.items;
       displays = k.displays.items;
+      listed = k.listed;
     } };
 }
 
@@ -75,18 +80,21 @@ fn push_place<S: SetBoard>(debugger: &Debugger<S>, text: &mut Vec<u8>) -> Result
 }
 
 impl<'a> PromptDesk<'a> {
-    /// The desk for a model with these lines; no question is answered at stops.
+    /// The desk for a model with these lines; no question is answered at stops, and no line is
+    /// listed.
     pub fn new(alloc: Global, model: &'a [u8], lines: Vec<&'a [u8]>) -> Self
         ensures { result ≡ record {
           model = model.now;
           lines = map (λ l. l.now) lines.entry.items;
           displays = [];
+          listed = None;
         } }
     {
         PromptDesk {
             model,
             lines,
             displays: Vec::new(alloc),
+            listed: None,
             alloc,
         }
     }
@@ -369,7 +377,7 @@ impl<'a> PromptDesk<'a> {
         undisplay_one(self.alloc, &mut self.displays, &question, answer)
     }
 
-    /// Does the work of a command, and appends its whole answer.
+    /// Does the work of a command, and appends its whole answer. Where LIST goes on stays as it is.
     #[tactic(auto, unfolding(crate::proofs::Unfoldings::commands))]
     fn follow<S: SetBoard>(
         &mut self,
@@ -378,7 +386,7 @@ impl<'a> PromptDesk<'a> {
         answer: &mut Vec<u8>,
     ) -> Result<Go, AllocError>
         ensures place { OnOk result (state_at debugger.new self.new
-            ≡ prompt_state_after (state_at debugger.old self.old) command) }
+            ≡ state_led (state_at debugger.old self.old) command) }
         ensures said { OnOk result (answer.new.items
             ≡ answer.old.items ++ prompt_answer (state_at debugger.old self.old) command) }
         ensures go { IfOk result (λ go. go ≡ go_of (is_quit command)) }
@@ -389,12 +397,14 @@ impl<'a> PromptDesk<'a> {
         let done = match command {
             PromptCommand::Plain(command) => return self.obey_plain(debugger, command, answer),
             PromptCommand::Travel(movement) => self.travel(debugger, movement, answer),
+            PromptCommand::Once(line) => self.run_once(debugger, line, answer),
             PromptCommand::Lines(line) => self.list(debugger, line, answer),
             PromptCommand::LinesBetween(from, to) => self.list_between(debugger, from, to, answer),
             PromptCommand::SectionLines(name) => self.list_section(debugger, &name, answer),
             PromptCommand::BreakSection(name) => self.break_section(debugger, &name, answer),
             PromptCommand::NoPlace(line, next) => push_no_place(answer, line, next),
             PromptCommand::ClearSection(name) => self.clear_section(debugger, &name, answer),
+            PromptCommand::ClearAll => self.clear_all(debugger, answer),
             PromptCommand::Breaks => self.breaks(debugger, answer),
             PromptCommand::Ask(question) => push_answer(debugger, &question, answer),
             PromptCommand::See(sight) => self.see(debugger, sight, answer),
@@ -414,6 +424,30 @@ impl<'a> PromptDesk<'a> {
         };
         done?;
         Ok(Go::On)
+    }
+
+    /// Does the work of a command, appends its whole answer, and notes the line after which LIST
+    /// goes on.
+    #[tactic(auto, unfolding(crate::specs::Prompting::prompt_state_after), using(crate::proofs::Listed::noted))]
+    fn advance<S: SetBoard>(
+        &mut self,
+        debugger: &mut Debugger<S>,
+        command: PromptCommand,
+        answer: &mut Vec<u8>,
+    ) -> Result<Go, AllocError>
+        ensures place { OnOk result (state_at debugger.new self.new
+            ≡ prompt_state_after (state_at debugger.old self.old) command) }
+        ensures said { OnOk result (answer.new.items
+            ≡ answer.old.items ++ prompt_answer (state_at debugger.old self.old) command) }
+        ensures go { IfOk result (λ go. go ≡ go_of (is_quit command)) }
+        ensures quit { is_quit command ≡ true → IsOk result }
+        ensures memory { OnErr result (IsRefused (state_at debugger.old self.old) command
+            (state_at debugger.new self.new)) }
+    {
+        let listed = self.listed_after(debugger, &command);
+        let go = self.follow(debugger, command, answer)?;
+        self.note_listed(listed);
+        Ok(go)
     }
 
     /// Does the work of a command of docs/PROMPT.md with a debugger that is lent, and appends its
@@ -436,7 +470,8 @@ impl<'a> PromptDesk<'a> {
         ensures quit { is_quit command ≡ true → IsOk result }
         ensures memory { OnErr result (IsRefused (state_at debugger.old self.old) command
             (state_at debugger.new self.new)) }
+        ensures listed { OnErr result (self.new.listed ≡ self.old.listed) }
     {
-        self.follow(debugger, command, answer)
+        self.advance(debugger, command, answer)
     }
 }

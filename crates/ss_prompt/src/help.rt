@@ -6,7 +6,7 @@ use ss_debug::Name;
 use std::alloc::AllocError;
 
 /// A row for each form of a command: the word that it begins with; its form, and its effect.
-pub const HELP_ROWS: [(&[u8], &[u8]); 57] = [
+pub const HELP_ROWS: [(&[u8], &[u8]); 60] = [
     (b"STEP", b"STEP [n]: n steps forward, 1 if not said"),
     (
         b"RUN",
@@ -48,11 +48,17 @@ pub const HELP_ROWS: [(&[u8], &[u8]); 57] = [
         b"CLEAR",
         b"CLEAR r: no stop at the first place of section r any more",
     ),
+    (b"CLEAR", b"CLEAR: no stop at any line any more"),
+    (
+        b"TBREAK",
+        b"TBREAK l: forward as RUN, with a stop at line l this once",
+    ),
     (b"BREAKS", b"BREAKS: the break lines"),
     (
         b"LIST",
-        b"LIST [l]: the lines about line l, or about the present one",
+        b"LIST: the lines about the present one; again, the lines after those",
     ),
+    (b"LIST", b"LIST l: the lines about line l"),
     (b"LIST", b"LIST l m: the lines from l to m"),
     (b"LIST", b"LIST r: the lines of section r"),
     (b"SHOW", b"SHOW CLOCK: the time"),

@@ -1,7 +1,7 @@
 //! Laws on the definitions. Each function does nothing, and its contract says the law.
 ghost use Rattle.ss_prompt.specs.Laws.{PlainLinesStay, FewAreMeantOtherwise, PlainAnswersComeFirst};
 ghost use Rattle.ss_prompt.specs.Laws.{PlainLinesAnswerTheBatch, PlainLinesLeadAsTheBatch};
-ghost use Rattle.ss_prompt.specs.Laws.{OthersLeaveTheBreakLines, OthersStandStill};
+ghost use Rattle.ss_prompt.specs.Laws.{OthersLeaveTheBreakLines, OthersStandStill, ClearLeavesNoBreakLine};
 ghost use Rattle.ss_prompt.specs.Laws.{LinesAreThoseOfTheBatch, KeptLinesSayTheSame, PlainTextsAnswerTheBatch};
 ghost use Rattle.ss_prompt.specs.Laws.{MissingVariablesAreAnsweredSo, MissingListsAreAnsweredSo};
 ghost use Rattle.ss_prompt.specs.Laws.{MissingClassesAreAnsweredSo, MissingAttributesAreAnsweredSo};
@@ -33,11 +33,12 @@ pub fn plain_texts_answer_the_batch()
     ensures answers { PlainTextsAnswerTheBatch }
 {}
 
-/// A command that is no movement leaves the debugger at its position, and one that names no line of
-/// the model leaves the break lines as they are.
+/// A command that is no movement leaves the debugger at its position. One that names no line of the
+/// model leaves the break lines as they are, but CLEAR without a line, which leaves none.
 pub fn other_commands_leave_the_debugger()
     ensures breaks { OthersLeaveTheBreakLines }
     ensures position { OthersStandStill }
+    ensures none { ClearLeavesNoBreakLine }
 {}
 
 /// A name in a question that a program hasn't is reported as SHOW answers it in every state; for an

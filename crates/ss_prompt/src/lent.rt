@@ -1,7 +1,7 @@
 //! A command is obeyed with a debugger that is lent.
 ghost use Rattle.std.specs.Prelude.{◌≡◌, ◌⊎◌, ◌++◌, map, OnOk, OnErr, IfOk};
 ghost use Rattle.ss_console.specs.Going.{go_of};
-ghost use Rattle.ss_prompt.specs.PromptState.{lent_state};
+ghost use Rattle.ss_prompt.specs.PromptState.{lent_state, unlisted};
 ghost use Rattle.ss_prompt.specs.Prompting.{prompt_answer, prompt_state_after, IsRefused, is_quit};
 ghost use Rattle.ss_prompt.specs.Source.{source_lines};
 
@@ -27,7 +27,8 @@ fn answer_with<'a, S: SetBoard>(
     requires { map (λ l. l.now) lines.items ≡ source_lines model.now }
     ensures input { debugger.new.machine.input ≡ debugger.old.machine.input }
     ensures place { OnOk result (lent_state debugger.new model.now displays.new.items
-        ≡ prompt_state_after (lent_state debugger.old model.now displays.old.items) command) }
+        ≡ unlisted (prompt_state_after (lent_state debugger.old model.now displays.old.items)
+        command)) }
     ensures said { OnOk result (answer.new.items ≡ answer.old.items
         ++ prompt_answer (lent_state debugger.old model.now displays.old.items) command) }
     ensures go { IfOk result (λ go. go ≡ go_of (is_quit command)) }
@@ -44,6 +45,7 @@ fn answer_with<'a, S: SetBoard>(
 
 /// Does the work of a command of docs/PROMPT.md with a debugger that is lent, in the run of a
 /// model, and appends its whole answer. The questions are those that are answered at each stop.
+/// LIST does not go on after it.
 ///
 /// `AllocError` if memory was refused: then nothing of the answer counts, and the debugger is in a
 /// state in which a prompt leaves it, in the same run.
@@ -57,7 +59,8 @@ pub fn answer_command<S: SetBoard>(
 ) -> Result<Go, AllocError>
     ensures input { debugger.new.machine.input ≡ debugger.old.machine.input }
     ensures place { OnOk result (lent_state debugger.new model.now displays.new.items
-        ≡ prompt_state_after (lent_state debugger.old model.now displays.old.items) command) }
+        ≡ unlisted (prompt_state_after (lent_state debugger.old model.now displays.old.items)
+        command)) }
     ensures said { OnOk result (answer.new.items ≡ answer.old.items
         ++ prompt_answer (lent_state debugger.old model.now displays.old.items) command) }
     ensures go { IfOk result (λ go. go ≡ go_of (is_quit command)) }

@@ -1,19 +1,20 @@
 //! Reads the lines of the prompt.
-ghost use Rattle.std.specs.Prelude.{◌≡◌};
+ghost use Rattle.std.specs.Prelude.{◌≡◌, codes};
 ghost use Rattle.ss_debug.specs.CommandLines.{command_words};
-ghost use Rattle.ss_prompt.specs.Reading.{own_in_words, own_of_whole, own_command_of, break_command};
+ghost use Rattle.ss_prompt.specs.Reading.{own_in_words, own_of_whole, own_command_of, placed, once_of};
 ghost use Rattle.ss_prompt.specs.Reading.{entity_command, plain_meant, first_whole_command_of};
 ghost use Rattle.ss_prompt.specs.Reading.{advised, plain_command_of, prompt_command_of};
 ghost use Rattle.ss_prompt.specs.Places.{next_line};
+ghost use Rattle.ss_prompt.specs.Words.{command_behind};
 
 use crate::advice::{has_number, verb_of};
 use crate::arguments::{
-    alone, back, break_section, clear_section, display, go, help, history, list, names, over, run,
-    show, undisplay, why,
+    alone, back, break_section, clear, display, go, help, history, list, names, over, run, show,
+    undisplay, why,
 };
 use crate::commands::PromptCommand;
 use crate::cuts::{first_whole_line, whole_line};
-use crate::line::Line;
+use crate::line::{Line, command_behind};
 use crate::missing::{is_class, is_set};
 use crate::pieces::next_word;
 use crate::places::next_line;
@@ -21,6 +22,27 @@ use ss_console::LONGEST_LINE;
 use ss_debug::{Command, Name, Question as PlainQuestion, command};
 use ss_program::Program;
 use ss_trace::Movement;
+
+/// A command on a line with a place, or the next line that has one.
+fn placed(program: &Program, line: u32, command: PromptCommand) -> PromptCommand
+    ensures { result ≡ placed command line (next_line program.now line) }
+{
+    let next = next_line(program, line as usize);
+    if next == Some(line as usize) {
+        return command;
+    }
+    PromptCommand::NoPlace(line, next)
+}
+
+/// TBREAK: a line as BREAK takes it.
+fn once(program: &Program, rest: &[u8]) -> PromptCommand
+    ensures { result ≡ once_of program.now (command_behind (codes "BREAK") (command_words rest.now)) }
+{
+    match command_behind(b"BREAK", rest) {
+        Command::Break(line) => placed(program, line, PromptCommand::Once(line)),
+        _ => PromptCommand::Plain(Command::Bad),
+    }
+}
 
 /// The command in the words of a line that is none of docs/DEBUGGER.md.
 #[tactic(auto, unfolding(crate::specs::Reading::own_in_words))]
@@ -61,10 +83,13 @@ fn own_in_words(program: &Program, line: &[u8]) -> PromptCommand
         return break_section(rest);
     }
     if verb == b"CLEAR".as_slice() {
-        return clear_section(rest);
+        return clear(rest);
     }
     if verb == b"BREAKS".as_slice() {
         return alone(PromptCommand::Breaks, rest);
+    }
+    if verb == b"TBREAK".as_slice() {
+        return once(program, rest);
     }
     if verb == b"DISPLAY".as_slice() {
         return display(program, rest);
@@ -82,17 +107,6 @@ fn own_in_words(program: &Program, line: &[u8]) -> PromptCommand
         return help(rest);
     }
     PromptCommand::Plain(Command::Bad)
-}
-
-/// BREAK of a line with a place, or the next one that has one.
-fn break_command(program: &Program, line: u32) -> PromptCommand
-    ensures { result ≡ break_command line (next_line program.now line) }
-{
-    let next = next_line(program, line as usize);
-    if next == Some(line as usize) {
-        return PromptCommand::Plain(Command::Break(line));
-    }
-    PromptCommand::NoPlace(line, next)
 }
 
 /// `c k`; c may be a set.
@@ -114,7 +128,9 @@ fn plain_meant(program: &Program, command: Command) -> PromptCommand
     ensures { result ≡ plain_meant program.now command }
 {
     match command {
-        Command::Break(line) => break_command(program, line),
+        Command::Break(line) => {
+            placed(program, line, PromptCommand::Plain(Command::Break(line)))
+        }
         Command::Show(PlainQuestion::Entity(name, x)) => entity_command(program, name, x),
         other => PromptCommand::Plain(other),
     }

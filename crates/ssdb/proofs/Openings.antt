@@ -1,5 +1,5 @@
 -- Whole dialogues of their parts.
-use Rattle.std.proofs.Common.{◌≡◌, ℕ, Bool, List, [], refl, inl, inr, Option}
+use Rattle.std.proofs.Common.{◌≡◌, ℕ, Bool, List, [], refl, inl, inr, Option, None}
 use Rattle.ss_console.specs.Event.{Event, Adds, write_events}
 use Rattle.ss_console.specs.declared.cut.Cut.TheVariants.{Read, Write, Count}
 use Rattle.ss_state.specs.Run.{Input, input_with, run}
@@ -17,7 +17,14 @@ use Rattle.ssdb.specs.Opening.{greeting_at, end_of_status, IsStart, EndsWell, Ho
 use Rattle.ssdb.specs.Opening.{GreetingFails, IsHeld, IsStopped}
 
 abbrev state_of : List ℕ → List (List ℕ) → Input → DebuggerState → PromptState
-state_of model lines t d = record { model = model; lines = lines; input = t; debugger = d; displays = [] }
+state_of model lines t d = record {
+  model = model;
+  lines = lines;
+  input = t;
+  debugger = d;
+  displays = [];
+  listed = None;
+}
 
 same_state : (model : List ℕ) (l m : List (List ℕ)) (t u : Input) (d e : DebuggerState) → l ≡ m → t ≡ u → d ≡ e →
     state_of model l t d ≡ state_of model m u e

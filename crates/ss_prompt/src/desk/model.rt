@@ -11,7 +11,7 @@ ghost use Rattle.ss_prompt.specs.Sections.{command_on, on_section_said, on_secti
 
 use crate::break_list::push_break_lines;
 use crate::desk::PromptDesk;
-use crate::listing::{push_lines_about, push_lines_between, push_lines_to};
+use crate::listing::{push_lines_about, push_lines_between, push_lines_on, push_lines_to};
 use crate::names::{push_names_said, push_warnings_said};
 use crate::sections::{head_line, last_line, line_of_section, present_line, push_no_section};
 use ss_debug::{Command, Debugger, GREATEST_LINE, Name, obey};
@@ -45,7 +45,7 @@ fn break_line<S: SetBoard>(
 
 /// CLEAR of a line, if CLEAR takes it.
 #[tactic(auto, unfolding(ss_debug::specs::AfterRefusal::IsStateAfterRefusal))]
-fn clear_line<S: SetBoard>(
+pub(super) fn clear_line<S: SetBoard>(
     debugger: &mut Debugger<S>,
     line: usize,
     answer: &mut Vec<u8>,
@@ -69,7 +69,7 @@ fn clear_line<S: SetBoard>(
 }
 
 impl<'a> PromptDesk<'a> {
-    /// LIST, with a line or without.
+    /// LIST, with a line or without. Without one it goes on after the last line that was printed.
     pub(super) fn list<S: SetBoard>(
         &self,
         debugger: &Debugger<S>,
@@ -82,7 +82,7 @@ impl<'a> PromptDesk<'a> {
         let present = present_line(debugger.machine());
         match line {
             Some(line) => push_lines_about(answer, &self.lines, present, line as usize),
-            None => push_lines_about(answer, &self.lines, present, present),
+            None => push_lines_on(answer, &self.lines, present, self.listed),
         }
     }
 

@@ -1,21 +1,33 @@
-use Rattle.std.proofs.Common.{map}
-use Rattle.ss_prompt.proofs.Desks.{IsDeskOf, taken, given, lent_is}
+use Rattle.std.proofs.Common.{◌≡◌, None, map}
+use Rattle.ss_prompt.specs.PromptState.{state_at}
+use Rattle.ss_prompt.specs.Prompting.{prompt_state_after}
+use Rattle.ss_prompt.proofs.Desks.{IsDeskOf, taken, given, unlisted_still, none_listed}
+use Rattle.ss_prompt.proofs.Desks.{lent_is, lent_unlisted, obeyed_so, refused_so}
 use Rattle.ss_prompt.proofs.lent.answer_with.Goals as goal
 
 pub returns-clause-place : goal.returns-clause-place
 returns-clause-place g c =
     let before : IsDeskOf c.args.model.now c.args.displays.now.items c.swap_displays.new.self =
     taken _ (map (λ l. l.now) c.args.lines.items) _ _ _ c.new-desk.ensures c.swap_displays.ensures.taken c.requires in
+    let none : c.swap_displays.new.self.listed ≡ None =
+    unlisted_still _ (map (λ l. l.now) c.args.lines.items) _ _ _ c.new-desk.ensures c.swap_displays.ensures.taken in
     let after : IsDeskOf c.args.model.now c.swap_displays-2.new.displays.items c.obey-obeyed.new.self =
     given _ _ _ _ _ before c.obey-obeyed.ensures.model c.obey-obeyed.ensures.lines c.swap_displays-2.ensures.given in
-    rw (lent_is c.args.debugger.now _ _ _ before, lent_is c.obey-obeyed.new.debugger _ _ _ after)
-    c.obey-obeyed.ensures.place
+    rw (lent_is c.args.debugger.now _ _ _ before none, lent_unlisted c.obey-obeyed.new.debugger _ _ _ after)
+    (obeyed_so c.obey-obeyed.result (state_at c.obey-obeyed.new.debugger c.obey-obeyed.new.self)
+    (prompt_state_after (state_at c.args.debugger.now c.swap_displays.new.self) c.args.command)
+    c.obey-obeyed.ensures.place)
 
 pub returns-clause-memory : goal.returns-clause-memory
 returns-clause-memory g c =
     let before : IsDeskOf c.args.model.now c.args.displays.now.items c.swap_displays.new.self =
     taken _ (map (λ l. l.now) c.args.lines.items) _ _ _ c.new-desk.ensures c.swap_displays.ensures.taken c.requires in
+    let none : c.swap_displays.new.self.listed ≡ None =
+    unlisted_still _ (map (λ l. l.now) c.args.lines.items) _ _ _ c.new-desk.ensures c.swap_displays.ensures.taken in
     let after : IsDeskOf c.args.model.now c.swap_displays-2.new.displays.items c.obey-obeyed.new.self =
     given _ _ _ _ _ before c.obey-obeyed.ensures.model c.obey-obeyed.ensures.lines c.swap_displays-2.ensures.given in
-    rw (lent_is c.args.debugger.now _ _ _ before, lent_is c.obey-obeyed.new.debugger _ _ _ after)
-    c.obey-obeyed.ensures.memory
+    rw (lent_is c.args.debugger.now _ _ _ before none)
+    (refused_so c.obey-obeyed.result (state_at c.args.debugger.now c.swap_displays.new.self) c.args.command
+    c.obey-obeyed.new.debugger c.args.model.now c.swap_displays-2.new.displays.items c.obey-obeyed.new.self after
+    (none_listed c.obey-obeyed.result c.swap_displays.new.self c.obey-obeyed.new.self none
+    c.obey-obeyed.ensures.listed) c.obey-obeyed.ensures.memory)

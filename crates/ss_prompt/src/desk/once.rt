@@ -1,0 +1,118 @@
+//! TBREAK, by the debugger's BREAK, RUN and CLEAR.
+ghost use Rattle.std.specs.Prelude.{◌≡◌, ◌++◌, OnOk, OnErr, IfOk};
+ghost use Rattle.ss_debug.specs.BreakLines.{is_break_line};
+ghost use Rattle.ss_debug.specs.Turn.{answer as plain_answer, debugger_state_after};
+ghost use Rattle.ss_debug.specs.View.{debugger_state_of};
+ghost use Rattle.ss_debug.specs.declared.commands.Command.TheVariants as plain;
+ghost use Rattle.ss_prompt.specs.Once.{set_back, once_stop, once_stop_said, IsRunRefused};
+ghost use Rattle.ss_prompt.specs.Once.{once_next, once_said, IsOnceRefused};
+ghost use Rattle.ss_prompt.specs.PromptState.{state_at};
+
+use crate::desk::PromptDesk;
+use ss_debug::{Command, Debugger, GREATEST_BOUND, Movement, obey};
+use ss_links::SetBoard;
+use std::alloc::{AllocError, Global};
+
+/// Whether a line is a break line.
+fn is_break<S: SetBoard>(
+    alloc: Global,
+    debugger: &Debugger<S>,
+    line: u32,
+) -> Result<bool, AllocError>
+    ensures { IfOk result (λ b. b ≡ is_break_line debugger.now.breaks line) }
+{
+    let lines = debugger.break_lines(alloc)?;
+    Ok(lines.iter().any(|other| *other == line as usize))
+}
+
+/// BREAK of a line.
+#[tactic(auto, unfolding(ss_debug::specs::AfterRefusal::IsStateAfterRefusal))]
+fn set_once<S: SetBoard>(
+    debugger: &mut Debugger<S>,
+    line: u32,
+    said: &mut Vec<u8>,
+) -> Result<(), AllocError>
+    ensures input { debugger.new.machine.input ≡ debugger.old.machine.input }
+    ensures place { OnOk result (debugger_state_of debugger.new
+        ≡ debugger_state_after debugger.old.machine.input (debugger_state_of debugger.old)
+        (plain.Break line)) }
+    ensures said { OnOk result (said.new.items
+        ≡ said.old.items ++ plain_answer debugger.old.machine.input
+        (debugger_state_of debugger.old) (plain.Break line)) }
+    ensures memory { OnErr result (debugger_state_of debugger.new
+        ≡ debugger_state_of debugger.old) }
+{
+    obey(debugger, Command::Break(line), said)?;
+    Ok(())
+}
+
+/// CLEAR of a line that was no break line before; a line that was one stays one.
+#[tactic(auto, unfolding(ss_debug::specs::AfterRefusal::IsStateAfterRefusal))]
+fn clear_once<S: SetBoard>(
+    alloc: Global,
+    debugger: &mut Debugger<S>,
+    line: u32,
+    was: bool,
+) -> Result<(), AllocError>
+    ensures input { debugger.new.machine.input ≡ debugger.old.machine.input }
+    ensures place { OnOk result (debugger_state_of debugger.new
+        ≡ set_back debugger.old.machine.input (debugger_state_of debugger.old) line was) }
+    ensures memory { OnErr result (debugger_state_of debugger.new
+        ≡ debugger_state_of debugger.old) }
+{
+    if was {
+        return Ok(());
+    }
+    let mut said = Vec::new(alloc);
+    obey(debugger, Command::Clear(line), &mut said)?;
+    Ok(())
+}
+
+impl<'a> PromptDesk<'a> {
+    /// RUN after BREAK of a line, and CLEAR of the line, if it was no break line before.
+    #[tactic(auto, using(crate::proofs::Once::runs))]
+    fn run_to_once<S: SetBoard>(
+        &self,
+        debugger: &mut Debugger<S>,
+        line: u32,
+        was: bool,
+        answer: &mut Vec<u8>,
+    ) -> Result<(), AllocError>
+        ensures place { OnOk result (state_at debugger.new self.now
+            ≡ once_stop (state_at debugger.old self.now) line was) }
+        ensures said { OnOk result (answer.new.items
+            ≡ answer.old.items ++ once_stop_said (state_at debugger.old self.now) line was) }
+        ensures memory { OnErr result (IsRunRefused (state_at debugger.old self.now) line was
+            (state_at debugger.new self.now)) }
+    {
+        let run = Command::Move(Movement::Run(GREATEST_BOUND));
+        obey(debugger, run, answer)?;
+        clear_once(self.alloc, debugger, line, was)?;
+        self.push_stop(debugger, false, answer)
+    }
+
+    /// TBREAK: forward to a line, which is a break line for that once. If BREAK does not take the
+    /// line, the answer is that of BREAK.
+    #[tactic(auto, using(crate::proofs::Once::refusals))]
+    pub(super) fn run_once<S: SetBoard>(
+        &self,
+        debugger: &mut Debugger<S>,
+        line: u32,
+        answer: &mut Vec<u8>,
+    ) -> Result<(), AllocError>
+        ensures place { OnOk result (state_at debugger.new self.now
+            ≡ once_next (state_at debugger.old self.now) line) }
+        ensures said { OnOk result (answer.new.items
+            ≡ answer.old.items ++ once_said (state_at debugger.old self.now) line) }
+        ensures memory { OnErr result (IsOnceRefused (state_at debugger.old self.now) line
+            (state_at debugger.new self.now)) }
+    {
+        let mut said = Vec::new(self.alloc);
+        let was = is_break(self.alloc, debugger, line)?;
+        set_once(debugger, line, &mut said)?;
+        if !is_break(self.alloc, debugger, line)? {
+            return answer.extend_from_slice(&said);
+        }
+        self.run_to_once(debugger, line, was, answer)
+    }
+}
