@@ -158,7 +158,7 @@ going_to_stop state =
 abbrev pub reply_with_stop : Input → ℕ → List ℕ → List Sent
 reply_with_stop input p reason = reply (codes "{}") ∷ stopped_event reason (without_last (state_line input p)) None ∷ []
 
--- the console is a prompt over the debugger
+-- the console is a prompt over the debugger; it does not know the text of the data
 abbrev pub at_console : AdapterState → PromptState
 at_console state = record {
   model = state.desk.model;
@@ -166,6 +166,7 @@ at_console state = record {
   input = state.input;
   debugger = state.debugger;
   displays = state.desk.displays;
+  data_text = None;
 }
 
 -- the answer of the prompt to a command

@@ -14,4 +14,5 @@ pub mod Quits
 pub mod Others
 pub mod Searches
 pub mod StopRefusals
+pub mod TakenRefusals
 pub mod MissingLaws

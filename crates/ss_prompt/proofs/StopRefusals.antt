@@ -38,6 +38,7 @@ same s after e = (
   ap (λ (v : PromptState). v.lines) e,
   ap (λ (v : PromptState). v.input) e,
   ap (λ (v : PromptState). v.displays) e,
+  ap (λ (v : PromptState). v.data_text) e,
 )
 
 -- all but the debugger is the same

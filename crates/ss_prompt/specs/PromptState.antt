@@ -1,5 +1,5 @@
 -- The state of the prompt, and the text at a stop.
-use Rattle.std.specs.Prelude.{ℕ, ◌≡◌, List, [], ◌∷◌, ◌++◌, codes}
+use Rattle.std.specs.Prelude.{ℕ, ◌≡◌, List, [], ◌∷◌, ◌++◌, codes, Option, None}
 use Rattle.ss_state.specs.Run.{Input, run}
 use Rattle.ss_trace.specs.declared.question.Question.{Question}
 use Rattle.ss_trace.specs.Question.{answer_at}
@@ -11,7 +11,8 @@ use Rattle.ss_prompt.specs.Source.{source_lines, marked_line}
 use Rattle.ss_prompt.specs.Names.{warnings_told}
 use Rattle.ss_faults.specs.Sentence.{fault_text}
 
--- a debugger in the run of an input, its model and its lines, and the questions of each stop
+-- a debugger in the run of an input, its model and its lines, the questions of each stop, and the
+-- text of the data
 pub record PromptState : Type 0 where
   -- the bytes of the model
   pub model : List ℕ
@@ -23,15 +24,19 @@ pub record PromptState : Type 0 where
   pub debugger : DebuggerState
   -- the questions that are answered at each stop
   pub displays : List Question
+  -- the text of the data, if it is known
+  pub data_text : Option (List ℕ)
 
--- the state of the prompt for a debugger with this model, these lines and these questions
-abbrev pub prompt_state_of : DebuggerView → List ℕ → List (List ℕ) → List Question → PromptState
-prompt_state_of debugger model lines displays = record {
+-- the state of the prompt for a debugger with this model, these lines, these questions and this
+-- text of the data
+abbrev pub prompt_state_of : DebuggerView → List ℕ → List (List ℕ) → List Question → Option (List ℕ) → PromptState
+prompt_state_of debugger model lines displays data_text = record {
   model = model;
   lines = lines;
   input = debugger.machine.input;
   debugger = debugger_state_of debugger;
   displays = displays;
+  data_text = data_text;
 }
 
 -- the parts of the prompt that are not the debugger's
@@ -42,18 +47,22 @@ pub record PromptDeskView : Type 0 where
   pub lines : List (List ℕ)
   -- the questions that are answered at each stop
   pub displays : List Question
+  -- the text of the data, if it is known
+  pub data_text : Option (List ℕ)
 
 -- the same desk, with other questions
 abbrev pub with_questions : PromptDeskView → List Question → PromptDeskView
-with_questions desk displays = record { model = desk.model; lines = desk.lines; displays = displays }
+with_questions desk displays =
+    record { model = desk.model; lines = desk.lines; displays = displays; data_text = desk.data_text }
 
 -- the state of the prompt for a debugger and a desk
 abbrev pub state_at : DebuggerView → PromptDeskView → PromptState
-state_at debugger desk = prompt_state_of debugger desk.model desk.lines desk.displays
+state_at debugger desk = prompt_state_of debugger desk.model desk.lines desk.displays desk.data_text
 
--- the state of the prompt for a lent debugger, in the run of a model, with these questions
+-- the state of the prompt for a lent debugger, in the run of a model, with these questions; the
+-- text of the data is not known
 abbrev pub lent_state : DebuggerView → List ℕ → List Question → PromptState
-lent_state debugger model displays = prompt_state_of debugger model (source_lines model) displays
+lent_state debugger model displays = prompt_state_of debugger model (source_lines model) displays None
 
 -- a state of the prompt, with the debugger in another state
 abbrev pub with_debugger : PromptState → DebuggerState → PromptState
@@ -64,6 +73,7 @@ with_debugger state debugger =
       input = state.input;
       debugger = debugger;
       displays = state.displays;
+      data_text = state.data_text;
     }
 
 -- a state of the prompt, with other questions
@@ -75,13 +85,14 @@ with_displays state displays =
       input = state.input;
       debugger = state.debugger;
       displays = displays;
+      data_text = state.data_text;
     }
 
 -- all but the state of the debugger is the same
 abbrev pub IsSameBeside : PromptState → PromptState → Type 0
 IsSameBeside state after =
     (after.model ≡ state.model) × (after.lines ≡ state.lines) × (after.input ≡ state.input)
-    × (after.displays ≡ state.displays)
+    × (after.displays ≡ state.displays) × (after.data_text ≡ state.data_text)
 
 -- the line of the place of a state, as it is written in the model
 abbrev pub source_line : PromptState → List ℕ
@@ -93,14 +104,14 @@ answers_to input p [] = []
 answers_to input p (x ∷ xs) = answer_at input x p ++ answers_to input p xs
 
 -- the meaning of a state's fault, and the thing that it is about, if the state is faulted
-abbrev pub fault_told : Input → ℕ → List ℕ
-fault_told input p = fault_text input.program (run input p) (run input p).status
+abbrev pub fault_told : Option (List ℕ) → Input → ℕ → List ℕ
+fault_told data_text input p = fault_text input.program (run input p) data_text (run input p).status
 
 -- the text on the debugger's state: the meaning of the fault, if there is one; the line of the
 -- model; the answers to the questions of each stop
 abbrev pub place_text : PromptState → List ℕ
 place_text state =
-    fault_told state.input state.debugger.position ++ source_line state
+    fault_told state.data_text state.input state.debugger.position ++ source_line state
     ++ answers_to state.input state.debugger.position state.displays
 
 -- the text at a terminal before the first line: that HELP lists the commands, the warnings on the

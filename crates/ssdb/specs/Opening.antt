@@ -1,5 +1,5 @@
 -- A whole dialogue over a model and its data: how it begins, and how it ends.
-use Rattle.std.specs.Prelude.{ℕ, ◌≡◌, ◌⊎◌, Bool, List, [], Option, if◌then◌else◌}
+use Rattle.std.specs.Prelude.{ℕ, ◌≡◌, ◌⊎◌, Bool, List, [], Option, Some, if◌then◌else◌}
 use Rattle.ss_program.specs.Program.{ProgramTable}
 use Rattle.ss_state.specs.State.{is_faulted}
 use Rattle.ss_state.specs.Run.{input_with, run}
@@ -36,6 +36,7 @@ start_over model data_text program = record {
   input = input_with program data_text;
   debugger = initial_debugger_state;
   displays = [];
+  data_text = Some data_text;
 }
 
 -- it is that of the program that a model is

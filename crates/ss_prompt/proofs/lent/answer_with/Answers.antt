@@ -7,7 +7,8 @@ returns-clause-place g c =
     let before : IsDeskOf c.args.model.now c.args.displays.now.items c.swap_displays.new.self =
     taken _ (map (λ l. l.now) c.args.lines.items) _ _ _ c.new-desk.ensures c.swap_displays.ensures.taken c.requires in
     let after : IsDeskOf c.args.model.now c.swap_displays-2.new.displays.items c.obey-obeyed.new.self =
-    given _ _ _ _ _ before c.obey-obeyed.ensures.model c.obey-obeyed.ensures.lines c.swap_displays-2.ensures.given in
+    given _ _ _ _ _ before c.obey-obeyed.ensures.model c.obey-obeyed.ensures.lines c.obey-obeyed.ensures.data_text
+    c.swap_displays-2.ensures.given in
     rw (lent_is c.args.debugger.now _ _ _ before, lent_is c.obey-obeyed.new.debugger _ _ _ after)
     c.obey-obeyed.ensures.place
 
@@ -16,6 +17,7 @@ returns-clause-memory g c =
     let before : IsDeskOf c.args.model.now c.args.displays.now.items c.swap_displays.new.self =
     taken _ (map (λ l. l.now) c.args.lines.items) _ _ _ c.new-desk.ensures c.swap_displays.ensures.taken c.requires in
     let after : IsDeskOf c.args.model.now c.swap_displays-2.new.displays.items c.obey-obeyed.new.self =
-    given _ _ _ _ _ before c.obey-obeyed.ensures.model c.obey-obeyed.ensures.lines c.swap_displays-2.ensures.given in
+    given _ _ _ _ _ before c.obey-obeyed.ensures.model c.obey-obeyed.ensures.lines c.obey-obeyed.ensures.data_text
+    c.swap_displays-2.ensures.given in
     rw (lent_is c.args.debugger.now _ _ _ before, lent_is c.obey-obeyed.new.debugger _ _ _ after)
     c.obey-obeyed.ensures.memory

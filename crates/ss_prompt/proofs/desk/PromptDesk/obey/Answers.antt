@@ -19,3 +19,9 @@ returns-clause-lines g c =
     (stays c.follow.result (state_at c.args.debugger.now c.args.self.now)
     (state_at c.follow.new.debugger c.follow.new.self) c.args.command c.follow.ensures.place
     c.follow.ensures.memory).lines
+
+pub returns-clause-data_text : goal.returns-clause-data_text
+returns-clause-data_text g c =
+    (stays c.follow.result (state_at c.args.debugger.now c.args.self.now)
+    (state_at c.follow.new.debugger c.follow.new.self) c.args.command c.follow.ensures.place
+    c.follow.ensures.memory).data_text
