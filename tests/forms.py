@@ -5,7 +5,7 @@ import re
 # What says that there is no such thing.
 NONE = re.compile(rb"NO (CLASS|ENTITY|ATTRIBUTE|SET|VARIABLE|EVENTS)\b")
 # The answer to each form of a question, as an expression: {names} are the words behind the question's first. A list
-# without its number has one in its answer, unless it is the system's.
+# without its number has one in its answer, unless it is the system's. Only ssdb answers TAKEN with the next pieces too.
 FORMS = {
     r"VAR \S+": r"{names} = (?P<value>\S+)\n",
     r"SET \S+": r"{names}( \d+)?: (?P<value>.+)\n",
@@ -13,7 +13,7 @@ FORMS = {
     r"COUNT \S+": r"COUNT {names}( \d+)?: (?P<value>\d+)\n",
     r"COUNT \S+ \d+": r"COUNT {names}: (?P<value>\d+)\n",
     r"CLOCK": r"CLOCK (?P<value>-?\d+)\n",
-    r"TAKEN": r"TAKEN (?P<value>\d+)\n",
+    r"TAKEN": r"TAKEN (?P<value>\d+)\n((NEXT ON LINE \d+: .+|NO PIECE IS LEFT)\n)?",
     r"ENTRY": r"ENTRY (?P<value>NONE|\S+ \d+ (WAITING|RUNNING))\n",
     r"WHERE": r"(?P<value>STATE \d+ CLOCK .+)\n",
     r"EVENTS": r"(?P<value>(\S+ \d+ AT \d+\n)+)",

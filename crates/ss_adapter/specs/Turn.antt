@@ -160,7 +160,8 @@ going_to_stop state =
 abbrev pub reply_with_stop : Input → ℕ → List ℕ → List Sent
 reply_with_stop input p reason = reply (codes "{}") ∷ stopped_event reason (without_last (state_line input p)) None ∷ []
 
--- the console is a prompt over the debugger, in which LIST does not go on
+-- the console is a prompt over the debugger, in which LIST does not go on; it does not know the
+-- text of the data
 abbrev pub at_console : AdapterState → PromptState
 at_console state = record {
   model = state.desk.model;
@@ -169,6 +170,7 @@ at_console state = record {
   debugger = state.debugger;
   displays = state.desk.displays;
   listed = None;
+  data_text = None;
 }
 
 -- the answer of the prompt to a command

@@ -5,3 +5,6 @@ pub mod Fitting
 pub mod Evaluated
 pub mod Standing
 pub mod Faulting
+pub mod PieceWalks
+pub mod Refusals
+pub mod Digits

@@ -17,4 +17,5 @@ pub mod StopRefusals
 pub mod Once
 pub mod Cleared
 pub mod Listed
+pub mod TakenRefusals
 pub mod MissingLaws

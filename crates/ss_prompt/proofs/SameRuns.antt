@@ -14,64 +14,67 @@ use Rattle.ss_prompt.specs.Cleared.{IsClearRefused}
 use Rattle.ss_prompt.specs.Sections.{on_line_next, line_of_section}
 use Rattle.ss_prompt.specs.Prompting.{prompt_state_after, state_led, IsRefused}
 
--- the run of two states of the prompt is the same one, and so are the model and its lines
+-- the run of two states of the prompt is the same one, and so are the model, its lines and the text
+-- of the data
 pub record IsSameRun (s after : PromptState) : Type 0 where
   pub input : after.input ≡ s.input
   pub model : after.model ≡ s.model
   pub lines : after.lines ≡ s.lines
+  pub data_text : after.data_text ≡ s.data_text
 
 same : (s : PromptState) → IsSameRun s s
-same s = record { input = refl; model = refl; lines = refl }
+same s = record { input = refl; model = refl; lines = refl; data_text = refl }
 
 unchanged : (s after : PromptState) → after ≡ s → IsSameRun s after
 unchanged s after e = record {
   input = ap (λ (v : PromptState). v.input) e;
   model = ap (λ (v : PromptState). v.model) e;
   lines = ap (λ (v : PromptState). v.lines) e;
+  data_text = ap (λ (v : PromptState). v.data_text) e;
 }
 
 beside : (s after : PromptState) → IsSameBeside s after → IsSameRun s after
-beside s after h = record { input = h.2; model = h.0; lines = h.1 }
+beside s after h = record { input = h.2; model = h.0; lines = h.1; data_text = h.5 }
 
 on_line : (s : PromptState) (make : ℕ → Command) (line : Option ℕ) → IsSameRun s (on_line_next s make line)
 on_line s make None = same s
-on_line s make (Some line) = record { input = refl; model = refl; lines = refl }
+on_line s make (Some line) = record { input = refl; model = refl; lines = refl; data_text = refl }
 
 -- another line after which LIST goes on
 noted : (s after : PromptState) (x : Option ℕ) → IsSameRun s after → IsSameRun s (with_listed after x)
-noted s after x h = record { input = h.input; model = h.model; lines = h.lines }
+noted s after x h = record { input = h.input; model = h.model; lines = h.lines; data_text = h.data_text }
 
 -- after a command
 obeyed : (s : PromptState) (command : PromptCommand) → IsSameRun s (prompt_state_after s command)
 unfolding prompt_state_after state_led
-obeyed s (prompt.Plain command) = record { input = refl; model = refl; lines = refl }
-obeyed s (prompt.Travel movement) = record { input = refl; model = refl; lines = refl }
-obeyed s (prompt.Once line) = record { input = refl; model = refl; lines = refl }
-obeyed s (prompt.Lines line) = record { input = refl; model = refl; lines = refl }
-obeyed s (prompt.LinesBetween from to) = record { input = refl; model = refl; lines = refl }
-obeyed s (prompt.SectionLines name) = record { input = refl; model = refl; lines = refl }
+obeyed s (prompt.Plain command) = record { input = refl; model = refl; lines = refl; data_text = refl }
+obeyed s (prompt.Travel movement) = record { input = refl; model = refl; lines = refl; data_text = refl }
+obeyed s (prompt.Once line) = record { input = refl; model = refl; lines = refl; data_text = refl }
+obeyed s (prompt.Lines line) = record { input = refl; model = refl; lines = refl; data_text = refl }
+obeyed s (prompt.LinesBetween from to) = record { input = refl; model = refl; lines = refl; data_text = refl }
+obeyed s (prompt.SectionLines name) = record { input = refl; model = refl; lines = refl; data_text = refl }
 obeyed s (prompt.BreakSection name) =
     noted s (on_line_next s plain.Break (line_of_section s.input.program name)) s.listed
     (on_line s plain.Break (line_of_section s.input.program name))
-obeyed s (prompt.NoPlace line next) = record { input = refl; model = refl; lines = refl }
+obeyed s (prompt.NoPlace line next) = record { input = refl; model = refl; lines = refl; data_text = refl }
 obeyed s (prompt.ClearSection name) =
     noted s (on_line_next s plain.Clear (line_of_section s.input.program name)) s.listed
     (on_line s plain.Clear (line_of_section s.input.program name))
-obeyed s prompt.ClearAll = record { input = refl; model = refl; lines = refl }
-obeyed s prompt.Breaks = record { input = refl; model = refl; lines = refl }
-obeyed s (prompt.Ask question) = record { input = refl; model = refl; lines = refl }
-obeyed s (prompt.See sight) = record { input = refl; model = refl; lines = refl }
-obeyed s prompt.Changed = record { input = refl; model = refl; lines = refl }
-obeyed s (prompt.Why question) = record { input = refl; model = refl; lines = refl }
-obeyed s (prompt.History question rows) = record { input = refl; model = refl; lines = refl }
-obeyed s (prompt.Display question) = record { input = refl; model = refl; lines = refl }
-obeyed s prompt.Undisplay = record { input = refl; model = refl; lines = refl }
-obeyed s (prompt.UndisplayOne question) = record { input = refl; model = refl; lines = refl }
-obeyed s (prompt.Unread word numbered) = record { input = refl; model = refl; lines = refl }
-obeyed s (prompt.Missing missing) = record { input = refl; model = refl; lines = refl }
-obeyed s (prompt.Names name) = record { input = refl; model = refl; lines = refl }
-obeyed s prompt.Warnings = record { input = refl; model = refl; lines = refl }
-obeyed s (prompt.Help word) = record { input = refl; model = refl; lines = refl }
+obeyed s prompt.ClearAll = record { input = refl; model = refl; lines = refl; data_text = refl }
+obeyed s prompt.Breaks = record { input = refl; model = refl; lines = refl; data_text = refl }
+obeyed s (prompt.Ask question) = record { input = refl; model = refl; lines = refl; data_text = refl }
+obeyed s (prompt.See sight) = record { input = refl; model = refl; lines = refl; data_text = refl }
+obeyed s prompt.Changed = record { input = refl; model = refl; lines = refl; data_text = refl }
+obeyed s (prompt.Why question) = record { input = refl; model = refl; lines = refl; data_text = refl }
+obeyed s (prompt.History question rows) = record { input = refl; model = refl; lines = refl; data_text = refl }
+obeyed s (prompt.Display question) = record { input = refl; model = refl; lines = refl; data_text = refl }
+obeyed s prompt.Undisplay = record { input = refl; model = refl; lines = refl; data_text = refl }
+obeyed s (prompt.UndisplayOne question) = record { input = refl; model = refl; lines = refl; data_text = refl }
+obeyed s (prompt.Unread word numbered) = record { input = refl; model = refl; lines = refl; data_text = refl }
+obeyed s (prompt.Missing missing) = record { input = refl; model = refl; lines = refl; data_text = refl }
+obeyed s (prompt.Names name) = record { input = refl; model = refl; lines = refl; data_text = refl }
+obeyed s prompt.Warnings = record { input = refl; model = refl; lines = refl; data_text = refl }
+obeyed s (prompt.Help word) = record { input = refl; model = refl; lines = refl; data_text = refl }
 
 refused_plain : (s after : PromptState) (command : Command) → IsPlainRefused s command after → IsSameRun s after
 unfolding IsPlainRefused
@@ -160,6 +163,7 @@ stays (Ok value) s after command ok err = let h = obeyed s command in record {
   input = ap (λ (v : PromptState). v.input) ok ∙ h.input;
   model = ap (λ (v : PromptState). v.model) ok ∙ h.model;
   lines = ap (λ (v : PromptState). v.lines) ok ∙ h.lines;
+  data_text = ap (λ (v : PromptState). v.data_text) ok ∙ h.data_text;
 }
 stays (Err error) s after command ok err = refused s after command err
 

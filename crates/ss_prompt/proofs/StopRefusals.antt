@@ -39,6 +39,7 @@ same s after e = (
   ap (λ (v : PromptState). v.input) e,
   ap (λ (v : PromptState). v.displays) e,
   ap (λ (v : PromptState). v.listed) e,
+  ap (λ (v : PromptState). v.data_text) e,
 )
 
 -- all but the debugger is the same

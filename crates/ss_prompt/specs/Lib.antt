@@ -13,6 +13,7 @@ pub mod Sights
 pub mod Reading
 pub mod Stops
 pub mod PromptState
+pub mod Taken
 pub mod Plain
 pub mod Once
 pub mod Travel

@@ -11,8 +11,8 @@ use Rattle.ss_prompt.specs.Source.{source_lines, marked_line}
 use Rattle.ss_prompt.specs.Names.{warnings_told}
 use Rattle.ss_faults.specs.Sentence.{fault_text}
 
--- a debugger in the run of an input, its model and its lines, the questions of each stop, and where
--- LIST goes on
+-- a debugger in the run of an input, its model and its lines, the questions of each stop, the line
+-- after which LIST goes on, and the text of the data
 pub record PromptState : Type 0 where
   -- the bytes of the model
   pub model : List ℕ
@@ -26,17 +26,20 @@ pub record PromptState : Type 0 where
   pub displays : List Question
   -- the last line that LIST printed, if no movement came after it
   pub listed : Option ℕ
+  -- the text of the data, if it is known
+  pub data_text : Option (List ℕ)
 
--- the state of the prompt for a debugger with this model, these lines and these questions; LIST
--- printed nothing
-abbrev pub prompt_state_of : DebuggerView → List ℕ → List (List ℕ) → List Question → PromptState
-prompt_state_of debugger model lines displays = record {
+-- the state of the prompt for a debugger with this model, these lines, these questions and this
+-- text of the data; LIST printed nothing
+abbrev pub prompt_state_of : DebuggerView → List ℕ → List (List ℕ) → List Question → Option (List ℕ) → PromptState
+prompt_state_of debugger model lines displays data_text = record {
   model = model;
   lines = lines;
   input = debugger.machine.input;
   debugger = debugger_state_of debugger;
   displays = displays;
   listed = None;
+  data_text = data_text;
 }
 
 -- the parts of the prompt that are not the debugger's
@@ -49,16 +52,30 @@ pub record PromptDeskView : Type 0 where
   pub displays : List Question
   -- the last line that LIST printed, if no movement came after it
   pub listed : Option ℕ
+  -- the text of the data, if it is known
+  pub data_text : Option (List ℕ)
 
 -- the same desk, with other questions
 abbrev pub with_questions : PromptDeskView → List Question → PromptDeskView
 with_questions desk displays =
-    record { model = desk.model; lines = desk.lines; displays = displays; listed = desk.listed }
+    record {
+      model = desk.model;
+      lines = desk.lines;
+      displays = displays;
+      listed = desk.listed;
+      data_text = desk.data_text;
+    }
 
 -- the same desk, with another line after which LIST goes on
 abbrev pub noting : PromptDeskView → Option ℕ → PromptDeskView
 noting desk listed =
-    record { model = desk.model; lines = desk.lines; displays = desk.displays; listed = listed }
+    record {
+      model = desk.model;
+      lines = desk.lines;
+      displays = desk.displays;
+      listed = listed;
+      data_text = desk.data_text;
+    }
 
 -- the state of the prompt for a debugger and a desk
 abbrev pub state_at : DebuggerView → PromptDeskView → PromptState
@@ -69,11 +86,13 @@ state_at debugger desk = record {
   debugger = debugger_state_of debugger;
   displays = desk.displays;
   listed = desk.listed;
+  data_text = desk.data_text;
 }
 
--- the state of the prompt for a lent debugger, in the run of a model, with these questions
+-- the state of the prompt for a lent debugger, in the run of a model, with these questions; the
+-- text of the data is not known
 abbrev pub lent_state : DebuggerView → List ℕ → List Question → PromptState
-lent_state debugger model displays = prompt_state_of debugger model (source_lines model) displays
+lent_state debugger model displays = prompt_state_of debugger model (source_lines model) displays None
 
 -- a state of the prompt, with the debugger in another state
 abbrev pub with_debugger : PromptState → DebuggerState → PromptState
@@ -85,6 +104,7 @@ with_debugger state debugger =
       debugger = debugger;
       displays = state.displays;
       listed = state.listed;
+      data_text = state.data_text;
     }
 
 -- a state of the prompt, with other questions
@@ -97,6 +117,7 @@ with_displays state displays =
       debugger = state.debugger;
       displays = displays;
       listed = state.listed;
+      data_text = state.data_text;
     }
 
 -- a state of the prompt, with another line after which LIST goes on
@@ -109,6 +130,7 @@ with_listed state listed =
       debugger = state.debugger;
       displays = state.displays;
       listed = listed;
+      data_text = state.data_text;
     }
 
 -- a state of the prompt in which LIST does not go on
@@ -119,7 +141,7 @@ unlisted state = with_listed state None
 abbrev pub IsSameBeside : PromptState → PromptState → Type 0
 IsSameBeside state after =
     (after.model ≡ state.model) × (after.lines ≡ state.lines) × (after.input ≡ state.input)
-    × (after.displays ≡ state.displays) × (after.listed ≡ state.listed)
+    × (after.displays ≡ state.displays) × (after.listed ≡ state.listed) × (after.data_text ≡ state.data_text)
 
 -- the line of the place of a state, as it is written in the model
 abbrev pub source_line : PromptState → List ℕ
@@ -131,14 +153,14 @@ answers_to input p [] = []
 answers_to input p (x ∷ xs) = answer_at input x p ++ answers_to input p xs
 
 -- the meaning of a state's fault, and the thing that it is about, if the state is faulted
-abbrev pub fault_told : Input → ℕ → List ℕ
-fault_told input p = fault_text input.program (run input p) (run input p).status
+abbrev pub fault_told : Option (List ℕ) → Input → ℕ → List ℕ
+fault_told data_text input p = fault_text input.program (run input p) data_text (run input p).status
 
 -- the text on the debugger's state: the meaning of the fault, if there is one; the line of the
 -- model; the answers to the questions of each stop
 abbrev pub place_text : PromptState → List ℕ
 place_text state =
-    fault_told state.input state.debugger.position ++ source_line state
+    fault_told state.data_text state.input state.debugger.position ++ source_line state
     ++ answers_to state.input state.debugger.position state.displays
 
 -- the text at a terminal before the first line: that HELP lists the commands, the warnings on the

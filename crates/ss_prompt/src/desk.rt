@@ -1,5 +1,6 @@
 //! The parts of the prompt that are not the debugger's: with a lent debugger they obey commands.
 ghost use Rattle.std.specs.Prelude.{◌≡◌, ◌++◌, [], map, None, OnOk, OnErr, IfOk, IsOk, true};
+ghost use Rattle.std.specs.Option.{option_copied};
 ghost use Rattle.ss_console.specs.Going.{go_of};
 ghost use Rattle.ss_machine.specs.Moment.{position};
 ghost use Rattle.ss_debug.specs.Answer.{state_line};
@@ -35,6 +36,7 @@ use crate::seeing::push_sight;
 use crate::sight::Sight;
 use crate::source::push_marked_line;
 use crate::stops::{goes_back, travels_back};
+use crate::taken::push_next;
 use ss_changes::{push_changed, push_stop_changes, push_stop_changes_ahead};
 use ss_console::Go;
 use ss_debug::{Command, Debugger, Question as PlainQuestion, obey};
@@ -46,18 +48,21 @@ use std::marker::Model;
 use std::mem::swap;
 
 /// The parts of the prompt that are not the debugger's: the model, its lines, the questions that
-/// are answered at each stop, and the last line that LIST printed, if no movement came after it.
+/// are answered at each stop, the last line that LIST printed, if no movement came after it, and
+/// the text of the data, if it is known.
 #[derive(Drop)]
 pub(crate) struct PromptDesk<'a> {
     model: &'a [u8],
     lines: Vec<&'a [u8]>,
     displays: Vec<Question>,
     listed: Option<usize>,
+    data_text: Option<&'a [u8]>,
     alloc: Global,
 }
 
 impl<'a> Model for PromptDesk<'a> {
     ghost use Rattle.std.specs.Prelude.{map};
+    ghost use Rattle.std.specs.Option.{option_copied};
     ghost use Rattle.ss_prompt.specs.PromptState.{PromptDeskView};
 
     ghost Value = { PromptDeskView };
@@ -67,6 +72,7 @@ impl<'a> Model for PromptDesk<'a> {
       lines = map (λ l. l.now) k.lines.items;
       displays = k.displays.items;
       listed = k.listed;
+      data_text = option_copied k.data_text;
     } };
 }
 
@@ -80,14 +86,20 @@ fn push_place<S: SetBoard>(debugger: &Debugger<S>, text: &mut Vec<u8>) -> Result
 }
 
 impl<'a> PromptDesk<'a> {
-    /// The desk for a model with these lines; no question is answered at stops, and no line is
-    /// listed.
-    pub fn new(alloc: Global, model: &'a [u8], lines: Vec<&'a [u8]>) -> Self
+    /// The desk for a model with these lines and, if it is known, this text of its data; no
+    /// question is answered at stops, and no line is listed.
+    pub fn new(
+        alloc: Global,
+        model: &'a [u8],
+        lines: Vec<&'a [u8]>,
+        data_text: Option<&'a [u8]>,
+    ) -> Self
         ensures { result ≡ record {
           model = model.now;
           lines = map (λ l. l.now) lines.entry.items;
           displays = [];
           listed = None;
+          data_text = option_copied data_text.entry;
         } }
     {
         PromptDesk {
@@ -95,6 +107,7 @@ impl<'a> PromptDesk<'a> {
             lines,
             displays: Vec::new(alloc),
             listed: None,
+            data_text,
             alloc,
         }
     }
@@ -113,12 +126,12 @@ impl<'a> PromptDesk<'a> {
         debugger: &Debugger<S>,
         answer: &mut Vec<u8>,
     ) -> Result<(), AllocError>
-        ensures { OnOk result (answer.new.items ≡ answer.old.items
-            ++ fault_told debugger.now.machine.input (position debugger.now.machine)) }
+        ensures { OnOk result (answer.new.items ≡ answer.old.items ++ fault_told self.now.data_text
+            debugger.now.machine.input (position debugger.now.machine)) }
     {
         let machine = debugger.machine();
         machine.known();
-        push_fault_sentence(self.alloc, machine, answer)
+        push_fault_sentence(self.alloc, machine, self.data_text, answer)
     }
 
     /// Appends the line of the model.
@@ -222,6 +235,26 @@ impl<'a> PromptDesk<'a> {
         self.push_place_text(debugger, text)
     }
 
+    /// SHOW TAKEN.
+    #[tactic(auto, using(crate::proofs::TakenRefusals::after_taken, crate::proofs::StopRefusals::movements))]
+    fn show_taken<S: SetBoard>(
+        &self,
+        debugger: &mut Debugger<S>,
+        answer: &mut Vec<u8>,
+    ) -> Result<(), AllocError>
+        ensures place { OnOk result (state_at debugger.new self.now
+            ≡ plain_next (state_at debugger.old self.now) (Command.Show PlainQuestion.Taken)) }
+        ensures said { OnOk result (answer.new.items ≡ answer.old.items
+            ++ plain_said (state_at debugger.old self.now) (Command.Show PlainQuestion.Taken)) }
+        ensures memory { OnErr result (IsPlainRefused (state_at debugger.old self.now)
+            (Command.Show PlainQuestion.Taken) (state_at debugger.new self.now)) }
+    {
+        obey(debugger, Command::Show(PlainQuestion::Taken), answer)?;
+        let machine = debugger.machine();
+        machine.known();
+        push_next(answer, self.data_text, machine.taken())
+    }
+
     /// A command of docs/DEBUGGER.md.
     #[tactic(auto, using(crate::proofs::StopRefusals::movements))]
     fn obey_plain<S: SetBoard>(
@@ -243,6 +276,10 @@ impl<'a> PromptDesk<'a> {
             Command::Move(movement) => {
                 obey(debugger, Command::Move(movement), answer)?;
                 self.push_stop(debugger, goes_back(movement), answer)?;
+                Ok(Go::On)
+            }
+            Command::Show(PlainQuestion::Taken) => {
+                self.show_taken(debugger, answer)?;
                 Ok(Go::On)
             }
             other => match obey(debugger, other, answer)? {
@@ -462,6 +499,7 @@ impl<'a> PromptDesk<'a> {
         ensures input { debugger.new.machine.input ≡ debugger.old.machine.input }
         ensures model { self.new.model ≡ self.old.model }
         ensures lines { self.new.lines ≡ self.old.lines }
+        ensures data_text { self.new.data_text ≡ self.old.data_text }
         ensures place { OnOk result (state_at debugger.new self.new
             ≡ prompt_state_after (state_at debugger.old self.old) command) }
         ensures said { OnOk result (answer.new.items

@@ -96,7 +96,7 @@ pub const HELP_ROWS: [(&[u8], &[u8]); 60] = [
     (b"SHOW", b"SHOW EVENTS: the pending notices, the next first"),
     (
         b"SHOW",
-        b"SHOW TAKEN: how many values of the data are taken",
+        b"SHOW TAKEN: how many values of the data are taken, and the next three",
     ),
     (b"SHOW", b"SHOW ENTRY: the entry of an external event"),
     (b"SHOW", b"SHOW REPORT: the report so far"),

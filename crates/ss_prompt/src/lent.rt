@@ -36,7 +36,7 @@ fn answer_with<'a, S: SetBoard>(
         (lent_state debugger.old model.now displays.old.items) command
         (lent_state debugger.new model.now displays.new.items)) }
 {
-    let mut desk = PromptDesk::new(alloc, model, lines);
+    let mut desk = PromptDesk::new(alloc, model, lines, None);
     desk.swap_displays(displays);
     let obeyed = desk.obey(debugger, command, answer);
     desk.swap_displays(displays);
@@ -45,7 +45,8 @@ fn answer_with<'a, S: SetBoard>(
 
 /// Does the work of a command of docs/PROMPT.md with a debugger that is lent, in the run of a
 /// model, and appends its whole answer. The questions are those that are answered at each stop.
-/// LIST does not go on after it.
+/// LIST does not go on after it. The text of the data is not known here, so no piece of it is
+/// shown.
 ///
 /// `AllocError` if memory was refused: then nothing of the answer counts, and the debugger is in a
 /// state in which a prompt leaves it, in the same run.

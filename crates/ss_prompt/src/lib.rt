@@ -29,6 +29,7 @@ mod seeing;
 mod sight;
 mod source;
 mod stops;
+mod taken;
 
 pub use commands::PromptCommand;
 pub use completions::push_completions;

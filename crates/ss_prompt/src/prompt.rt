@@ -1,5 +1,5 @@
 //! The debugger answers the lines of a dialogue.
-ghost use Rattle.std.specs.Prelude.{◌≡◌, ◌++◌, [], map, OnOk};
+ghost use Rattle.std.specs.Prelude.{◌≡◌, ◌++◌, [], map, OnOk, Some};
 ghost use Rattle.ss_state.specs.Run.{run};
 ghost use Rattle.ss_debug.specs.View.{debugger_state_of};
 ghost use Rattle.ss_console.specs.Going.{go_of};
@@ -18,8 +18,8 @@ use ss_state::Status;
 use std::alloc::{AllocError, Global};
 use std::marker::Model;
 
-/// A debugger that answers the lines of a dialogue, with its model, the lines of that, and the
-/// questions that are answered at each stop.
+/// A debugger that answers the lines of a dialogue, with its model, the lines of that, the text of
+/// its data, and the questions that are answered at each stop.
 #[derive(Drop)]
 pub struct Prompt<'a, S: SetBoard> {
     debugger: Debugger<S>,
@@ -39,13 +39,20 @@ impl<'a, S: SetBoard> Model for Prompt<'a, S> {
 }
 
 impl<'a, S: SetBoard> Prompt<'a, S> {
-    /// A prompt over a debugger, with its model and the lines of that; no question is answered at
-    /// stops.
-    pub fn new(alloc: Global, debugger: Debugger<S>, model: &'a [u8], lines: Vec<&'a [u8]>) -> Self
+    /// A prompt over a debugger, with its model and the lines of that, and the text of its data; no
+    /// question is answered at stops.
+    pub fn new(
+        alloc: Global,
+        debugger: Debugger<S>,
+        model: &'a [u8],
+        lines: Vec<&'a [u8]>,
+        data_text: &'a [u8],
+    ) -> Self
         ensures { result
-            ≡ prompt_state_of debugger model.now (map (λ l. l.now) lines.entry.items) [] }
+            ≡ prompt_state_of debugger model.now (map (λ l. l.now) lines.entry.items) []
+            (Some data_text.now) }
     {
-        let desk = PromptDesk::new(alloc, model, lines);
+        let desk = PromptDesk::new(alloc, model, lines, Some(data_text));
         Prompt { debugger, desk }
     }
 

@@ -53,7 +53,7 @@ refused_says (Err Write) fault model data_text asked old r o = absurd r
 
 made_end : (end : RunEnd) (whole : WholeRun) (program : ProgramTable) (model data_text : List ℕ) (asked : Asked)
     (old new : OutletState) (p : ℕ) → IsOutcome model (accepted program) → IsRunEnd (input_with program data_text) p →
-    SaysEnd (input_with program data_text) p end → TellsEnd whole (input_with program data_text) asked p →
+    SaysEnd (input_with program data_text) p end → TellsEnd whole data_text (input_with program data_text) asked p →
     RunEnds (Ok end) (input_with program data_text) old new →
     ReportSays (Ok end) model data_text old new × TellsBeside end whole model data_text asked
 unfolding ReportSays
@@ -65,7 +65,8 @@ made_end (Refused line) whole program model data_text asked old new p o e s b r 
 -- the results for a run that was made
 pub run_says : (result : Result WholeRun RunCut) (program : ProgramTable) (model data_text : List ℕ) (asked : Asked)
     (old new : OutletState) → IsOutcome model (accepted program) →
-    MakesRun result (input_with program data_text) asked old new → RunSays result model data_text asked old new
+    MakesRun result data_text (input_with program data_text) asked old new →
+    RunSays result model data_text asked old new
 unfolding MakesRun RunEnds ReportSays RunSays
 run_says (Ok whole) program model data_text asked old new o r =
     made_end whole.end whole program model data_text asked old new r.0 o r.1 r.2 r.3 (r.0, r.1, r.2, r.4, r.5)

@@ -228,7 +228,7 @@ same_cut a b e = cc
 -- the results for a run that was made and traced
 pub trace_says : (result : Result WholeRun RunCut) (program : ProgramTable) (model data_text : List ℕ)
     (xs : List Question) (asked : Asked) (old new trace traced : OutletState) → IsOutcome model (accepted program) →
-    MakesTrace result (input_with program data_text) xs asked old new trace traced →
+    MakesTrace result data_text (input_with program data_text) xs asked old new trace traced →
     TraceSays result model data_text xs asked old new trace traced
 unfolding MakesTrace TraceSays MakesRun
 trace_says (Ok whole) program model data_text xs asked old new trace traced o (inl h) = (

@@ -42,12 +42,12 @@ pub record HasAdvanced (stepped : Stepped) (steps : ℕ) (old new : Moment) : Ty
   -- the reason why it stopped
   pub reason : EndsBy stepped steps old new
 
--- a run is made, and its report written, or the run is cut short
-unfoldable pub MakesRun : Result WholeRun RunCut → Input → Asked → OutletState → OutletState → Type 0
-MakesRun (Ok whole) input asked old new =
-    (p : ℕ) × IsRunEnd input p × SaysEnd input p whole.end × TellsEnd whole input asked p
+-- a run over some data is made, and its report written, or the run is cut short
+unfoldable pub MakesRun : Result WholeRun RunCut → List ℕ → Input → Asked → OutletState → OutletState → Type 0
+MakesRun (Ok whole) data_text input asked old new =
+    (p : ℕ) × IsRunEnd input p × SaysEnd input p whole.end × TellsEnd whole data_text input asked p
     × Appends old.taken new.taken (run input p).report × (new.failures ≡ old.failures)
-MakesRun (Err cut) input asked old new = RunEnds (Err cut) input old new
+MakesRun (Err cut) data_text input asked old new = RunEnds (Err cut) input old new
 
 -- the result for a model whose text the rule with this code refuses
 abbrev pub RefusesText : RunEnd → WholeRun → List ℕ → List ℕ → ℕ → Type 0

@@ -1,6 +1,6 @@
 -- The explanation after the line of a fault, or of a refused model.
 use Rattle.std.specs.Prelude.{ℕ, ◌-◌, List, ◌∷◌, [], ◌++◌, length, take, codes, decimal, nat_eq, get_or}
-use Rattle.std.specs.Prelude.{zero, suc, if◌then◌else◌}
+use Rattle.std.specs.Prelude.{zero, suc, Some, if◌then◌else◌}
 use Rattle.std.specs.List.{before_first, after_first}
 use Rattle.ss_program.specs.Program.{ProgramTable}
 use Rattle.ss_state.specs.State.{State}
@@ -9,9 +9,10 @@ use Rattle.ss_sentences.specs.Wording.{rule_sentence}
 use Rattle.ss_faults.specs.Sentence.{fault_text}
 use Rattle.ss_names.specs.Subjects.{breach_text}
 
--- the text after the line of the last state: if it is faulted, the fault's sentence and its parts
-unfoldable pub end_explanation : ProgramTable → State → List ℕ
-end_explanation program state = fault_text program state state.status
+-- the text after the line of the last state of a run over some data: if it is faulted, the fault's
+-- sentence, its parts, and the piece of the data that it is about
+unfoldable pub end_explanation : ProgramTable → List ℕ → State → List ℕ
+end_explanation program data_text state = fault_text program state (Some data_text) state.status
 
 -- the sentence of a rule after its code, as a line
 abbrev pub rule_line : List ℕ → List ℕ

@@ -92,10 +92,10 @@ CutsRows cut input xs old new =
     (p : ℕ) × Reaches input p × WritesPart (rows_before input xs p) old.taken new.taken
     × (new.failures ≡ old.failures + cut_failures cut)
 
--- a run is made and traced: the whole trace is written, and the report as without it, or the trace was cut, and nothing
--- of the report is written
-unfoldable pub MakesTrace : Result WholeRun RunCut → Input → List Question → Asked → OutletState → OutletState →
-    OutletState → OutletState → Type 0
-MakesTrace result input xs asked old new trace traced =
-    (MakesRun result input asked old new × IsTraced input xs trace traced)
+-- a run over some data is made and traced: the whole trace is written, and the report as without
+-- it, or the trace was cut, and nothing of the report is written
+unfoldable pub MakesTrace : Result WholeRun RunCut → List ℕ → Input → List Question → Asked → OutletState →
+    OutletState → OutletState → OutletState → Type 0
+MakesTrace result data_text input xs asked old new trace traced =
+    (MakesRun result data_text input asked old new × IsTraced input xs trace traced)
     ⊎ ((cut : RunCut) × (result ≡ Err cut) × WritesNothing old new × IsTracedInPart cut input xs trace traced)

@@ -17,11 +17,11 @@ use Rattle.ss_run.specs.Fields.{unfit_values}
 use Rattle.ss_run.specs.Report.{IsRunEnd, ReportSays, status_of_end}
 use Rattle.ss_run.specs.Results.{Asked, results_row}
 
--- the results of a run that ended at position p: the explanation of that state, the number of
--- values of its report that did not fit, and the row of its results
-abbrev pub TellsEnd : WholeRun → Input → Asked → ℕ → Type 0
-TellsEnd whole input asked p =
-    (whole.explanation.items ≡ end_explanation input.program (run input p))
+-- the results of a run over some data that ended at position p: the explanation of that state, the
+-- number of values of its report that did not fit, and the row of its results
+abbrev pub TellsEnd : WholeRun → List ℕ → Input → Asked → ℕ → Type 0
+TellsEnd whole data_text input asked p =
+    (whole.explanation.items ≡ end_explanation input.program data_text (run input p))
     × (whole.unfit ≡ unfit_values (run input p).report)
     × (whole.results.items ≡ results_row input asked (status_of_end whole.end) p)
 
@@ -29,7 +29,8 @@ TellsEnd whole input asked p =
 abbrev pub TellsRun : WholeRun → List ℕ → List ℕ → Asked → Type 0
 TellsRun whole model data_text asked =
     (program : ProgramTable) × IsOutcome model (accepted program)
-    × (p : ℕ) × IsRunEnd (input_with program data_text) p × TellsEnd whole (input_with program data_text) asked p
+    × (p : ℕ) × IsRunEnd (input_with program data_text) p
+    × TellsEnd whole data_text (input_with program data_text) asked p
 
 -- those of a refused model: the explanation of its text, or the checker's sentence and the line
 abbrev pub TellsRefusal : WholeRun → List ℕ → Type 0

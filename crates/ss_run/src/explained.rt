@@ -12,18 +12,19 @@ use ss_names::push_breach;
 use ss_sentences::rule_sentence;
 use std::alloc::{AllocError, Global};
 
-/// The text after the state line of the last state: if that state is faulted, the fault's sentence
-/// and the parts that it is about.
+/// The text after the state line of the last state of a run over this text of its data: if that
+/// state is faulted, the fault's sentence, the parts that it is about, and the piece of the data.
 #[tactic(auto, unfolding(crate::specs::Explained::end_explanation))]
 pub fn end_explanation<S: SetBoard>(
     alloc: Global,
     machine: &Machine<S>,
+    data_text: &[u8],
 ) -> Result<Vec<u8>, AllocError>
     ensures { IfOk result (λ text. text.items
-        ≡ end_explanation machine.now.input.program machine.now.state) }
+        ≡ end_explanation machine.now.input.program data_text.now machine.now.state) }
 {
     let mut text = Vec::new(alloc);
-    push_fault_sentence(alloc, machine, &mut text)?;
+    push_fault_sentence(alloc, machine, Some(data_text), &mut text)?;
     Ok(text)
 }
 

@@ -181,10 +181,11 @@ fn trace_all<S: SetBoard, P: Progress, T: Outlet>(
     trace_to_end(alloc, debugger, questions, progress, trace)
 }
 
-/// Makes the run of a debugger's machine and its trace, and writes its report.
+/// Makes the run of a debugger's machine over its data and its trace, and writes its report.
 fn trace_report<S: SetBoard, P: Progress, T: Outlet, W: Outlet>(
     alloc: Global,
     debugger: &mut Debugger<S>,
+    data_text: &[u8],
     asked: Asked<'_>,
     progress: &mut P,
     trace: &mut T,
@@ -193,7 +194,7 @@ fn trace_report<S: SetBoard, P: Progress, T: Outlet, W: Outlet>(
     requires start { position debugger.old.machine ≡ 0 }
     requires trace_room { T.failures trace.old < 2 ^ 64 - 1 }
     requires room { W.failures out.old < 2 ^ 64 - 1 }
-    ensures { MakesTrace result debugger.old.machine.input asked.entry.watched.now
+    ensures { MakesTrace result data_text.now debugger.old.machine.input asked.entry.watched.now
         (record { name = asked.entry.name.now; questions = asked.entry.results.now })
         (record { taken = W.taken out.old; failures = W.failures out.old })
         (record { taken = W.taken out.new; failures = W.failures out.new })
@@ -201,13 +202,14 @@ fn trace_report<S: SetBoard, P: Progress, T: Outlet, W: Outlet>(
         (record { taken = T.taken trace.new; failures = T.failures trace.new }) }
 {
     trace_all(alloc, debugger, asked.watched, progress, trace)?;
-    write_report(alloc, debugger, asked, out)
+    write_report(alloc, debugger, data_text, asked, out)
 }
 
-/// Makes the run of a machine and its trace, and writes its report.
+/// Makes the run of a machine over its data and its trace, and writes its report.
 fn trace_run<S: SetBoard, P: Progress, T: Outlet, W: Outlet>(
     alloc: Global,
     machine: Machine<S>,
+    data_text: &[u8],
     asked: Asked<'_>,
     progress: &mut P,
     trace: &mut T,
@@ -216,7 +218,7 @@ fn trace_run<S: SetBoard, P: Progress, T: Outlet, W: Outlet>(
     requires start { position machine ≡ 0 }
     requires trace_room { T.failures trace.old < 2 ^ 64 - 1 }
     requires room { W.failures out.old < 2 ^ 64 - 1 }
-    ensures { MakesTrace result machine.input asked.entry.watched.now
+    ensures { MakesTrace result data_text.now machine.input asked.entry.watched.now
         (record { name = asked.entry.name.now; questions = asked.entry.results.now })
         (record { taken = W.taken out.old; failures = W.failures out.old })
         (record { taken = W.taken out.new; failures = W.failures out.new })
@@ -224,7 +226,7 @@ fn trace_run<S: SetBoard, P: Progress, T: Outlet, W: Outlet>(
         (record { taken = T.taken trace.new; failures = T.failures trace.new }) }
 {
     let mut debugger = Debugger::new(alloc, machine);
-    let written = trace_report(alloc, &mut debugger, asked, progress, trace, out);
+    let written = trace_report(alloc, &mut debugger, data_text, asked, progress, trace, out);
     debugger.end();
     written
 }
@@ -241,7 +243,8 @@ fn trace_program<P: Progress, T: Outlet, W: Outlet>(
 ) -> Result<WholeRun, RunCut>
     requires trace_room { T.failures trace.old < 2 ^ 64 - 1 }
     requires room { W.failures out.old < 2 ^ 64 - 1 }
-    ensures { MakesTrace result (input_with program data_text.now) asked.entry.watched.now
+    ensures { MakesTrace result data_text.now (input_with program data_text.now)
+        asked.entry.watched.now
         (record { name = asked.entry.name.now; questions = asked.entry.results.now })
         (record { taken = W.taken out.old; failures = W.failures out.old })
         (record { taken = W.taken out.new; failures = W.failures out.new })
@@ -250,7 +253,7 @@ fn trace_program<P: Progress, T: Outlet, W: Outlet>(
 {
     let (sets, pending) = (LinkedSets::new(alloc), LinkedSets::new(alloc));
     let machine = machine(alloc, program, data_text, sets, pending)?;
-    trace_run(alloc, machine, asked, progress, trace, out)
+    trace_run(alloc, machine, data_text, asked, progress, trace, out)
 }
 
 /// As `run_model`, and writes a trace of the watched questions as the run goes.

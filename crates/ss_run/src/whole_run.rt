@@ -49,9 +49,9 @@ pub struct WholeRun {
     /// How it ended.
     pub end: RunEnd,
     /// The explanation of a fault or a refusal, in whole lines (docs/SENTENCES.md): the sentence of
-    /// the fault and the parts that it is about; the explanation of a refused text, its place and
-    /// the words that could be there; the sentence of the checker's rule and the refused line.
-    /// Empty for another end.
+    /// the fault, the parts that it is about, and the piece of the data; the explanation of a
+    /// refused text, its place and the words that could be there; the sentence of the checker's
+    /// rule and the refused line. Empty for another end.
     pub explanation: Vec<u8>,
     /// The number of values of the report that did not fit their fields.
     pub unfit: usize,
@@ -186,17 +186,18 @@ fn end_of_run<S: SetBoard>(alloc: Global, debugger: &mut Debugger<S>) -> Result<
     }
 }
 
-/// The results of the run whose last state a debugger holds.
+/// The results of the run over some data whose last state a debugger holds.
 fn tell_end<S: SetBoard>(
     alloc: Global,
     debugger: &mut Debugger<S>,
+    data_text: &[u8],
     asked: Asked<'_>,
 ) -> Result<WholeRun, AllocError>
     ensures input { debugger.new.machine.input ≡ debugger.old.machine.input }
     ensures position { position debugger.new.machine ≡ position debugger.old.machine }
     ensures end { IfOk result (λ whole. SaysEnd debugger.old.machine.input
         (position debugger.old.machine) whole.end) }
-    ensures beside { IfOk result (λ whole. TellsEnd whole debugger.old.machine.input
+    ensures beside { IfOk result (λ whole. TellsEnd whole data_text.now debugger.old.machine.input
         (record { name = asked.entry.name.now; questions = asked.entry.results.now })
         (position debugger.old.machine)) }
 {
@@ -204,7 +205,7 @@ fn tell_end<S: SetBoard>(
     let results = results_row(alloc, debugger, end_status(&end), asked)?;
     let machine = debugger.machine();
     machine.known();
-    let explanation = end_explanation(alloc, machine)?;
+    let explanation = end_explanation(alloc, machine, data_text)?;
     let unfit = unfit_values(machine.report());
     Ok(WholeRun {
         end,
@@ -214,21 +215,22 @@ fn tell_end<S: SetBoard>(
     })
 }
 
-/// Writes the report of the run whose last state a debugger holds.
+/// Writes the report of the run over some data whose last state a debugger holds.
 pub(crate) fn write_report<S: SetBoard, W: Outlet>(
     alloc: Global,
     debugger: &mut Debugger<S>,
+    data_text: &[u8],
     asked: Asked<'_>,
     out: &mut W,
 ) -> Result<WholeRun, RunCut>
     requires end { IsRunEnd debugger.old.machine.input (position debugger.old.machine) }
     requires room { W.failures out.old < 2 ^ 64 - 1 }
-    ensures { MakesRun result debugger.old.machine.input
+    ensures { MakesRun result data_text.now debugger.old.machine.input
         (record { name = asked.entry.name.now; questions = asked.entry.results.now })
         (record { taken = W.taken out.old; failures = W.failures out.old })
         (record { taken = W.taken out.new; failures = W.failures out.new }) }
 {
-    let whole = tell_end(alloc, debugger, asked)?;
+    let whole = tell_end(alloc, debugger, data_text, asked)?;
     let machine = debugger.machine();
     machine.known();
     match put_all(out, machine.report()) {
@@ -240,18 +242,19 @@ pub(crate) fn write_report<S: SetBoard, W: Outlet>(
     }
 }
 
-/// Makes the steps of a run to its end, and writes its report.
+/// Makes the steps of a run over some data to its end, and writes its report.
 #[tactic(auto, using(ss_session::proofs::Pieces::appends_none), unfolding(crate::proofs::Reports::runs_made))]
 fn write_run<S: SetBoard, P: Progress, W: Outlet>(
     alloc: Global,
     machine: Machine<S>,
+    data_text: &[u8],
     asked: Asked<'_>,
     progress: &mut P,
     out: &mut W,
 ) -> Result<WholeRun, RunCut>
     requires start { position machine ≡ 0 }
     requires room { W.failures out.old < 2 ^ 64 - 1 }
-    ensures { MakesRun result machine.input
+    ensures { MakesRun result data_text.now machine.input
         (record { name = asked.entry.name.now; questions = asked.entry.results.now })
         (record { taken = W.taken out.old; failures = W.failures out.old })
         (record { taken = W.taken out.new; failures = W.failures out.new }) }
@@ -260,7 +263,7 @@ fn write_run<S: SetBoard, P: Progress, W: Outlet>(
     let ran = run_to_end(&mut machine, progress);
     let mut debugger = Debugger::new(alloc, machine);
     let written = match ran {
-        Ok(()) => write_report(alloc, &mut debugger, asked, out),
+        Ok(()) => write_report(alloc, &mut debugger, data_text, asked, out),
         Err(_) => Err(RunCut::Memory),
     };
     debugger.end();
@@ -322,14 +325,14 @@ fn run_program<P: Progress, W: Outlet>(
     out: &mut W,
 ) -> Result<WholeRun, RunCut>
     requires { W.failures out.old < 2 ^ 64 - 1 }
-    ensures { MakesRun result (input_with program data_text.now)
+    ensures { MakesRun result data_text.now (input_with program data_text.now)
         (record { name = asked.entry.name.now; questions = asked.entry.results.now })
         (record { taken = W.taken out.old; failures = W.failures out.old })
         (record { taken = W.taken out.new; failures = W.failures out.new }) }
 {
     let (sets, pending) = (LinkedSets::new(alloc), LinkedSets::new(alloc));
     let machine = machine(alloc, program, data_text, sets, pending)?;
-    write_run(alloc, machine, asked, progress, out)
+    write_run(alloc, machine, data_text, asked, progress, out)
 }
 
 /// Runs a model over its data to the end of the run, without a bound, and writes only its report.

@@ -1,5 +1,5 @@
 -- Whole dialogues of their parts.
-use Rattle.std.proofs.Common.{◌≡◌, ℕ, Bool, List, [], refl, inl, inr, Option, None}
+use Rattle.std.proofs.Common.{◌≡◌, ℕ, Bool, List, [], refl, inl, inr, Option, None, Some}
 use Rattle.ss_console.specs.Event.{Event, Adds, write_events}
 use Rattle.ss_console.specs.declared.cut.Cut.TheVariants.{Read, Write, Count}
 use Rattle.ss_state.specs.Run.{Input, input_with, run}
@@ -16,29 +16,30 @@ use Rattle.ss_prompt.specs.Source.{source_lines}
 use Rattle.ssdb.specs.Opening.{greeting_at, end_of_status, IsStart, EndsWell, HoldFails, HoldsFrom, StopsFrom}
 use Rattle.ssdb.specs.Opening.{GreetingFails, IsHeld, IsStopped}
 
-abbrev state_of : List ℕ → List (List ℕ) → Input → DebuggerState → PromptState
-state_of model lines t d = record {
+abbrev state_of : List ℕ → List ℕ → List (List ℕ) → Input → DebuggerState → PromptState
+state_of model data_text lines t d = record {
   model = model;
   lines = lines;
   input = t;
   debugger = d;
   displays = [];
   listed = None;
+  data_text = Some data_text;
 }
 
-same_state : (model : List ℕ) (l m : List (List ℕ)) (t u : Input) (d e : DebuggerState) → l ≡ m → t ≡ u → d ≡ e →
-    state_of model l t d ≡ state_of model m u e
-same_state model l m t u d e p q r = rw (p, q, r) refl
+same_state : (model data_text : List ℕ) (l m : List (List ℕ)) (t u : Input) (d e : DebuggerState) → l ≡ m → t ≡ u →
+    d ≡ e → state_of model data_text l t d ≡ state_of model data_text m u e
+same_state model data_text l m t u d e p q r = rw (p, q, r) refl
 
 -- a prompt over a debugger at the start of a run is at the start
 pub starts : (model data_text : List ℕ) (d : DebuggerView) (lines : List (List ℕ)) (from : PromptState) →
-    from ≡ prompt_state_of d model lines [] → IsOutcome model (accepted d.machine.input.program) →
+    from ≡ prompt_state_of d model lines [] (Some data_text) → IsOutcome model (accepted d.machine.input.program) →
     d.machine.input ≡ input_with d.machine.input.program data_text →
     debugger_state_of d ≡ initial_debugger_state → lines ≡ source_lines model → IsStart model data_text from
 starts model data_text d lines from e o i s l = rw e (
   d.machine.input.program,
   o,
-  same_state model lines (source_lines model) d.machine.input _ (debugger_state_of d) _ l i s,
+  same_state model data_text lines (source_lines model) d.machine.input _ (debugger_state_of d) _ l i s,
 )
 
 -- the parts of a dialogue

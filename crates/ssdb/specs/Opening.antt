@@ -1,5 +1,5 @@
 -- A whole dialogue over a model and its data: how it begins, and how it ends.
-use Rattle.std.specs.Prelude.{ℕ, ◌≡◌, ◌⊎◌, Bool, List, [], Option, None, if◌then◌else◌}
+use Rattle.std.specs.Prelude.{ℕ, ◌≡◌, ◌⊎◌, Bool, List, [], Option, None, Some, if◌then◌else◌}
 use Rattle.ss_program.specs.Program.{ProgramTable}
 use Rattle.ss_state.specs.State.{is_faulted}
 use Rattle.ss_state.specs.Run.{input_with, run}
@@ -37,6 +37,7 @@ start_over model data_text program = record {
   debugger = initial_debugger_state;
   displays = [];
   listed = None;
+  data_text = Some data_text;
 }
 
 -- it is that of the program that a model is

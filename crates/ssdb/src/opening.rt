@@ -155,7 +155,7 @@ pub fn open_prompt<C: Console>(
     let lines = source_lines(alloc, model)?;
     match open_debugger(alloc, model, data_text) {
         Ok(debugger) => {
-            let prompt = Prompt::new(alloc, debugger, model, lines);
+            let prompt = Prompt::new(alloc, debugger, model, lines, data_text);
             greet_and_hold(alloc, prompt, &mut line, console)
         }
         Err(fault) => Err(refuse(alloc, model, fault, console)),

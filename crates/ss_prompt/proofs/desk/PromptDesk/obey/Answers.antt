@@ -20,6 +20,12 @@ returns-clause-lines g c =
     (state_at c.advance.new.debugger c.advance.new.self) c.args.command c.advance.ensures.place
     c.advance.ensures.memory).lines
 
+pub returns-clause-data_text : goal.returns-clause-data_text
+returns-clause-data_text g c =
+    (stays c.advance.result (state_at c.args.debugger.now c.args.self.now)
+    (state_at c.advance.new.debugger c.advance.new.self) c.args.command c.advance.ensures.place
+    c.advance.ensures.memory).data_text
+
 pub returns-clause-listed : goal.returns-clause-listed
 returns-clause-listed g c =
     listed_stays c.advance.result (state_at c.args.debugger.now c.args.self.now)
