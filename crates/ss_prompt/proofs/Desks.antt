@@ -13,10 +13,11 @@ pub record IsDeskOf (model : List ℕ) (displays : List Question) (k : PromptDes
   pub lines_are : k.lines ≡ source_lines model
   pub displays_are : k.displays ≡ displays
   pub no_data : k.data_text ≡ None
+  pub no_symbols : k.symbols ≡ None
 
 -- a new desk that took the questions
 pub taken : (model : List ℕ) (lines : List (List ℕ)) (displays : List Question) (new k : PromptDeskView) →
-    new ≡ record { model = model; lines = lines; displays = []; listed = None; data_text = None } →
+    new ≡ record { model = model; lines = lines; displays = []; listed = None; data_text = None; symbols = None } →
     k ≡ with_questions new displays →
     lines ≡ source_lines model → IsDeskOf model displays k
 taken model lines displays new k n t l = record {
@@ -24,22 +25,24 @@ taken model lines displays new k n t l = record {
   lines_are = ap (λ (v : PromptDeskView). v.lines) t ∙ ap (λ (v : PromptDeskView). v.lines) n ∙ l;
   displays_are = ap (λ (v : PromptDeskView). v.displays) t;
   no_data = ap (λ (v : PromptDeskView). v.data_text) t ∙ ap (λ (v : PromptDeskView). v.data_text) n;
+  no_symbols = ap (λ (v : PromptDeskView). v.symbols) t ∙ ap (λ (v : PromptDeskView). v.symbols) n;
 }
 
 -- it was used, and gave its questions back
 pub given : (model : List ℕ) (displays others : List Question) (k after : PromptDeskView) →
     IsDeskOf model displays k → after.model ≡ k.model → after.lines ≡ k.lines → after.data_text ≡ k.data_text →
-    others ≡ after.displays → IsDeskOf model others after
-given model displays others k after h m l t d = record {
+    after.symbols ≡ k.symbols → others ≡ after.displays → IsDeskOf model others after
+given model displays others k after h m l t y d = record {
   model_is = m ∙ h.model_is;
   lines_are = l ∙ h.lines_are;
   displays_are = sym d;
   no_data = t ∙ h.no_data;
+  no_symbols = y ∙ h.no_symbols;
 }
 
 -- no line is listed on it
 pub unlisted_still : (model : List ℕ) (lines : List (List ℕ)) (displays : List Question) (new k : PromptDeskView) →
-    new ≡ record { model = model; lines = lines; displays = []; listed = None; data_text = None } →
+    new ≡ record { model = model; lines = lines; displays = []; listed = None; data_text = None; symbols = None } →
     k ≡ with_questions new displays →
     k.listed ≡ None
 unlisted_still model lines displays new k n t =
@@ -48,12 +51,12 @@ unlisted_still model lines displays new k n t =
 -- the state of the prompt for a lent debugger is that of the debugger and such a desk
 pub lent_is : (d : DebuggerView) (model : List ℕ) (displays : List Question) (k : PromptDeskView) →
     IsDeskOf model displays k → k.listed ≡ None → lent_state d model displays ≡ state_at d k
-lent_is d model displays k h l = rw (h.model_is, h.lines_are, h.displays_are, h.no_data, l) refl
+lent_is d model displays k h l = rw (h.model_is, h.lines_are, h.displays_are, h.no_data, h.no_symbols, l) refl
 
 -- and so it is with any such desk, but for where LIST goes on
 pub lent_unlisted : (d : DebuggerView) (model : List ℕ) (displays : List Question) (k : PromptDeskView) →
     IsDeskOf model displays k → lent_state d model displays ≡ unlisted (state_at d k)
-lent_unlisted d model displays k h = rw (h.model_is, h.lines_are, h.displays_are, h.no_data) refl
+lent_unlisted d model displays k h = rw (h.model_is, h.lines_are, h.displays_are, h.no_data, h.no_symbols) refl
 
 -- after a command that was obeyed
 pub obeyed_so : {T E : Type 0} (result : Result T E) (a b : PromptState) → OnOk result (a ≡ b) →

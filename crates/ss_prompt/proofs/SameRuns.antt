@@ -14,16 +14,17 @@ use Rattle.ss_prompt.specs.Cleared.{IsClearRefused}
 use Rattle.ss_prompt.specs.Sections.{on_line_next, line_of_section}
 use Rattle.ss_prompt.specs.Prompting.{prompt_state_after, state_led, IsRefused}
 
--- the run of two states of the prompt is the same one, and so are the model, its lines and the text
--- of the data
+-- the run of two states of the prompt is the same one, and so are the model, its lines, the text of
+-- the data and the symbol table
 pub record IsSameRun (s after : PromptState) : Type 0 where
   pub input : after.input ≡ s.input
   pub model : after.model ≡ s.model
   pub lines : after.lines ≡ s.lines
   pub data_text : after.data_text ≡ s.data_text
+  pub symbols : after.symbols ≡ s.symbols
 
 same : (s : PromptState) → IsSameRun s s
-same s = record { input = refl; model = refl; lines = refl; data_text = refl }
+same s = record { input = refl; model = refl; lines = refl; data_text = refl; symbols = refl }
 
 unchanged : (s after : PromptState) → after ≡ s → IsSameRun s after
 unchanged s after e = record {
@@ -31,50 +32,52 @@ unchanged s after e = record {
   model = ap (λ (v : PromptState). v.model) e;
   lines = ap (λ (v : PromptState). v.lines) e;
   data_text = ap (λ (v : PromptState). v.data_text) e;
+  symbols = ap (λ (v : PromptState). v.symbols) e;
 }
 
 beside : (s after : PromptState) → IsSameBeside s after → IsSameRun s after
-beside s after h = record { input = h.2; model = h.0; lines = h.1; data_text = h.5 }
+beside s after h = record { input = h.2; model = h.0; lines = h.1; data_text = h.5; symbols = h.6 }
 
 on_line : (s : PromptState) (make : ℕ → Command) (line : Option ℕ) → IsSameRun s (on_line_next s make line)
 on_line s make None = same s
-on_line s make (Some line) = record { input = refl; model = refl; lines = refl; data_text = refl }
+on_line s make (Some line) = record { input = refl; model = refl; lines = refl; data_text = refl; symbols = refl }
 
 -- another line after which LIST goes on
 noted : (s after : PromptState) (x : Option ℕ) → IsSameRun s after → IsSameRun s (with_listed after x)
-noted s after x h = record { input = h.input; model = h.model; lines = h.lines; data_text = h.data_text }
+noted s after x h = record { input = h.input; model = h.model; lines = h.lines; data_text = h.data_text; symbols = h.symbols }
 
 -- after a command
 obeyed : (s : PromptState) (command : PromptCommand) → IsSameRun s (prompt_state_after s command)
 unfolding prompt_state_after state_led
-obeyed s (prompt.Plain command) = record { input = refl; model = refl; lines = refl; data_text = refl }
-obeyed s (prompt.Travel movement) = record { input = refl; model = refl; lines = refl; data_text = refl }
-obeyed s (prompt.Once line) = record { input = refl; model = refl; lines = refl; data_text = refl }
-obeyed s (prompt.Lines line) = record { input = refl; model = refl; lines = refl; data_text = refl }
-obeyed s (prompt.LinesBetween from to) = record { input = refl; model = refl; lines = refl; data_text = refl }
-obeyed s (prompt.SectionLines name) = record { input = refl; model = refl; lines = refl; data_text = refl }
+obeyed s (prompt.Plain command) = record { input = refl; model = refl; lines = refl; data_text = refl; symbols = refl }
+obeyed s (prompt.Travel movement) = record { input = refl; model = refl; lines = refl; data_text = refl; symbols = refl }
+obeyed s (prompt.Once line) = record { input = refl; model = refl; lines = refl; data_text = refl; symbols = refl }
+obeyed s (prompt.Lines line) = record { input = refl; model = refl; lines = refl; data_text = refl; symbols = refl }
+obeyed s (prompt.LinesBetween from to) = record { input = refl; model = refl; lines = refl; data_text = refl; symbols = refl }
+obeyed s (prompt.SectionLines name) = record { input = refl; model = refl; lines = refl; data_text = refl; symbols = refl }
 obeyed s (prompt.BreakSection name) =
     noted s (on_line_next s plain.Break (line_of_section s.input.program name)) s.listed
     (on_line s plain.Break (line_of_section s.input.program name))
-obeyed s (prompt.NoPlace line next) = record { input = refl; model = refl; lines = refl; data_text = refl }
+obeyed s (prompt.NoPlace line next) = record { input = refl; model = refl; lines = refl; data_text = refl; symbols = refl }
 obeyed s (prompt.ClearSection name) =
     noted s (on_line_next s plain.Clear (line_of_section s.input.program name)) s.listed
     (on_line s plain.Clear (line_of_section s.input.program name))
-obeyed s prompt.ClearAll = record { input = refl; model = refl; lines = refl; data_text = refl }
-obeyed s prompt.Breaks = record { input = refl; model = refl; lines = refl; data_text = refl }
-obeyed s (prompt.Ask question) = record { input = refl; model = refl; lines = refl; data_text = refl }
-obeyed s (prompt.See sight) = record { input = refl; model = refl; lines = refl; data_text = refl }
-obeyed s prompt.Changed = record { input = refl; model = refl; lines = refl; data_text = refl }
-obeyed s (prompt.Why question) = record { input = refl; model = refl; lines = refl; data_text = refl }
-obeyed s (prompt.History question rows) = record { input = refl; model = refl; lines = refl; data_text = refl }
-obeyed s (prompt.Display question) = record { input = refl; model = refl; lines = refl; data_text = refl }
-obeyed s prompt.Undisplay = record { input = refl; model = refl; lines = refl; data_text = refl }
-obeyed s (prompt.UndisplayOne question) = record { input = refl; model = refl; lines = refl; data_text = refl }
-obeyed s (prompt.Unread word numbered) = record { input = refl; model = refl; lines = refl; data_text = refl }
-obeyed s (prompt.Missing missing) = record { input = refl; model = refl; lines = refl; data_text = refl }
-obeyed s (prompt.Names name) = record { input = refl; model = refl; lines = refl; data_text = refl }
-obeyed s prompt.Warnings = record { input = refl; model = refl; lines = refl; data_text = refl }
-obeyed s (prompt.Help word) = record { input = refl; model = refl; lines = refl; data_text = refl }
+obeyed s prompt.ClearAll = record { input = refl; model = refl; lines = refl; data_text = refl; symbols = refl }
+obeyed s prompt.Breaks = record { input = refl; model = refl; lines = refl; data_text = refl; symbols = refl }
+obeyed s (prompt.Ask question) = record { input = refl; model = refl; lines = refl; data_text = refl; symbols = refl }
+obeyed s (prompt.See sight) = record { input = refl; model = refl; lines = refl; data_text = refl; symbols = refl }
+obeyed s prompt.Changed = record { input = refl; model = refl; lines = refl; data_text = refl; symbols = refl }
+obeyed s (prompt.Why question) = record { input = refl; model = refl; lines = refl; data_text = refl; symbols = refl }
+obeyed s (prompt.History question rows) = record { input = refl; model = refl; lines = refl; data_text = refl; symbols = refl }
+obeyed s (prompt.Display question) = record { input = refl; model = refl; lines = refl; data_text = refl; symbols = refl }
+obeyed s prompt.Undisplay = record { input = refl; model = refl; lines = refl; data_text = refl; symbols = refl }
+obeyed s (prompt.UndisplayOne question) = record { input = refl; model = refl; lines = refl; data_text = refl; symbols = refl }
+obeyed s (prompt.Value text numbered) = record { input = refl; model = refl; lines = refl; data_text = refl; symbols = refl }
+obeyed s (prompt.Unread word numbered) = record { input = refl; model = refl; lines = refl; data_text = refl; symbols = refl }
+obeyed s (prompt.Missing missing) = record { input = refl; model = refl; lines = refl; data_text = refl; symbols = refl }
+obeyed s (prompt.Names name) = record { input = refl; model = refl; lines = refl; data_text = refl; symbols = refl }
+obeyed s prompt.Warnings = record { input = refl; model = refl; lines = refl; data_text = refl; symbols = refl }
+obeyed s (prompt.Help word) = record { input = refl; model = refl; lines = refl; data_text = refl; symbols = refl }
 
 refused_plain : (s after : PromptState) (command : Command) → IsPlainRefused s command after → IsSameRun s after
 unfolding IsPlainRefused
@@ -109,6 +112,7 @@ refused s after (prompt.History question rows) h = beside s after h.0
 refused s after (prompt.Display question) h = unchanged s after h
 refused s after prompt.Undisplay h = unchanged s after h
 refused s after (prompt.UndisplayOne question) h = unchanged s after h
+refused s after (prompt.Value text numbered) h = unchanged s after h
 refused s after (prompt.Unread word numbered) h = unchanged s after h
 refused s after (prompt.Missing missing) h = unchanged s after h
 refused s after (prompt.Names name) h = unchanged s after h
@@ -149,6 +153,7 @@ listed_still s after (prompt.History question rows) h = h.0.4
 listed_still s after (prompt.Display question) h = ap (λ (v : PromptState). v.listed) h
 listed_still s after prompt.Undisplay h = ap (λ (v : PromptState). v.listed) h
 listed_still s after (prompt.UndisplayOne question) h = ap (λ (v : PromptState). v.listed) h
+listed_still s after (prompt.Value text numbered) h = ap (λ (v : PromptState). v.listed) h
 listed_still s after (prompt.Unread word numbered) h = ap (λ (v : PromptState). v.listed) h
 listed_still s after (prompt.Missing missing) h = ap (λ (v : PromptState). v.listed) h
 listed_still s after (prompt.Names name) h = ap (λ (v : PromptState). v.listed) h
@@ -164,6 +169,7 @@ stays (Ok value) s after command ok err = let h = obeyed s command in record {
   model = ap (λ (v : PromptState). v.model) ok ∙ h.model;
   lines = ap (λ (v : PromptState). v.lines) ok ∙ h.lines;
   data_text = ap (λ (v : PromptState). v.data_text) ok ∙ h.data_text;
+  symbols = ap (λ (v : PromptState). v.symbols) ok ∙ h.symbols;
 }
 stays (Err error) s after command ok err = refused s after command err
 

@@ -40,6 +40,7 @@ same s after e = (
   ap (λ (v : PromptState). v.displays) e,
   ap (λ (v : PromptState). v.listed) e,
   ap (λ (v : PromptState). v.data_text) e,
+  ap (λ (v : PromptState). v.symbols) e,
 )
 
 -- all but the debugger is the same

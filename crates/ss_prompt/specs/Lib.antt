@@ -30,3 +30,4 @@ pub mod Points
 pub mod Listed
 pub mod Prompting
 pub mod Laws
+pub mod Valued

@@ -7,6 +7,7 @@ use Rattle.ss_debug.specs.Answer.{state_line}
 use Rattle.ss_debug.specs.Move.{line_at}
 use Rattle.ss_debug.specs.Turn.{DebuggerState}
 use Rattle.ss_debug.specs.View.{DebuggerView, debugger_state_of}
+use Rattle.ss_check.specs.Symbols.{Symbols}
 use Rattle.ss_prompt.specs.Source.{source_lines, marked_line}
 use Rattle.ss_prompt.specs.Names.{warnings_told}
 use Rattle.ss_faults.specs.Sentence.{fault_text}
@@ -28,11 +29,14 @@ pub record PromptState : Type 0 where
   pub listed : Option ℕ
   -- the text of the data, if it is known
   pub data_text : Option (List ℕ)
+  -- the symbol table of the model, if it is kept
+  pub symbols : Option Symbols
 
--- the state of the prompt for a debugger with this model, these lines, these questions and this
--- text of the data; LIST printed nothing
-abbrev pub prompt_state_of : DebuggerView → List ℕ → List (List ℕ) → List Question → Option (List ℕ) → PromptState
-prompt_state_of debugger model lines displays data_text = record {
+-- the state of the prompt for a debugger with this model, these lines, these questions, this text of
+-- the data and this symbol table; LIST printed nothing
+abbrev pub prompt_state_of : DebuggerView → List ℕ → List (List ℕ) → List Question → Option (List ℕ) → Option Symbols →
+    PromptState
+prompt_state_of debugger model lines displays data_text symbols = record {
   model = model;
   lines = lines;
   input = debugger.machine.input;
@@ -40,6 +44,7 @@ prompt_state_of debugger model lines displays data_text = record {
   displays = displays;
   listed = None;
   data_text = data_text;
+  symbols = symbols;
 }
 
 -- the parts of the prompt that are not the debugger's
@@ -54,6 +59,8 @@ pub record PromptDeskView : Type 0 where
   pub listed : Option ℕ
   -- the text of the data, if it is known
   pub data_text : Option (List ℕ)
+  -- the symbol table of the model, if it is kept
+  pub symbols : Option Symbols
 
 -- the same desk, with other questions
 abbrev pub with_questions : PromptDeskView → List Question → PromptDeskView
@@ -64,6 +71,7 @@ with_questions desk displays =
       displays = displays;
       listed = desk.listed;
       data_text = desk.data_text;
+      symbols = desk.symbols;
     }
 
 -- the same desk, with another line after which LIST goes on
@@ -75,6 +83,7 @@ noting desk listed =
       displays = desk.displays;
       listed = listed;
       data_text = desk.data_text;
+      symbols = desk.symbols;
     }
 
 -- the state of the prompt for a debugger and a desk
@@ -87,12 +96,13 @@ state_at debugger desk = record {
   displays = desk.displays;
   listed = desk.listed;
   data_text = desk.data_text;
+  symbols = desk.symbols;
 }
 
 -- the state of the prompt for a lent debugger, in the run of a model, with these questions; the
--- text of the data is not known
+-- text of the data is not known, and no symbol table is kept
 abbrev pub lent_state : DebuggerView → List ℕ → List Question → PromptState
-lent_state debugger model displays = prompt_state_of debugger model (source_lines model) displays None
+lent_state debugger model displays = prompt_state_of debugger model (source_lines model) displays None None
 
 -- a state of the prompt, with the debugger in another state
 abbrev pub with_debugger : PromptState → DebuggerState → PromptState
@@ -105,6 +115,7 @@ with_debugger state debugger =
       displays = state.displays;
       listed = state.listed;
       data_text = state.data_text;
+      symbols = state.symbols;
     }
 
 -- a state of the prompt, with other questions
@@ -118,6 +129,7 @@ with_displays state displays =
       displays = displays;
       listed = state.listed;
       data_text = state.data_text;
+      symbols = state.symbols;
     }
 
 -- a state of the prompt, with another line after which LIST goes on
@@ -131,6 +143,7 @@ with_listed state listed =
       displays = state.displays;
       listed = listed;
       data_text = state.data_text;
+      symbols = state.symbols;
     }
 
 -- a state of the prompt in which LIST does not go on
@@ -142,6 +155,7 @@ abbrev pub IsSameBeside : PromptState → PromptState → Type 0
 IsSameBeside state after =
     (after.model ≡ state.model) × (after.lines ≡ state.lines) × (after.input ≡ state.input)
     × (after.displays ≡ state.displays) × (after.listed ≡ state.listed) × (after.data_text ≡ state.data_text)
+    × (after.symbols ≡ state.symbols)
 
 -- the line of the place of a state, as it is written in the model
 abbrev pub source_line : PromptState → List ℕ

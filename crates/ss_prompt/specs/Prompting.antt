@@ -8,7 +8,7 @@ use Rattle.ss_prompt.specs.declared.commands.PromptCommand.{PromptCommand}
 use Rattle.ss_prompt.specs.declared.commands.PromptCommand.TheVariants.{Plain, Travel, Once, Lines, SectionLines}
 use Rattle.ss_prompt.specs.declared.commands.PromptCommand.TheVariants.{BreakSection, ClearSection, ClearAll, Breaks}
 use Rattle.ss_prompt.specs.declared.commands.PromptCommand.TheVariants.{Changed, Missing, NoPlace}
-use Rattle.ss_prompt.specs.declared.commands.PromptCommand.TheVariants.{LinesBetween, UndisplayOne, Unread}
+use Rattle.ss_prompt.specs.declared.commands.PromptCommand.TheVariants.{LinesBetween, UndisplayOne, Unread, Value}
 use Rattle.ss_prompt.specs.declared.commands.PromptCommand.TheVariants.{Ask, See, Why, History, Display, Undisplay}
 use Rattle.ss_prompt.specs.declared.commands.PromptCommand.TheVariants.{Names, Warnings, Help}
 use Rattle.ss_prompt.specs.Reading.{plain_command_of, prompt_command_of}
@@ -30,6 +30,7 @@ use Rattle.ss_prompt.specs.Histories.{why_said, history_said, HasLookedBack}
 use Rattle.ss_prompt.specs.Stops.{changed_said, HasLookedBeside}
 use Rattle.ss_prompt.specs.Names.{names_said, warnings_said}
 use Rattle.ss_prompt.specs.Advice.{unread_text}
+use Rattle.ss_prompt.specs.Valued.{value_said}
 use Rattle.ss_prompt.specs.Help.{help_said}
 use Rattle.ss_prompt.specs.Refusal.{refusal_at}
 
@@ -54,6 +55,7 @@ prompt_answer state (History x rows) = history_said state x rows
 prompt_answer state (Display q) = display_said state q
 prompt_answer state Undisplay = undisplay_said state
 prompt_answer state (UndisplayOne q) = undisplay_one_said state q
+prompt_answer state (Value text numbered) = value_said state text numbered
 prompt_answer state (Missing m) = missing_text m
 prompt_answer state (Unread word numbered) = unread_text word numbered
 prompt_answer state (Names name) = names_said state.model name

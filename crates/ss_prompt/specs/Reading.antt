@@ -1,5 +1,5 @@
 -- The command that a line of the prompt gives.
-use Rattle.std.specs.Prelude.{ℕ, ℤ, List, [], ◌∷◌, length, map, Option, Some, None, if◌then◌else◌, nat_lt, codes}
+use Rattle.std.specs.Prelude.{ℕ, ℤ, Bool, List, [], ◌∷◌, length, map, drop, Option, Some, None, if◌then◌else◌, nat_lt, codes}
 use Rattle.std.specs.Prelude.{nat_eq, nat_le, is_some, Result, Ok, Err}
 use Rattle.std.specs.Char.{to_ascii_uppercase}
 use Rattle.std.specs.Str.{bytes_eq}
@@ -21,7 +21,7 @@ use Rattle.ss_prompt.specs.declared.sight.Sight.TheVariants.{Living}
 use Rattle.ss_prompt.specs.Missing.{asked_of_program, bare_asked, is_declared}
 use Rattle.ss_prompt.specs.Advice.{verb_of, has_number}
 use Rattle.ss_prompt.specs.Places.{next_line}
-use Rattle.ss_prompt.specs.Words.{command_or_bad, command_behind, only_name_of}
+use Rattle.ss_prompt.specs.Words.{command_or_bad, command_behind, line_behind, only_name_of}
 use Rattle.ss_prompt.specs.Asked.{own_asked, asked_in}
 use Rattle.ss_prompt.specs.Histories.{with_rows}
 use Rattle.ss_prompt.specs.Sights.{sight_of}
@@ -30,7 +30,7 @@ use Rattle.ss_prompt.specs.declared.commands.PromptCommand.{PromptCommand}
 use Rattle.ss_prompt.specs.declared.commands.PromptCommand.TheVariants.{Plain, Travel, Lines, SectionLines}
 use Rattle.ss_prompt.specs.declared.commands.PromptCommand.TheVariants.{BreakSection, ClearSection, ClearAll, Breaks, Once}
 use Rattle.ss_prompt.specs.declared.commands.PromptCommand.TheVariants.{Changed, Missing, NoPlace}
-use Rattle.ss_prompt.specs.declared.commands.PromptCommand.TheVariants.{LinesBetween, UndisplayOne, Unread}
+use Rattle.ss_prompt.specs.declared.commands.PromptCommand.TheVariants.{LinesBetween, UndisplayOne, Unread, Value}
 use Rattle.ss_prompt.specs.declared.commands.PromptCommand.TheVariants.{Ask, See, Why, History, Display, Undisplay}
 use Rattle.ss_prompt.specs.declared.commands.PromptCommand.TheVariants.{Names, Warnings, Help}
 
@@ -237,11 +237,28 @@ own_of_whole program None = bad
 own_of_whole program (Some line) =
     or_own program (command_of line) (advised (command_words line) (own_in_words program (command_words line)))
 
+-- the words of a line after the first, with a blank between them
+abbrev pub text_asked : List ℕ → Option (List ℕ)
+text_asked line = line_behind [] (drop 1 (command_words line))
+
+-- SHOW of a text, if it is no longer than a line may be
+abbrev pub show_value : List ℕ → Bool → Option (List ℕ) → PromptCommand
+show_value verb numbered None = Unread (Some verb) numbered
+show_value verb numbered (Some text) = Value text numbered
+
+-- a line in upper case whose command is this one; one that is no command, but begins with SHOW, may ask
+-- for the value of an expression or a condition
+unfoldable pub or_value : List ℕ → PromptCommand → PromptCommand
+or_value line (Unread (Some verb) numbered) =
+    if bytes_eq verb (codes "SHOW") then show_value verb numbered (text_asked line) else Unread (Some verb) numbered
+or_value line command = command
+
 -- the command in a line that is none of docs/DEBUGGER.md as written: in upper case, its words whole
 unfoldable pub own_command_of : ProgramTable → List ℕ → PromptCommand
 own_command_of program line =
     if nat_lt LONGEST_LINE (length line) then bad
-    else own_of_whole program (whole_line program (map to_ascii_uppercase line))
+    else or_value (map to_ascii_uppercase line)
+    (own_of_whole program (whole_line program (map to_ascii_uppercase line)))
 
 -- a command of docs/DEBUGGER.md, or else another
 abbrev pub or_else : Command → Command → Command

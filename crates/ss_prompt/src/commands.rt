@@ -2,6 +2,7 @@
 ghost use Rattle.std.specs.Prelude.{◌≡◌};
 ghost use Rattle.ss_prompt.specs.Sections.{line_of_section, taken_line};
 
+use crate::line::Line;
 use crate::missing::Missing;
 use crate::sections::line_of_section;
 use crate::sight::Sight;
@@ -50,6 +51,9 @@ pub enum PromptCommand {
     Undisplay,
     /// UNDISPLAY x: this question is not answered at stops any more.
     UndisplayOne(Question),
+    /// SHOW of a text that is none of these questions: it may be an expression or a condition. The
+    /// flag says whether a number is among its words.
+    Value(Line, bool),
     /// No command, with this first word, and with a number among its words or none.
     Unread(Option<Name>, bool),
     /// A question of a name that the model hasn't.

@@ -14,6 +14,7 @@ ghost use Rattle.ss_prompt.specs.Travel.{travel_next, travel_said, IsTravelRefus
 ghost use Rattle.ss_prompt.specs.Sights.{sight_said};
 ghost use Rattle.ss_prompt.specs.Histories.{why_said, history_said, HasLookedBack};
 ghost use Rattle.ss_prompt.specs.Names.{warnings_told};
+ghost use Rattle.ss_prompt.specs.Valued.{Suits};
 ghost use Rattle.ss_prompt.specs.Displays.{displays_with, display_text, cleared_text};
 ghost use Rattle.ss_prompt.specs.Displays.{displays_without, undisplay_text};
 ghost use Rattle.ss_prompt.specs.Prompting.{prompt_answer, state_led, prompt_state_after, IsRefused, is_quit};
@@ -37,6 +38,7 @@ use crate::sight::Sight;
 use crate::source::push_marked_line;
 use crate::stops::{goes_back, travels_back};
 use crate::taken::push_next;
+use ss_check::SymbolTable;
 use ss_changes::{push_changed, push_stop_changes, push_stop_changes_ahead};
 use ss_console::Go;
 use ss_debug::{Command, Debugger, Question as PlainQuestion, obey};
@@ -57,6 +59,7 @@ pub(crate) struct PromptDesk<'a> {
     displays: Vec<Question>,
     listed: Option<usize>,
     data_text: Option<&'a [u8]>,
+    symbols: Option<SymbolTable>,
     alloc: Global,
 }
 
@@ -73,6 +76,7 @@ impl<'a> Model for PromptDesk<'a> {
       displays = k.displays.items;
       listed = k.listed;
       data_text = option_copied k.data_text;
+      symbols = k.symbols;
     } };
 }
 
@@ -87,12 +91,14 @@ fn push_place<S: SetBoard>(debugger: &Debugger<S>, text: &mut Vec<u8>) -> Result
 
 impl<'a> PromptDesk<'a> {
     /// The desk for a model with these lines and, if it is known, this text of its data; no
-    /// question is answered at stops, and no line is listed.
+    /// question is answered at stops, and no line is listed. The symbol table, if one is kept, is that of
+    /// the model.
     pub fn new(
         alloc: Global,
         model: &'a [u8],
         lines: Vec<&'a [u8]>,
         data_text: Option<&'a [u8]>,
+        symbols: Option<SymbolTable>,
     ) -> Self
         ensures { result ≡ record {
           model = model.now;
@@ -100,6 +106,7 @@ impl<'a> PromptDesk<'a> {
           displays = [];
           listed = None;
           data_text = option_copied data_text.entry;
+          symbols = symbols;
         } }
     {
         PromptDesk {
@@ -108,6 +115,7 @@ impl<'a> PromptDesk<'a> {
             displays: Vec::new(alloc),
             listed: None,
             data_text,
+            symbols,
             alloc,
         }
     }
@@ -422,6 +430,7 @@ impl<'a> PromptDesk<'a> {
         command: PromptCommand,
         answer: &mut Vec<u8>,
     ) -> Result<Go, AllocError>
+        requires { Suits debugger.old.machine.input.program self.old.symbols }
         ensures place { OnOk result (state_at debugger.new self.new
             ≡ state_led (state_at debugger.old self.old) command) }
         ensures said { OnOk result (answer.new.items
@@ -453,6 +462,9 @@ impl<'a> PromptDesk<'a> {
             PromptCommand::Display(question) => self.display(question, answer),
             PromptCommand::Undisplay => self.undisplay(answer),
             PromptCommand::UndisplayOne(question) => self.undisplay_one(question, answer),
+            PromptCommand::Value(text, is_numbered) => {
+                self.show_value(debugger, &text, is_numbered, answer)
+            }
             PromptCommand::Missing(missing) => push_missing(answer, &missing),
             PromptCommand::Unread(word, is_numbered) => push_unread(answer, word, is_numbered),
             PromptCommand::Names(name) => self.names(name, answer),
@@ -472,6 +484,7 @@ impl<'a> PromptDesk<'a> {
         command: PromptCommand,
         answer: &mut Vec<u8>,
     ) -> Result<Go, AllocError>
+        requires { Suits debugger.old.machine.input.program self.old.symbols }
         ensures place { OnOk result (state_at debugger.new self.new
             ≡ prompt_state_after (state_at debugger.old self.old) command) }
         ensures said { OnOk result (answer.new.items
@@ -496,10 +509,12 @@ impl<'a> PromptDesk<'a> {
         command: PromptCommand,
         answer: &mut Vec<u8>,
     ) -> Result<Go, AllocError>
+        requires { Suits debugger.old.machine.input.program self.old.symbols }
         ensures input { debugger.new.machine.input ≡ debugger.old.machine.input }
         ensures model { self.new.model ≡ self.old.model }
         ensures lines { self.new.lines ≡ self.old.lines }
         ensures data_text { self.new.data_text ≡ self.old.data_text }
+        ensures symbols { self.new.symbols ≡ self.old.symbols }
         ensures place { OnOk result (state_at debugger.new self.new
             ≡ prompt_state_after (state_at debugger.old self.old) command) }
         ensures said { OnOk result (answer.new.items

@@ -6,7 +6,7 @@ use ss_debug::Name;
 use std::alloc::AllocError;
 
 /// A row for each form of a command: the word that it begins with; its form, and its effect.
-pub const HELP_ROWS: [(&[u8], &[u8]); 60] = [
+pub const HELP_ROWS: [(&[u8], &[u8]); 61] = [
     (b"STEP", b"STEP [n]: n steps forward, 1 if not said"),
     (
         b"RUN",
@@ -64,6 +64,10 @@ pub const HELP_ROWS: [(&[u8], &[u8]); 60] = [
     (b"SHOW", b"SHOW CLOCK: the time"),
     (b"SHOW", b"SHOW WHERE: the state line"),
     (b"SHOW", b"SHOW VAR v, SHOW v: variable v"),
+    (
+        b"SHOW",
+        b"SHOW e: the value of expression e, or whether condition e holds",
+    ),
     (b"SHOW", b"SHOW c k: entity k of class c"),
     (b"SHOW", b"SHOW c k a: attribute a of it"),
     (b"SHOW", b"SHOW c: the entities of class c"),

@@ -36,7 +36,7 @@ fn answer_with<'a, S: SetBoard>(
         (lent_state debugger.old model.now displays.old.items) command
         (lent_state debugger.new model.now displays.new.items)) }
 {
-    let mut desk = PromptDesk::new(alloc, model, lines, None);
+    let mut desk = PromptDesk::new(alloc, model, lines, None, None);
     desk.swap_displays(displays);
     let obeyed = desk.obey(debugger, command, answer);
     desk.swap_displays(displays);

@@ -30,6 +30,7 @@ mod sight;
 mod source;
 mod stops;
 mod taken;
+mod valued;
 
 pub use commands::PromptCommand;
 pub use completions::push_completions;
@@ -39,6 +40,7 @@ pub use laws::{
     plain_lines_stay, plain_texts_answer_the_batch, what_is_missing_is_answered_so,
 };
 pub use lent::answer_command;
+pub use line::Line;
 pub use missing::{Missing, asked_of_program, push_missing};
 pub use prompt::Prompt;
 pub use read::prompt_command;

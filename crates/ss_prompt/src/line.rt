@@ -12,7 +12,7 @@ use std::marker::Model;
 
 /// A line that is being made. It keeps its bytes in place, so that it takes no memory.
 #[derive(Drop)]
-pub(crate) struct Line {
+pub struct Line {
     bytes: ArrayVec<u8, LONGEST_LINE>,
 }
 

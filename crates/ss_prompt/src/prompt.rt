@@ -1,5 +1,6 @@
 //! The debugger answers the lines of a dialogue.
 ghost use Rattle.std.specs.Prelude.{◌≡◌, ◌++◌, [], map, OnOk, Some};
+ghost use Rattle.ss_check.specs.Symbols.{IsSymbolsOf};
 ghost use Rattle.ss_state.specs.Run.{run};
 ghost use Rattle.ss_debug.specs.View.{debugger_state_of};
 ghost use Rattle.ss_console.specs.Going.{go_of};
@@ -12,6 +13,7 @@ use crate::desk::PromptDesk;
 use crate::read::{plain_command, prompt_command};
 use crate::refusal::put_refusal_at;
 use ss_console::{Answerer, Console, Go, PutFault};
+use ss_check::SymbolTable;
 use ss_debug::{Command, Debugger};
 use ss_links::SetBoard;
 use ss_state::Status;
@@ -19,7 +21,8 @@ use std::alloc::{AllocError, Global};
 use std::marker::Model;
 
 /// A debugger that answers the lines of a dialogue, with its model, the lines of that, the text of
-/// its data, and the questions that are answered at each stop.
+/// its data, its symbol table, and the questions that are answered at each stop. The symbol table is
+/// that of the debugger's program.
 #[derive(Drop)]
 pub struct Prompt<'a, S: SetBoard> {
     debugger: Debugger<S>,
@@ -30,12 +33,15 @@ impl<'a, S: SetBoard> Model for Prompt<'a, S> {
     ghost use Rattle.std.specs.Coded.{codes};
     ghost use Rattle.ss_program.specs.contracts.program.Program as checked;
     ghost use Rattle.ss_prompt.specs.PromptState.{PromptState, state_at};
+    ghost use Rattle.ss_prompt.specs.Valued.{Suits};
 
     ghost Value = { PromptState };
 
     ghost coded = { Prim.hlevel (codes, checked.the_row.coded) };
 
     ghost view = { λ p. state_at p.debugger p.desk };
+
+    ghost invariant = { λ p. Suits p.debugger.machine.input.program p.desk.symbols };
 }
 
 impl<'a, S: SetBoard> Prompt<'a, S> {
@@ -47,12 +53,14 @@ impl<'a, S: SetBoard> Prompt<'a, S> {
         model: &'a [u8],
         lines: Vec<&'a [u8]>,
         data_text: &'a [u8],
+        symbols: SymbolTable,
     ) -> Self
+        requires { IsSymbolsOf debugger.machine.input.program symbols }
         ensures { result
             ≡ prompt_state_of debugger model.now (map (λ l. l.now) lines.entry.items) []
-            (Some data_text.now) }
+            (Some data_text.now) (Some symbols) }
     {
-        let desk = PromptDesk::new(alloc, model, lines, Some(data_text));
+        let desk = PromptDesk::new(alloc, model, lines, Some(data_text), Some(symbols));
         Prompt { debugger, desk }
     }
 

@@ -3,6 +3,7 @@ ghost use Rattle.std.specs.Prelude.{◌≡◌, codes};
 ghost use Rattle.ss_debug.specs.CommandLines.{command_words};
 ghost use Rattle.ss_prompt.specs.Reading.{own_in_words, own_of_whole, own_command_of, placed, once_of};
 ghost use Rattle.ss_prompt.specs.Reading.{entity_command, plain_meant, first_whole_command_of};
+ghost use Rattle.ss_prompt.specs.Reading.{text_asked, or_value};
 ghost use Rattle.ss_prompt.specs.Reading.{advised, plain_command_of, prompt_command_of};
 ghost use Rattle.ss_prompt.specs.Places.{next_line};
 ghost use Rattle.ss_prompt.specs.Words.{command_behind};
@@ -162,6 +163,35 @@ fn own_of_whole(program: &Program, line: Option<Line>) -> PromptCommand
     }
 }
 
+/// The words of a line after the first.
+fn text_asked(line: &[u8]) -> Option<Line>
+    ensures { result ≡ text_asked line.now }
+{
+    let rest = match next_word(line) {
+        Some((_, rest)) => rest,
+        None => line,
+    };
+    let text = Line::new(b"")?;
+    text.with_words(rest)
+}
+
+/// A line in upper case whose command is this one; one that is no command, but begins with SHOW, may
+/// ask for the value of an expression or a condition.
+fn or_value(line: &[u8], command: PromptCommand) -> PromptCommand
+    ensures { result ≡ or_value line.now command }
+{
+    let PromptCommand::Unread(Some(verb), is_numbered) = command else {
+        return command;
+    };
+    if verb.as_slice() != b"SHOW".as_slice() {
+        return PromptCommand::Unread(Some(verb), is_numbered);
+    }
+    match text_asked(line) {
+        Some(text) => PromptCommand::Value(text, is_numbered),
+        None => PromptCommand::Unread(Some(verb), is_numbered),
+    }
+}
+
 /// The command in a line that is none of docs/DEBUGGER.md as it is written.
 #[tactic(auto, unfolding(crate::specs::Reading::own_command_of), using(ss_debug::proofs::Names::take_front))]
 fn own_command(program: &Program, line: &[u8]) -> PromptCommand
@@ -173,7 +203,8 @@ fn own_command(program: &Program, line: &[u8]) -> PromptCommand
     let mut upper = [0u8; LONGEST_LINE];
     upper[..line.len()].copy_from_slice(line);
     upper[..line.len()].make_ascii_uppercase();
-    own_of_whole(program, whole_line(program, &upper[..line.len()]))
+    let upper = &upper[..line.len()];
+    or_value(upper, own_of_whole(program, whole_line(program, upper)))
 }
 
 /// The command of docs/DEBUGGER.md in a line with its first word made whole.

@@ -13,7 +13,7 @@ returns-clause-place g c =
     unlisted_still _ (map (λ l. l.now) c.args.lines.items) _ _ _ c.new-desk.ensures c.swap_displays.ensures.taken in
     let after : IsDeskOf c.args.model.now c.swap_displays-2.new.displays.items c.obey-obeyed.new.self =
     given _ _ _ _ _ before c.obey-obeyed.ensures.model c.obey-obeyed.ensures.lines c.obey-obeyed.ensures.data_text
-    c.swap_displays-2.ensures.given in
+    c.obey-obeyed.ensures.symbols c.swap_displays-2.ensures.given in
     rw (lent_is c.args.debugger.now _ _ _ before none, lent_unlisted c.obey-obeyed.new.debugger _ _ _ after)
     (obeyed_so c.obey-obeyed.result (state_at c.obey-obeyed.new.debugger c.obey-obeyed.new.self)
     (prompt_state_after (state_at c.args.debugger.now c.swap_displays.new.self) c.args.command)
@@ -27,7 +27,7 @@ returns-clause-memory g c =
     unlisted_still _ (map (λ l. l.now) c.args.lines.items) _ _ _ c.new-desk.ensures c.swap_displays.ensures.taken in
     let after : IsDeskOf c.args.model.now c.swap_displays-2.new.displays.items c.obey-obeyed.new.self =
     given _ _ _ _ _ before c.obey-obeyed.ensures.model c.obey-obeyed.ensures.lines c.obey-obeyed.ensures.data_text
-    c.swap_displays-2.ensures.given in
+    c.obey-obeyed.ensures.symbols c.swap_displays-2.ensures.given in
     rw (lent_is c.args.debugger.now _ _ _ before none)
     (refused_so c.obey-obeyed.result (state_at c.args.debugger.now c.swap_displays.new.self) c.args.command
     c.obey-obeyed.new.debugger c.args.model.now c.swap_displays-2.new.displays.items c.obey-obeyed.new.self after

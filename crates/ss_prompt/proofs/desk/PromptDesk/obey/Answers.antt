@@ -26,6 +26,12 @@ returns-clause-data_text g c =
     (state_at c.advance.new.debugger c.advance.new.self) c.args.command c.advance.ensures.place
     c.advance.ensures.memory).data_text
 
+pub returns-clause-symbols : goal.returns-clause-symbols
+returns-clause-symbols g c =
+    (stays c.advance.result (state_at c.args.debugger.now c.args.self.now)
+    (state_at c.advance.new.debugger c.advance.new.self) c.args.command c.advance.ensures.place
+    c.advance.ensures.memory).symbols
+
 pub returns-clause-listed : goal.returns-clause-listed
 returns-clause-listed g c =
     listed_stays c.advance.result (state_at c.args.debugger.now c.args.self.now)
