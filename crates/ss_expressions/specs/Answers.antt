@@ -4,8 +4,7 @@ use Rattle.std.specs.Prelude.{Result, Ok, Err}
 use Rattle.std.specs.Fmt.{signed_decimal}
 use Rattle.ss_words.specs.declared.fault.RunFault.{RunFault}
 use Rattle.ss_words.specs.Faults.{run_fault_number}
-use Rattle.ss_program.specs.Program.{ProgramTable, section_of}
-use Rattle.ss_program.specs.ProgramSound.{Scope, scope_of}
+use Rattle.ss_program.specs.Program.{ProgramTable}
 use Rattle.ss_program.specs.ProgramExpr.{Expr}
 use Rattle.ss_program.specs.ProgramCondition.{Condition}
 use Rattle.ss_check.specs.CheckRules.{check_rule_code}
@@ -48,10 +47,6 @@ refused_answer (Broken rule) =
 -- the parts of a state that values are read from
 abbrev pub readings_of : ProgramTable → State → Readings
 readings_of program state = readings (tables_of program) state
-
--- the tables that the section of the last frame may name rows of
-abbrev pub scope_in : ProgramTable → State → Scope
-scope_in program state = scope_of program (section_of program state.frame.section)
 
 -- an expression as the checker judges it: its value, or why it has none
 abbrev pub judged_value : ProgramTable → State → List ℕ → Result Expr AskedFault → List ℕ

@@ -2,7 +2,8 @@
 ghost use Rattle.std.specs.Prelude.{◌≡◌, ◌++◌, OnOk, IfOk, option_map};
 ghost use Rattle.ss_routines.specs.View.{expr_view, condition_view};
 ghost use Rattle.ss_program.specs.ProgramSound.{IsSoundExpr, IsSoundCondition};
-ghost use Rattle.ss_check.specs.Symbols.{IsSymbolsOf};
+ghost use Rattle.ss_check.specs.Asked.{IsSymbolsOf, scope_in};
+ghost use Rattle.ss_check.specs.AskedView.{asked_fault_view};
 ghost use Rattle.ss_values.specs.Values.{value_of};
 ghost use Rattle.ss_values.specs.Conditions.{holds};
 ghost use Rattle.ss_expressions.specs.Asked as asked;
@@ -33,7 +34,7 @@ fn push_fault(text: &mut Vec<u8>, fault: RunFault) -> Result<(), AllocError>
 
 /// Appends why what is asked has no value.
 fn push_refused(text: &mut Vec<u8>, fault: &AskedFault<'_>) -> Result<(), AllocError>
-    ensures { OnOk result (text.new.items ≡ text.old.items ++ spec.refused_answer fault.now) }
+    ensures { OnOk result (text.new.items ≡ text.old.items ++ spec.refused_answer (asked_fault_view fault.now)) }
 {
     match fault {
         AskedFault::Unknown(name) => {
@@ -94,7 +95,8 @@ fn value_now<S: SetBoard>(
     machine: &Machine<S>,
     e: &Expr,
 ) -> Result<Result<i64, RunFault>, AllocError>
-    requires { IsSoundExpr (spec.scope_in machine.now.input.program machine.now.state) e.now }
+    requires { IsSoundExpr (scope_in machine.now.input.program
+        machine.now.state.frame.section) e.now }
     ensures { IfOk result (λ x. x
         ≡ value_of (spec.readings_of machine.now.input.program machine.now.state) e.now) }
 {
@@ -109,7 +111,8 @@ fn truth_now<S: SetBoard>(
     machine: &Machine<S>,
     c: &Condition,
 ) -> Result<Result<bool, RunFault>, AllocError>
-    requires { IsSoundCondition (spec.scope_in machine.now.input.program machine.now.state) c.now }
+    requires { IsSoundCondition (scope_in machine.now.input.program
+        machine.now.state.frame.section) c.now }
     ensures { IfOk result (λ x. x
         ≡ holds (spec.readings_of machine.now.input.program machine.now.state) c.now) }
 {

@@ -1,7 +1,8 @@
 -- The answer to SHOW of an expression or a condition.
 use Rattle.std.specs.Prelude.{ℕ, ◌≡◌, Bool, List, codes, Option, Some, None, unwrap_or}
 use Rattle.ss_program.specs.Program.{ProgramTable}
-use Rattle.ss_check.specs.Symbols.{Symbols, IsSymbolsOf}
+use Rattle.ss_check.specs.Symbols.{Symbols}
+use Rattle.ss_check.specs.Asked.{IsSymbolsOf}
 use Rattle.ss_state.specs.Run.{run}
 use Rattle.ss_expressions.specs.Answers.{asked_answer}
 use Rattle.ss_prompt.specs.Advice.{unread_text}

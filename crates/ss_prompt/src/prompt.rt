@@ -1,6 +1,6 @@
 //! The debugger answers the lines of a dialogue.
 ghost use Rattle.std.specs.Prelude.{◌≡◌, ◌++◌, [], map, OnOk, Some};
-ghost use Rattle.ss_check.specs.Symbols.{IsSymbolsOf};
+ghost use Rattle.ss_check.specs.Asked.{IsSymbolsOf};
 ghost use Rattle.ss_state.specs.Run.{run};
 ghost use Rattle.ss_debug.specs.View.{debugger_state_of};
 ghost use Rattle.ss_console.specs.Going.{go_of};
