@@ -21,7 +21,7 @@ fn globals<S: SetBoard>(alloc: Global, machine: &Machine<S>) -> Result<Vec<i64>,
     ensures { IfOk result (λ xs. xs.items ≡ machine.now.state.variables) }
 {
     machine.known();
-    let count = machine.program().globals().len();
+    let count = machine.program().globals.len();
     let mut values = Vec::with_capacity(alloc, count)?;
     for i in 0..count {
         values.push(machine.variable(Variable::Global(i)))?;

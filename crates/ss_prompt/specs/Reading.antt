@@ -246,11 +246,16 @@ abbrev pub show_value : List ℕ → Bool → Option (List ℕ) → PromptComman
 show_value verb numbered None = Unread (Some verb) numbered
 show_value verb numbered (Some text) = Value text numbered
 
--- a line in upper case whose command is this one; one that is no command, but begins with SHOW, may ask
--- for the value of an expression or a condition
-unfoldable pub or_value : List ℕ → PromptCommand → PromptCommand
-or_value line (Unread (Some verb) numbered) =
+-- a line in upper case that is no command, with its first word; if that is SHOW, it may ask for the value
+-- of an expression or a condition
+abbrev pub unread_or_value : List ℕ → Option (List ℕ) → Bool → PromptCommand
+unread_or_value line None numbered = Unread None numbered
+unread_or_value line (Some verb) numbered =
     if bytes_eq verb (codes "SHOW") then show_value verb numbered (text_asked line) else Unread (Some verb) numbered
+
+-- the command of a line in upper case, if it is one; else what the line may ask for
+abbrev pub or_value : List ℕ → PromptCommand → PromptCommand
+or_value line (Unread verb numbered) = unread_or_value line verb numbered
 or_value line command = command
 
 -- the command in a line that is none of docs/DEBUGGER.md as written: in upper case, its words whole

@@ -24,6 +24,7 @@ mod listed;
 mod model;
 mod once;
 mod past;
+mod valued;
 
 use crate::advice::push_unread;
 use crate::commands::PromptCommand;

@@ -30,7 +30,6 @@ mod sight;
 mod source;
 mod stops;
 mod taken;
-mod valued;
 
 pub use commands::PromptCommand;
 pub use completions::push_completions;

@@ -3,7 +3,7 @@ ghost use Rattle.std.specs.Prelude.{◌≡◌, codes};
 ghost use Rattle.ss_debug.specs.CommandLines.{command_words};
 ghost use Rattle.ss_prompt.specs.Reading.{own_in_words, own_of_whole, own_command_of, placed, once_of};
 ghost use Rattle.ss_prompt.specs.Reading.{entity_command, plain_meant, first_whole_command_of};
-ghost use Rattle.ss_prompt.specs.Reading.{text_asked, or_value};
+ghost use Rattle.ss_prompt.specs.Reading.{text_asked, show_value, unread_or_value, or_value};
 ghost use Rattle.ss_prompt.specs.Reading.{advised, plain_command_of, prompt_command_of};
 ghost use Rattle.ss_prompt.specs.Places.{next_line};
 ghost use Rattle.ss_prompt.specs.Words.{command_behind};
@@ -175,20 +175,40 @@ fn text_asked(line: &[u8]) -> Option<Line>
     text.with_words(rest)
 }
 
-/// A line in upper case whose command is this one; one that is no command, but begins with SHOW, may
-/// ask for the value of an expression or a condition.
-fn or_value(line: &[u8], command: PromptCommand) -> PromptCommand
-    ensures { result ≡ or_value line.now command }
+/// SHOW of the words of a line after the first, if they are not too long.
+fn show_value(line: &[u8], verb: Name, is_numbered: bool) -> PromptCommand
+    ensures { result ≡ show_value verb is_numbered (text_asked line.now) }
 {
-    let PromptCommand::Unread(Some(verb), is_numbered) = command else {
-        return command;
-    };
-    if verb.as_slice() != b"SHOW".as_slice() {
-        return PromptCommand::Unread(Some(verb), is_numbered);
-    }
     match text_asked(line) {
         Some(text) => PromptCommand::Value(text, is_numbered),
         None => PromptCommand::Unread(Some(verb), is_numbered),
+    }
+}
+
+/// A line in upper case that is no command, with its first word; if that is SHOW, it may ask for the
+/// value of an expression or a condition.
+fn unread_or_value(line: &[u8], verb: Option<Name>, is_numbered: bool) -> PromptCommand
+    ensures { result ≡ unread_or_value line.now verb is_numbered }
+{
+    match verb {
+        None => PromptCommand::Unread(None, is_numbered),
+        Some(verb) => {
+            if verb.as_slice() == b"SHOW".as_slice() {
+                show_value(line, verb, is_numbered)
+            } else {
+                PromptCommand::Unread(Some(verb), is_numbered)
+            }
+        }
+    }
+}
+
+/// The command of a line in upper case, if it is one; else what the line may ask for.
+fn or_value(line: &[u8], command: PromptCommand) -> PromptCommand
+    ensures { result ≡ or_value line.now command }
+{
+    match command {
+        PromptCommand::Unread(verb, is_numbered) => unread_or_value(line, verb, is_numbered),
+        other => other,
     }
 }
 

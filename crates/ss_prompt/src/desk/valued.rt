@@ -1,5 +1,5 @@
 //! SHOW of an expression or a condition.
-ghost use Rattle.std.specs.Prelude.{◌≡◌, ◌++◌, OnOk};
+ghost use Rattle.std.specs.Prelude.{◌≡◌, ◌++◌, OnOk, IfOk, option_map};
 ghost use Rattle.ss_prompt.specs.PromptState.{state_at};
 ghost use Rattle.ss_prompt.specs.Valued.{Suits, value_by, value_said};
 
