@@ -5,7 +5,8 @@ use Rattle.ss_console.specs.declared.cut.Cut.TheVariants.{Read, Write, Count}
 use Rattle.ss_state.specs.Run.{Input, input_with, run}
 use Rattle.ss_debug.specs.Turn.{DebuggerState, initial_debugger_state}
 use Rattle.ss_debug.specs.View.{DebuggerView, debugger_state_of}
-use Rattle.ss_session.specs.Model.{IsOutcome, accepted}
+use Rattle.ss_check.specs.Symbols.{Symbols}
+use Rattle.ss_session.specs.Model.{IsOfModel}
 use Rattle.ss_prompt.specs.PromptState.{PromptState, prompt_state_of}
 use Rattle.ssdb.specs.declared.end.PromptEnd.{PromptEnd}
 use Rattle.ssdb.specs.declared.end.PromptFault.{PromptFault}
@@ -16,8 +17,8 @@ use Rattle.ss_prompt.specs.Source.{source_lines}
 use Rattle.ssdb.specs.Opening.{greeting_at, end_of_status, IsStart, EndsWell, HoldFails, HoldsFrom, StopsFrom}
 use Rattle.ssdb.specs.Opening.{GreetingFails, IsHeld, IsStopped}
 
-abbrev state_of : List ℕ → List ℕ → List (List ℕ) → Input → DebuggerState → PromptState
-state_of model data_text lines t d = record {
+abbrev state_of : List ℕ → List ℕ → List (List ℕ) → Input → DebuggerState → Symbols → PromptState
+state_of model data_text lines t d symbols = record {
   model = model;
   lines = lines;
   input = t;
@@ -25,21 +26,24 @@ state_of model data_text lines t d = record {
   displays = [];
   listed = None;
   data_text = Some data_text;
+  symbols = Some symbols;
 }
 
-same_state : (model data_text : List ℕ) (l m : List (List ℕ)) (t u : Input) (d e : DebuggerState) → l ≡ m → t ≡ u →
-    d ≡ e → state_of model data_text l t d ≡ state_of model data_text m u e
-same_state model data_text l m t u d e p q r = rw (p, q, r) refl
+same_state : (model data_text : List ℕ) (l m : List (List ℕ)) (t u : Input) (d e : DebuggerState) (y : Symbols) →
+    l ≡ m → t ≡ u → d ≡ e → state_of model data_text l t d y ≡ state_of model data_text m u e y
+same_state model data_text l m t u d e y p q r = rw (p, q, r) refl
 
 -- a prompt over a debugger at the start of a run is at the start
-pub starts : (model data_text : List ℕ) (d : DebuggerView) (lines : List (List ℕ)) (from : PromptState) →
-    from ≡ prompt_state_of d model lines [] (Some data_text) → IsOutcome model (accepted d.machine.input.program) →
+pub starts : (model data_text : List ℕ) (d : DebuggerView) (lines : List (List ℕ)) (symbols : Symbols)
+    (from : PromptState) → from ≡ prompt_state_of d model lines [] (Some data_text) (Some symbols) →
+    IsOfModel model d.machine.input.program symbols →
     d.machine.input ≡ input_with d.machine.input.program data_text →
     debugger_state_of d ≡ initial_debugger_state → lines ≡ source_lines model → IsStart model data_text from
-starts model data_text d lines from e o i s l = rw e (
+starts model data_text d lines symbols from e o i s l = rw e (
   d.machine.input.program,
+  symbols,
   o,
-  same_state model data_text lines (source_lines model) d.machine.input _ (debugger_state_of d) _ l i s,
+  same_state model data_text lines (source_lines model) d.machine.input _ (debugger_state_of d) _ symbols l i s,
 )
 
 -- the parts of a dialogue

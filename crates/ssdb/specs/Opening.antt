@@ -9,7 +9,8 @@ use Rattle.ss_console.specs.Event.{Event, Adds, write_events}
 use Rattle.ss_console.specs.Puts.{AddsPart}
 use Rattle.ss_console.specs.Dialogue.{EndsByInput, EndsByLine, EndsByRead, EndsInPrompt, EndsInAnswer, EndsByCount}
 use Rattle.ss_console.specs.declared.cut.Cut.TheVariants.{Read, Write, Count}
-use Rattle.ss_session.specs.Model.{IsOutcome, accepted}
+use Rattle.ss_check.specs.Symbols.{Symbols}
+use Rattle.ss_session.specs.Model.{IsOfModel}
 use Rattle.ss_prompt.specs.PromptState.{PromptState, greeting}
 use Rattle.ss_prompt.specs.Prompting.{prompt_meaning}
 use Rattle.ssdb.specs.declared.end.PromptEnd.{PromptEnd}
@@ -28,9 +29,9 @@ greeting_at terminal state = if terminal then greeting state else []
 abbrev pub end_of_status : Status → PromptEnd
 end_of_status status = if is_faulted status then Faulted else Done
 
--- the state of the prompt at the start of the run of a program over its data
-abbrev pub start_over : List ℕ → List ℕ → ProgramTable → PromptState
-start_over model data_text program = record {
+-- the state of the prompt at the start of the run of a program over its data, with its symbol table
+abbrev pub start_over : List ℕ → List ℕ → ProgramTable → Symbols → PromptState
+start_over model data_text program symbols = record {
   model = model;
   lines = source_lines model;
   input = input_with program data_text;
@@ -38,12 +39,14 @@ start_over model data_text program = record {
   displays = [];
   listed = None;
   data_text = Some data_text;
+  symbols = Some symbols;
 }
 
--- it is that of the program that a model is
+-- it is that of the program that a model is, and of the symbol table of its text
 abbrev pub IsStart : List ℕ → List ℕ → PromptState → Type 0
 IsStart model data_text from =
-    (program : ProgramTable) × IsOutcome model (accepted program) × (from ≡ start_over model data_text program)
+    (program : ProgramTable) × (symbols : Symbols) × IsOfModel model program symbols
+    × (from ≡ start_over model data_text program symbols)
 
 -- how a dialogue ends after the greeting: by the end of input, or by a line
 abbrev pub EndsWell : PromptState → PromptState → Option (List Event) → Seen → Type 0

@@ -15,7 +15,7 @@ use crate::refused::refuse;
 use ss_console::{Console, Cut, LONGEST_LINE, converse, put_all};
 use ss_links::SetBoard;
 use ss_prompt::{Prompt, source_lines};
-use ss_session::open_debugger;
+use ss_session::{Opened, open_debugger_with_symbols};
 use ss_state::Status;
 use std::alloc::Global;
 
@@ -153,9 +153,10 @@ pub fn open_prompt<C: Console>(
 {
     let mut line = Vec::with_capacity(alloc, LONGEST_LINE + 1)?;
     let lines = source_lines(alloc, model)?;
-    match open_debugger(alloc, model, data_text) {
-        Ok(debugger) => {
-            let prompt = Prompt::new(alloc, debugger, model, lines, data_text);
+    match open_debugger_with_symbols(alloc, model, data_text) {
+        Ok(opened) => {
+            let Opened { debugger, symbols } = opened;
+            let prompt = Prompt::new(alloc, debugger, model, lines, data_text, symbols);
             greet_and_hold(alloc, prompt, &mut line, console)
         }
         Err(fault) => Err(refuse(alloc, model, fault, console)),
