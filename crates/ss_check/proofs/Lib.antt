@@ -42,3 +42,4 @@ pub mod NamedItemsFacts
 pub mod NamedItemsHeadings
 pub mod NamedItems
 pub mod Sound
+pub mod SoundAsked
