@@ -43,3 +43,4 @@ pub mod NamedItemsHeadings
 pub mod NamedItems
 pub mod Sound
 pub mod SoundAsked
+pub mod OwnPlaces

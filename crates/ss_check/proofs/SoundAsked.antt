@@ -1,7 +1,7 @@
 -- An expression or a condition that has a meaning in a section names only rows that exist there.
-use Rattle.std.proofs.Common.{◌≡◌, ℕ, zero, suc, ◌<◌, Bool, true, false, not, ◌||◌, cond, List, [], ◌∷◌, ◌++◌, length, refl}
+use Rattle.std.proofs.Common.{◌≡◌, ℕ, zero, suc, Bool, true, false, not, ◌||◌, cond, List, [], ◌∷◌, ◌++◌, length, refl}
 use Rattle.std.proofs.Common.{sym, ap, ◌∙◌, subst, Option, Some, None}
-use Rattle.std.specs.Prelude.{map, slice_get, slice_index_or, Result, Ok, Err}
+use Rattle.std.specs.Prelude.{map, slice_get, slice_index_or, Ok}
 use Rattle.std.specs.List.{find, flat_map, list_any}
 use mathlib.Core.Logic.{inl, inr}
 use Rattle.ss_words.specs.Lists.{Name}
@@ -16,11 +16,11 @@ use Rattle.ss_program.specs.ProgramCondition.{Condition as ProgramCondition}
 use Rattle.ss_program.specs.ProgramSound.{Scope, IsSoundExpr, IsSoundCondition}
 use Rattle.ss_check.specs.declared.fault.CheckRule.{CheckRule}
 use Rattle.ss_check.specs.declared.fault.CheckRule.TheVariants.{WrongClass, WrongUse, WrongCount, FixedTarget}
-use Rattle.ss_check.specs.Asked.{AskedFault, Unknown, Broken, is_unknown, first_unknown, rule_fault, name_fault}
-use Rattle.ss_check.specs.Asked.{fault_of_uses, unless, locals_at, judged_expression, judged_condition, IsSymbolsOf}
+use Rattle.ss_check.specs.Asked.{AskedFault, is_unknown, first_unknown, rule_fault, name_fault}
+use Rattle.ss_check.specs.Asked.{fault_of_uses, unless, locals_at, judged_expression, judged_condition}
 use Rattle.ss_check.specs.Asked.{scope_in, AskedExpressionsAreSound, AskedConditionsAreSound}
 use Rattle.ss_check.specs.Breach.{breach}
-use Rattle.ss_check.specs.Declarations.{Declared, declared_by_program, headed_items, heads, is_declared, kind_of}
+use Rattle.ss_check.specs.Declarations.{Declared, declared_by_program, headed_items, heads, is_declared}
 use Rattle.ss_check.specs.Facts.{is_among}
 use Rattle.ss_check.specs.PlaceRules.{is_wrong_class, is_misused, is_wrong_count, is_fixed, use_breaks}
 use Rattle.ss_check.specs.Resolved.{rankings, resolved_expr, resolved_condition, resolved_section, program_resolved}

@@ -20,7 +20,7 @@ module _ (D : Declared) where
   undeclared_is n e false f = refl
   undeclared_is n e true f = let t = fact_there D.kinds n f in let z : None ≡ Some t.0 = sym e ∙ t.1 in cc
 
-  undeclared_in : (n : Name) (b : Bool) → b ≡ false → In n (if b then [] else (n ∷ []))
+  pub undeclared_in : (n : Name) (b : Bool) → b ≡ false → In n (if b then [] else (n ∷ []))
   undeclared_in n true e = cc
   undeclared_in n false e = inl refl
 

@@ -1,7 +1,7 @@
 -- What an expression or a condition comes to when it is asked for in a section of a text.
 use Rattle.std.specs.Prelude.{◌≡◌, ℕ, Bool, not, ◌||◌, List, [], map, length, slice_get, slice_index_or}
 use Rattle.std.specs.Prelude.{Option, Some, None, Result, Ok, Err}
-use Rattle.std.specs.List.{find, flat_map}
+use Rattle.std.specs.List.{All, find, flat_map}
 use Rattle.ss_words.specs.Lists.{Name}
 use Rattle.ss_preamble.specs.Tree.{Decls}
 use Rattle.ss_routines.specs.Expr.{Expr}
@@ -20,7 +20,7 @@ use Rattle.ss_check.specs.Resolved.{resolved_expr, resolved_condition, program_r
 use Rattle.ss_check.specs.ResolvedNames.{variable_used}
 use Rattle.ss_check.specs.Statements.{lowest}
 use Rattle.ss_check.specs.Symbols.{Symbols, symbols_of}
-use Rattle.ss_check.specs.Uses.{Use, uses_expr, uses_condition}
+use Rattle.ss_check.specs.Uses.{Use, uses, uses_expr, uses_condition}
 
 -- ---- the fault of what is asked for
 
@@ -103,3 +103,11 @@ abbrev pub AskedConditionsAreSound : Type 0
 AskedConditionsAreSound =
     (program : ProgramTable) (symbols : Symbols) (q : ℕ) (c : Condition) (x : ProgramCondition) →
     IsSymbolsOf program symbols → judged_condition symbols q c ≡ Ok x → IsSoundCondition (scope_in program q) x
+
+-- in a text without a breach the places of a section have no fault there, so what they ask for has a meaning
+abbrev pub OwnPlacesHaveNoFault : Type 0
+OwnPlacesHaveNoFault =
+    (decls : Decls) (sections : List Section) (q : ℕ) (section : Section) → breach decls sections ≡ None →
+    slice_get sections q ≡ Some section →
+    All (λ x. fault_of_uses (symbols_of decls sections).declared (locals_at (symbols_of decls sections) q) (uses x.place)
+    ≡ None) section.places

@@ -1,5 +1,5 @@
 //! Laws on the definitions. Each function does nothing, and its contract says the law.
-ghost use Rattle.ss_check.specs.Asked.{AskedExpressionsAreSound, AskedConditionsAreSound};
+ghost use Rattle.ss_check.specs.Asked.{AskedExpressionsAreSound, AskedConditionsAreSound, OwnPlacesHaveNoFault};
 ghost use Rattle.ss_check.specs.FurtherExamples.{SectionsAreDeclaredOnce, OrdersAreGivenOnce};
 ghost use Rattle.ss_check.specs.FurtherExamples.{LocalsHaveNamesOfTheirOwn, OrdersNameEvents, ValuesAreNoRoutines};
 ghost use Rattle.ss_check.specs.FurtherExamples.{KeysAreOfTheirClass, NoticesHaveAttributesForValues};
@@ -213,4 +213,10 @@ pub fn asked_expressions_are_sound()
 /// So does a condition that has a meaning in a section.
 pub fn asked_conditions_are_sound()
     ensures { AskedConditionsAreSound }
+{}
+
+/// The uses of names in a section of a text without a breach have no fault there: all that its
+/// places ask for has a meaning by the symbol table.
+pub fn own_places_have_no_fault()
+    ensures { OwnPlacesHaveNoFault }
 {}

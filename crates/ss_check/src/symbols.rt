@@ -44,11 +44,7 @@ impl Model for SymbolTable {
 impl SymbolTable {
     /// The symbols of a text with these declarations and these sections. The only error is that
     /// memory was refused.
-    pub fn new(
-        alloc: Global,
-        decls: &Decls,
-        sections: &Sections,
-    ) -> Result<SymbolTable, AllocError>
+    pub fn new(alloc: Global, decls: &Decls, sections: &Sections) -> Result<SymbolTable, AllocError>
         ensures { IfOk result
             (λ table. table ≡ symbols_of (preamble.decls_view decls.now) sections.now) }
     {
