@@ -1,4 +1,4 @@
--- Private: the pure data for the faults of the code.
+-- The pure data for the faults of the code, and for its judgements. Public contracts cite it.
 use Rattle.std.specs.Prelude.{Result, Ok, Err}
 use Rattle.ss_check.specs.declared.asked.AskedFault.{AskedFault as CodeFault}
 use Rattle.ss_check.specs.declared.asked.AskedFault.TheVariants as code
