@@ -1,4 +1,4 @@
--- What the words of an expression or a condition are, by the laws of their readings.
+-- The laws on an expression and a condition that plain words are, by the laws of their readings.
 use Rattle.std.proofs.Common.{◌≡◌, ℕ, ◌≤◌, List, [], Some, Result, Ok, Err, refl, sym, ap, ◌∙◌}
 use Rattle.std.proofs.lemmas.List.{append-nil}
 use Rattle.std.specs.Result.{result_ok}

@@ -1,4 +1,4 @@
--- The expression and the condition that plain words are, and what they spell.
+-- The expression and the condition that plain words are, and laws on their spelling.
 use Rattle.std.specs.Prelude.{◌≡◌, ◌≤◌, List, Option, Some}
 use Rattle.std.specs.Result.{result_ok}
 use Rattle.ss_words.specs.declared.limits.TheConstants.{MOST_PARENTHESES}
