@@ -100,6 +100,11 @@ pub among_at : {A : Type 0} (n : Name) (fs : List (Fact A)) (i l : ℕ) →
     i ≡ position_or_len (bytes_eq n) (names_of fs) → l ≡ length fs → nat_lt i l ≡ is_among n (names_of fs)
 among_at n fs i l p e = rw (p, e, sym (names_length fs)) (sym (any_place n (names_of fs)))
 
+-- whether a name is among those of a table, by its number there and the length of the table
+pub among_names : (n : Name) (ns : List Name) (i l : ℕ) → i ≡ position_or_len (bytes_eq n) ns → l ≡ length ns →
+    nat_lt i l ≡ is_among n ns
+among_names n ns i l p e = rw (p, e) (sym (any_place n ns))
+
 -- the place of a name that a map has
 pub place_some : (ns : List Name) (m : BTreeMap (Vec ℕ) ℕ) (n : Name) (i : ℕ) → IsIndex ns m → Some i ≡ entry_of m n →
     i ≡ position_or_len (bytes_eq n) ns

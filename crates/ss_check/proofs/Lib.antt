@@ -42,3 +42,5 @@ pub mod NamedItemsFacts
 pub mod NamedItemsHeadings
 pub mod NamedItems
 pub mod Sound
+pub mod SoundAsked
+pub mod OwnPlaces

@@ -16,11 +16,11 @@ use Rattle.ss_check.proofs.SoundStatements.{IsPlaceKept}
 use Rattle.ss_check.proofs.SoundUses.{IsKnown, AreKnown, AreGood, good_from}
 
 module _ (D : Declared) where
-  undeclared_is : (n : Name) → kind_of D n ≡ None → (b : Bool) → is_declared D n ≡ b → b ≡ false
+  pub undeclared_is : (n : Name) → kind_of D n ≡ None → (b : Bool) → is_declared D n ≡ b → b ≡ false
   undeclared_is n e false f = refl
   undeclared_is n e true f = let t = fact_there D.kinds n f in let z : None ≡ Some t.0 = sym e ∙ t.1 in cc
 
-  undeclared_in : (n : Name) (b : Bool) → b ≡ false → In n (if b then [] else (n ∷ []))
+  pub undeclared_in : (n : Name) (b : Bool) → b ≡ false → In n (if b then [] else (n ∷ []))
   undeclared_in n true e = cc
   undeclared_in n false e = inl refl
 
@@ -38,7 +38,7 @@ module _ (D : Declared) where
       (once_has n all (in_right n (parameters q.head) (flat_map (undeclared_name D) (variables_used q))
       (in_flat (undeclared_name D) n n (variables_used q) used new)))
 
-  all_known : (locals : List Name) (ns : List Name) → ((n : Name) → In n ns → IsKnown D locals n) → AreKnown D locals ns
+  pub all_known : (locals : List Name) (ns : List Name) → ((n : Name) → In n ns → IsKnown D locals n) → AreKnown D locals ns
   all_known locals [] f = tt
   all_known locals (n ∷ ns) f = (f n (inl refl), all_known locals ns (λ m i. f m (inr i)))
 

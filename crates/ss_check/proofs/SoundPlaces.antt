@@ -186,7 +186,7 @@ module _ (d : Declared) (v : Names) (locals : List Name) (sc : Scope) (S : Scope
   -- ---- conditions
 
   mutual
-    sound_condition : (c : Condition) → AreGood d locals (uses_condition c) →
+    pub sound_condition : (c : Condition) → AreGood d locals (uses_condition c) →
         IsSoundCondition sc (resolved_condition d v locals c)
     sound_condition (condition c cs) h =
         let p = parts (uses_conjunction c) (uses_alternatives cs) h in

@@ -25,3 +25,6 @@ pub mod Scope
 pub mod Readable
 pub mod FurtherExamples
 pub mod TableExample
+pub mod Symbols
+pub mod Asked
+pub mod AskedView

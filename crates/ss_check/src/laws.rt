@@ -1,4 +1,5 @@
 //! Laws on the definitions. Each function does nothing, and its contract says the law.
+ghost use Rattle.ss_check.specs.Asked.{AskedExpressionsAreSound, AskedConditionsAreSound, OwnPlacesHaveNoFault};
 ghost use Rattle.ss_check.specs.FurtherExamples.{SectionsAreDeclaredOnce, OrdersAreGivenOnce};
 ghost use Rattle.ss_check.specs.FurtherExamples.{LocalsHaveNamesOfTheirOwn, OrdersNameEvents, ValuesAreNoRoutines};
 ghost use Rattle.ss_check.specs.FurtherExamples.{KeysAreOfTheirClass, NoticesHaveAttributesForValues};
@@ -201,4 +202,21 @@ pub fn tables_give_the_text()
 /// sections, the sets with their owners, members and disciplines, and the order of priority.
 pub fn tables_give_the_items()
     ensures { TablesGiveTheItems }
+{}
+
+/// An expression that has a meaning in a section, by the symbol table of a text without a breach,
+/// names only rows of the text's program and local variables of the section.
+pub fn asked_expressions_are_sound()
+    ensures { AskedExpressionsAreSound }
+{}
+
+/// So does a condition that has a meaning in a section.
+pub fn asked_conditions_are_sound()
+    ensures { AskedConditionsAreSound }
+{}
+
+/// The uses of names in a section of a text without a breach have no fault there: all that its
+/// places ask for has a meaning by the symbol table.
+pub fn own_places_have_no_fault()
+    ensures { OwnPlacesHaveNoFault }
 {}

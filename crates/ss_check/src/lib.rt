@@ -8,14 +8,18 @@
 //! of that end speaks of no tree.
 #![tactic(auto)]
 
+mod asked;
 mod declared;
 mod fault;
 pub mod laws;
 mod program;
 mod resolved;
 mod rules;
+mod symbols;
 mod uses;
 
+pub use asked::AskedFault;
 pub use fault::{CheckFault, CheckRule};
 pub use program::check;
 pub use ss_program::{Named, Program};
+pub use symbols::SymbolTable;

@@ -1,5 +1,6 @@
 pub mod Unfoldings
 pub mod Notings
+pub mod AskedUnfoldings
 mod Tally
 mod Form
 mod Law
@@ -38,6 +39,8 @@ pub mod Unique
 mod LimitWords
 pub mod AlwaysAnswered
 pub mod AnswerByReading
+pub mod AskedWords
+mod AskedExamples
 mod BlockWrites
 mod LevelWrites
 mod SectionWrites

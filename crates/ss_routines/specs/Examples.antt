@@ -1,5 +1,5 @@
 -- Small texts, the one tree that each of them spells, and how many phrases are open in some.
-use Rattle.std.specs.Prelude.{◌≡◌, ℕ, zero, suc, ◌+◌, true, false, List, [], ◌∷◌, ◌++◌, None}
+use Rattle.std.specs.Prelude.{◌≡◌, ℕ, zero, suc, ◌+◌, true, false, List, [], ◌∷◌, ◌++◌, Some, None}
 use Rattle.ss_words.specs.declared.mark.Mark.TheVariants as m
 use Rattle.ss_words.specs.declared.word.Sign.TheVariants as s
 use Rattle.ss_words.specs.declared.reserved.Reserved.{Reserved}
@@ -7,10 +7,13 @@ use Rattle.ss_words.specs.declared.reserved.Reserved.TheVariants as r
 use Rattle.ss_words.specs.Lists.{Name, Several}
 use Rattle.ss_words.specs.Plain.{Plain, PlainAt, name, number, mark}
 use Rattle.ss_words.specs.declared.terms.Comparison.TheVariants.{Equal}
+use Rattle.ss_words.specs.declared.terms.Copula.TheVariants.{Is}
 use Rattle.ss_words.specs.declared.terms.Statistic.TheVariants.{Sum}
-use Rattle.ss_routines.specs.Expr.{Expr, expr, no_sums, term, no_products, Factor, digits, named, within}
+use Rattle.ss_words.specs.declared.terms.TermSign.TheVariants.{Plus}
+use Rattle.ss_routines.specs.Expr.{Expr, expr, no_sums, sum, term, no_products, product, Factor, digits, named}
+use Rattle.ss_routines.specs.Expr.{within, spell_within}
 use Rattle.ss_routines.specs.Condition.{Condition, condition, no_alternatives, alternative}
-use Rattle.ss_routines.specs.Condition.{conjunction, no_additions, addition, Relation, compared, nested}
+use Rattle.ss_routines.specs.Condition.{conjunction, no_additions, addition, Relation, compared, is_empty, nested}
 use Rattle.ss_routines.specs.Simple.{Stop, Transfers}
 use Rattle.ss_routines.specs.Loops.{Computed, Each, Phrase, Holds, Found, NoneFound}
 use Rattle.ss_routines.specs.Places.{For, Next, Gather, Compute, Place, Loops, EndOfSection, Spot}
@@ -19,6 +22,7 @@ use Rattle.ss_routines.specs.Tree.{else_with}
 use Rattle.ss_routines.specs.Tree.{further, repeated, single, MainHead, Tree, spell}
 use Rattle.ss_routines.specs.OpenPhrases.{open_phrases}
 use Rattle.ss_routines.specs.Refused.{AreSections}
+use Rattle.ss_routines.specs.Asked.{expression_in, condition_in}
 
 -- the words spell this tree and no other
 abbrev pub SpellOnly : List Plain → Tree → Type 0
@@ -218,3 +222,34 @@ SixteenAreOpen = (open_phrases (every_t 16) ≡ 16) × (open_phrases (every_t 17
 -- how many phrases are open in these texts
 abbrev pub OpenPhrasesAreTold : Type 0
 OpenPhrasesAreTold = ChainIsOpen × AssignmentClosesItsPhrase × IfIsControlled × LoopsAreNested × SixteenAreOpen
+
+-- X in n parentheses
+abbrev pub enclosed : ℕ → Expr
+enclosed zero = value (named x_name)
+enclosed (suc n) = value (within (enclosed n))
+
+-- its words
+abbrev pub enclosed_words : ℕ → List Plain
+enclosed_words zero = name x_name ∷ []
+enclosed_words (suc n) = spell_within (enclosed_words n)
+
+-- X + Y * 2 is a sum with a product; X + Y * and X Y are no expression; X may be in 50 parentheses, and not in 51
+abbrev pub ExpressionIsAsked : Type 0
+ExpressionIsAsked =
+    let begun : List Plain = name x_name ∷ mark (m.Sign s.Plus) ∷ name y_name ∷ mark (m.Sign s.Star) ∷ [] in
+    (expression_in (begun ++ number 2 ∷ [])
+    ≡ Some (expr None (term (named x_name) no_products)
+    (sum Plus (term (named y_name) (product (digits 2) no_products)) no_sums)))
+    × (expression_in begun ≡ None)
+    × (expression_in (name x_name ∷ name y_name ∷ []) ≡ None)
+    × (expression_in (enclosed_words 50) ≡ Some (enclosed 50))
+    × (expression_in (enclosed_words 51) ≡ None)
+
+-- X = 1 AND S IS EMPTY is two relations; X and X = 1 Y = 1 are no condition
+abbrev pub ConditionIsAsked : Type 0
+ConditionIsAsked =
+    (condition_in (x_is_one ++ word r.And ∷ name s_name ∷ word r.Is ∷ word r.Empty ∷ [])
+    ≡ Some (condition (conjunction (is_one (named x_name))
+    (addition (is_empty (record { name = s_name; subscript = None }) Is) no_additions)) no_alternatives))
+    × (condition_in (name x_name ∷ []) ≡ None)
+    × (condition_in (x_is_one ++ name y_name ∷ equals ∷ number 1 ∷ []) ≡ None)

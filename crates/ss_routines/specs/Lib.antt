@@ -15,6 +15,7 @@ pub mod ConditionReading
 pub mod OrValueView
 pub mod PartView
 pub mod View
+pub mod Asked
 pub mod LoopReading
 pub mod BlockReading
 pub mod SectionReading

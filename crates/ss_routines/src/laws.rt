@@ -6,6 +6,9 @@ ghost use Rattle.ss_routines.specs.Examples.{ElseIsOfTheInnerIf, LoopEndsTheChai
 ghost use Rattle.ss_routines.specs.Examples.{ForControlsOneStatement, AndBindsMoreTightly};
 ghost use Rattle.ss_routines.specs.Examples.{ParenthesesAreTold, ComputeIsTwoPlaces};
 ghost use Rattle.ss_routines.specs.Examples.{OpenPhrasesAreTold};
+ghost use Rattle.ss_routines.specs.Examples.{ExpressionIsAsked, ConditionIsAsked};
+ghost use Rattle.ss_routines.specs.Asked.{ExpressionIsSpelled, SpelledIsExpression};
+ghost use Rattle.ss_routines.specs.Asked.{ConditionIsSpelled, SpelledIsCondition};
 
 /// No two programs have one spelling.
 pub fn spelling_is_unique()
@@ -83,4 +86,35 @@ pub fn compute_is_two_places()
 /// controls, in an IF and a loop that it controls, and after 16 and 17.
 pub fn open_phrases_are_told()
     ensures { OpenPhrasesAreTold }
+{}
+
+/// Words that are an expression spell it, with at most 50 parentheses open at once.
+pub fn expression_is_spelled()
+    ensures { ExpressionIsSpelled }
+{}
+
+/// The words of an expression with at most 50 parentheses open at once are that expression.
+pub fn spelled_is_expression()
+    ensures { SpelledIsExpression }
+{}
+
+/// Words that are a condition spell it, with at most 50 parentheses open at once.
+pub fn condition_is_spelled()
+    ensures { ConditionIsSpelled }
+{}
+
+/// The words of a condition with at most 50 parentheses open at once are that condition.
+pub fn spelled_is_condition()
+    ensures { SpelledIsCondition }
+{}
+
+/// `X + Y * 2` is an expression, and `X + Y *` and `X Y` are none; X may be in 50 parentheses, and
+/// not in 51.
+pub fn expression_is_asked()
+    ensures { ExpressionIsAsked }
+{}
+
+/// `X = 1 AND S IS EMPTY` is a condition, and `X` and `X = 1 Y = 1` are none.
+pub fn condition_is_asked()
+    ensures { ConditionIsAsked }
 {}

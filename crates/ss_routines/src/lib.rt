@@ -1,11 +1,13 @@
 //! The sections of a program: their grammar, their trees and the flat lists of their places.
 #![tactic(auto)]
 
+mod asked;
 pub mod laws;
 mod program;
 mod reading;
 mod tree;
 
+pub use asked::{condition, expression};
 pub use program::sections;
 pub use ss_words::{Comparison, Copula, Direction, QualifierWord, SetEnd, Statistic};
 pub use tree::condition::{Condition, Conjunction, Reference, Relation};

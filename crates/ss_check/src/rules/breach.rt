@@ -99,7 +99,11 @@ fn check_statements(
 const FIRST_LINE: usize = 1;
 
 /// The declarations of items and of the heads of sections.
-fn tables(alloc: Global, items: &[ItemAt], sections: &[Section]) -> Result<Tables, AllocError>
+pub(crate) fn tables(
+    alloc: Global,
+    items: &[ItemAt],
+    sections: &[Section],
+) -> Result<Tables, AllocError>
     ensures { IfOk result (λ tables. tables
         ≡ declared_by_program (preamble.items_view items.now)
         (map view.section_view sections.now)) }
