@@ -1,5 +1,5 @@
 //! The parts of the prompt that are not the debugger's: with a lent debugger they obey commands.
-ghost use Rattle.std.specs.Prelude.{◌≡◌, ◌++◌, [], map, None, OnOk, OnErr, IfOk, IsOk, true};
+ghost use Rattle.std.specs.Prelude.{◌≡◌, ◌++◌, [], map, None, OnOk, OnErr, IfOk, IsOk, true, option_map};
 ghost use Rattle.std.specs.Option.{option_copied};
 ghost use Rattle.ss_console.specs.Going.{go_of};
 ghost use Rattle.ss_machine.specs.Moment.{position};
@@ -60,12 +60,12 @@ pub(crate) struct PromptDesk<'a> {
     displays: Vec<Question>,
     listed: Option<usize>,
     data_text: Option<&'a [u8]>,
-    symbols: Option<SymbolTable>,
+    symbols: Option<&'a SymbolTable>,
     alloc: Global,
 }
 
 impl<'a> Model for PromptDesk<'a> {
-    ghost use Rattle.std.specs.Prelude.{map};
+    ghost use Rattle.std.specs.Prelude.{map, option_map};
     ghost use Rattle.std.specs.Option.{option_copied};
     ghost use Rattle.ss_prompt.specs.PromptState.{PromptDeskView};
 
@@ -77,7 +77,7 @@ impl<'a> Model for PromptDesk<'a> {
       displays = k.displays.items;
       listed = k.listed;
       data_text = option_copied k.data_text;
-      symbols = k.symbols;
+      symbols = option_map (λ s. s.now) k.symbols;
     } };
 }
 
@@ -99,7 +99,7 @@ impl<'a> PromptDesk<'a> {
         model: &'a [u8],
         lines: Vec<&'a [u8]>,
         data_text: Option<&'a [u8]>,
-        symbols: Option<SymbolTable>,
+        symbols: Option<&'a SymbolTable>,
     ) -> Self
         ensures { result ≡ record {
           model = model.now;
@@ -107,7 +107,7 @@ impl<'a> PromptDesk<'a> {
           displays = [];
           listed = None;
           data_text = option_copied data_text.entry;
-          symbols = symbols;
+          symbols = option_map (λ s. s.now) symbols.entry;
         } }
     {
         PromptDesk {

@@ -53,12 +53,12 @@ impl<'a, S: SetBoard> Prompt<'a, S> {
         model: &'a [u8],
         lines: Vec<&'a [u8]>,
         data_text: &'a [u8],
-        symbols: SymbolTable,
+        symbols: &'a SymbolTable,
     ) -> Self
-        requires { IsSymbolsOf debugger.machine.input.program symbols }
+        requires { IsSymbolsOf debugger.machine.input.program symbols.now }
         ensures { result
             ≡ prompt_state_of debugger model.now (map (λ l. l.now) lines.entry.items) []
-            (Some data_text.now) (Some symbols) }
+            (Some data_text.now) (Some symbols.now) }
     {
         let desk = PromptDesk::new(alloc, model, lines, Some(data_text), Some(symbols));
         Prompt { debugger, desk }

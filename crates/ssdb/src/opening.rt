@@ -156,7 +156,7 @@ pub fn open_prompt<C: Console>(
     match open_debugger_with_symbols(alloc, model, data_text) {
         Ok(opened) => {
             let Opened { debugger, symbols } = opened;
-            let prompt = Prompt::new(alloc, debugger, model, lines, data_text, symbols);
+            let prompt = Prompt::new(alloc, debugger, model, lines, data_text, &symbols);
             greet_and_hold(alloc, prompt, &mut line, console)
         }
         Err(fault) => Err(refuse(alloc, model, fault, console)),

@@ -22,7 +22,7 @@ impl<'a> PromptDesk<'a> {
         ensures { IfOk result (λ answer. option_map (λ a. a.items) answer
             ≡ value_by (state_at debugger.now self.now) text.now self.now.symbols) }
     {
-        let Some(symbols) = &self.symbols else {
+        let Some(symbols) = self.symbols else {
             return Ok(None);
         };
         let machine = debugger.machine();
