@@ -16,6 +16,7 @@ after_taken s after e = (
     ap (λ (v : PromptState). v.lines) e,
     ap (λ (v : PromptState). v.input) e,
     ap (λ (v : PromptState). v.displays) e,
+    ap (λ (v : PromptState). v.listed) e,
     ap (λ (v : PromptState). v.data_text) e,
   ),
   ap (λ (v : PromptState). v.debugger) e,
