@@ -5,21 +5,19 @@ ghost use Rattle.ss_console.specs.Going.{go_of};
 ghost use Rattle.ss_machine.specs.Moment.{position};
 ghost use Rattle.ss_debug.specs.Answer.{state_line};
 ghost use Rattle.ss_debug.specs.Turn.{is_quit as is_plain_quit};
-ghost use Rattle.ss_trace.specs.Question.{question_text};
 ghost use Rattle.ss_prompt.specs.PromptState.{state_at, with_questions, fault_told, source_line};
 ghost use Rattle.ss_prompt.specs.PromptState.{place_text, greeting};
-ghost use Rattle.ss_prompt.specs.Stops.{changes_told, stop_text, changed_said, HasLookedBeside, IsStopRefused};
+ghost use Rattle.ss_prompt.specs.Stops.{changes_told, stop_text, HasLookedBeside, IsStopRefused};
 ghost use Rattle.ss_prompt.specs.Plain.{plain_next, plain_said, IsPlainRefused};
 ghost use Rattle.ss_prompt.specs.Travel.{travel_next, travel_said, IsTravelRefused};
 ghost use Rattle.ss_prompt.specs.Sights.{sight_said};
-ghost use Rattle.ss_prompt.specs.Histories.{why_said, history_said, HasLookedBack};
 ghost use Rattle.ss_prompt.specs.Names.{warnings_told};
 ghost use Rattle.ss_prompt.specs.Valued.{Suits};
-ghost use Rattle.ss_prompt.specs.Displays.{displays_with, display_text, cleared_text};
-ghost use Rattle.ss_prompt.specs.Displays.{displays_without, undisplay_text};
 ghost use Rattle.ss_prompt.specs.Prompting.{prompt_answer, state_led, prompt_state_after, IsRefused, is_quit};
 
+mod changes;
 mod cleared;
+mod displays;
 mod listed;
 mod model;
 mod once;
@@ -28,7 +26,7 @@ mod valued;
 
 use crate::advice::push_unread;
 use crate::commands::PromptCommand;
-use crate::displays::{display, push_answers, undisplay, undisplay_one};
+use crate::displays::push_answers;
 use crate::help::push_help;
 use crate::missing::push_missing;
 use crate::names::push_all_warnings;
@@ -39,13 +37,13 @@ use crate::sight::Sight;
 use crate::source::push_marked_line;
 use crate::stops::{goes_back, travels_back};
 use crate::taken::push_next;
+use ss_changes::{push_stop_changes, push_stop_changes_ahead};
 use ss_check::SymbolTable;
-use ss_changes::{push_changed, push_stop_changes, push_stop_changes_ahead};
 use ss_console::Go;
 use ss_debug::{Command, Debugger, Question as PlainQuestion, obey};
 use ss_faults::push_fault_sentence;
 use ss_links::SetBoard;
-use ss_trace::{Movement, Question, make_movement, push_answer, push_history, push_why};
+use ss_trace::{Movement, Question, make_movement, push_answer};
 use std::alloc::{AllocError, Global};
 use std::marker::Model;
 use std::mem::swap;
@@ -329,98 +327,6 @@ impl<'a> PromptDesk<'a> {
             ++ sight_said sight debugger.now.machine.input (position debugger.now.machine)) }
     {
         push_sight(self.alloc, answer, debugger.machine(), sight)
-    }
-
-    /// SHOW CHANGED.
-    #[tactic(auto, using(crate::proofs::NeighbourStates::behind), unfolding(crate::specs::Stops::HasLookedBeside))]
-    fn changed<S: SetBoard>(
-        &self,
-        debugger: &mut Debugger<S>,
-        answer: &mut Vec<u8>,
-    ) -> Result<(), AllocError>
-        ensures place { OnOk result (state_at debugger.new self.now
-            ≡ state_at debugger.old self.now) }
-        ensures said { OnOk result (answer.new.items
-            ≡ answer.old.items ++ changed_said (state_at debugger.old self.now)) }
-        ensures memory { OnErr result
-            (HasLookedBeside (state_at debugger.old self.now) (state_at debugger.new self.now)) }
-    {
-        push_changed(self.alloc, debugger, answer)
-    }
-
-    /// WHY.
-    #[tactic(auto, unfolding(crate::specs::Histories::HasLookedBack))]
-    fn why<S: SetBoard>(
-        &self,
-        debugger: &mut Debugger<S>,
-        question: &Question,
-        answer: &mut Vec<u8>,
-    ) -> Result<(), AllocError>
-        ensures place { OnOk result (state_at debugger.new self.now
-            ≡ state_at debugger.old self.now) }
-        ensures said { OnOk result (answer.new.items
-            ≡ answer.old.items ++ why_said (state_at debugger.old self.now) question.now) }
-        ensures memory { OnErr result
-            (HasLookedBack (state_at debugger.old self.now) (state_at debugger.new self.now)) }
-    {
-        debugger.machine().known();
-        let mut change = Vec::new(self.alloc);
-        if let Some(line) = push_why(debugger, question, answer, &mut change)? {
-            push_marked_line(answer, &self.lines, b"> ", line)?;
-        }
-        answer.extend_from_slice(&change)
-    }
-
-    /// HISTORY.
-    #[tactic(auto, unfolding(crate::specs::Histories::HasLookedBack))]
-    fn history<S: SetBoard>(
-        &self,
-        debugger: &mut Debugger<S>,
-        question: &Question,
-        rows: u64,
-        answer: &mut Vec<u8>,
-    ) -> Result<(), AllocError>
-        ensures place { OnOk result (state_at debugger.new self.now
-            ≡ state_at debugger.old self.now) }
-        ensures said { OnOk result (answer.new.items
-            ≡ answer.old.items ++ history_said (state_at debugger.old self.now) question.now rows) }
-        ensures memory { OnErr result
-            (HasLookedBack (state_at debugger.old self.now) (state_at debugger.new self.now)) }
-    {
-        push_history(debugger, question, rows, answer)
-    }
-
-    /// DISPLAY.
-    fn display(&mut self, question: Question, answer: &mut Vec<u8>) -> Result<(), AllocError>
-        ensures place { OnOk result (self.new
-            ≡ with_questions self.old (displays_with self.old.displays question)) }
-        ensures said { OnOk result (answer.new.items
-            ≡ answer.old.items ++ display_text self.old.displays (question_text question)) }
-        ensures memory { OnErr result (self.new ≡ self.old) }
-    {
-        display(self.alloc, &mut self.displays, question, answer)
-    }
-
-    /// UNDISPLAY.
-    fn undisplay(&mut self, answer: &mut Vec<u8>) -> Result<(), AllocError>
-        ensures place { OnOk result (self.new ≡ with_questions self.old []) }
-        ensures said { OnOk result (answer.new.items
-            ≡ answer.old.items ++ cleared_text self.old.displays) }
-        ensures memory { OnErr result (self.new ≡ self.old) }
-    {
-        undisplay(&mut self.displays, answer)
-    }
-
-    /// UNDISPLAY of a question.
-    fn undisplay_one(&mut self, question: Question, answer: &mut Vec<u8>) -> Result<(), AllocError>
-        ensures place { OnOk result (self.new
-            ≡ with_questions self.old
-            (displays_without self.old.displays (question_text question))) }
-        ensures said { OnOk result (answer.new.items
-            ≡ answer.old.items ++ undisplay_text self.old.displays (question_text question)) }
-        ensures memory { OnErr result (self.new ≡ self.old) }
-    {
-        undisplay_one(self.alloc, &mut self.displays, &question, answer)
     }
 
     /// Does the work of a command, and appends its whole answer. Where LIST goes on stays as it is.
