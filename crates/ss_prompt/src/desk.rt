@@ -49,8 +49,8 @@ use std::marker::Model;
 use std::mem::swap;
 
 /// The parts of the prompt that are not the debugger's: the model, its lines, the questions that
-/// are answered at each stop, the last line that LIST printed, if no movement came after it, and
-/// the text of the data, if it is known.
+/// are answered at each stop, the last line that LIST printed, if no movement came after it, the
+/// text of the data, if it is known, and the symbol table of the model, if it is kept.
 #[derive(Drop)]
 pub(crate) struct PromptDesk<'a> {
     model: &'a [u8],
