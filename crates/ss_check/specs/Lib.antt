@@ -28,3 +28,4 @@ pub mod TableExample
 pub mod Symbols
 pub mod Asked
 pub mod AskedView
+pub mod AskedExample

@@ -1,4 +1,5 @@
 //! Laws on the definitions. Each function does nothing, and its contract says the law.
+ghost use Rattle.ss_check.specs.AskedExample.{AskedNamesAreJudged};
 ghost use Rattle.ss_check.specs.Asked.{AskedExpressionsAreSound, AskedConditionsAreSound, OwnPlacesHaveNoFault};
 ghost use Rattle.ss_check.specs.FurtherExamples.{SectionsAreDeclaredOnce, OrdersAreGivenOnce};
 ghost use Rattle.ss_check.specs.FurtherExamples.{LocalsHaveNamesOfTheirOwn, OrdersNameEvents, ValuesAreNoRoutines};
@@ -219,4 +220,10 @@ pub fn asked_conditions_are_sound()
 /// places ask for has a meaning by the symbol table.
 pub fn own_places_have_no_fault()
     ensures { OwnPlacesHaveNoFault }
+{}
+
+/// Expressions and conditions in the sections of a small text: their numbers, the names that are
+/// unknown there, and the rules that they break.
+pub fn asked_names_are_judged()
+    ensures { AskedNamesAreJudged }
 {}
