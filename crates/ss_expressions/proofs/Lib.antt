@@ -1,0 +1,3 @@
+pub mod AfterIf
+pub mod Gathered
+pub mod Scopes

@@ -7,6 +7,7 @@ use Rattle.ss_words.specs.Faults.{run_fault_number}
 use Rattle.ss_program.specs.Program.{ProgramTable}
 use Rattle.ss_program.specs.ProgramExpr.{Expr}
 use Rattle.ss_program.specs.ProgramCondition.{Condition}
+use Rattle.ss_check.specs.declared.fault.CheckRule.{CheckRule}
 use Rattle.ss_check.specs.CheckRules.{check_rule_code}
 use Rattle.ss_check.specs.Symbols.{Symbols}
 use Rattle.ss_check.specs.Asked.{AskedFault, Unknown, Broken, judged_expression, judged_condition}
@@ -38,11 +39,18 @@ abbrev pub truth_answer : List ℕ → Result Bool RunFault → List ℕ
 truth_answer text (Ok b) = text ++ codes ": " ++ yes_or_no b ++ 10 ∷ []
 truth_answer text (Err fault) = fault_line fault
 
--- a name that is no variable, or a rule of the checker with its sentence
+-- a name that is no variable
+abbrev pub unknown_answer : List ℕ → List ℕ
+unknown_answer name = codes "NO VARIABLE " ++ name ++ 10 ∷ []
+
+-- a rule of the checker, with its sentence
+abbrev pub broken_answer : CheckRule → List ℕ
+broken_answer rule = check_rule_code rule ++ codes ": " ++ rule_sentence (check_rule_code rule) ++ 10 ∷ []
+
+-- why what is asked has no value
 abbrev pub refused_answer : AskedFault → List ℕ
-refused_answer (Unknown name) = codes "NO VARIABLE " ++ name ++ 10 ∷ []
-refused_answer (Broken rule) =
-    check_rule_code rule ++ codes ": " ++ rule_sentence (check_rule_code rule) ++ 10 ∷ []
+refused_answer (Unknown name) = unknown_answer name
+refused_answer (Broken rule) = broken_answer rule
 
 -- the parts of a state that values are read from
 abbrev pub readings_of : ProgramTable → State → Readings

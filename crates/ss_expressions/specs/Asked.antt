@@ -23,7 +23,7 @@ after_if (Ok words) = Some (rest_of (plains (plain_words_of words)))
 after_if (Err fault) = None
 
 -- the plain words of a text, as they are after IF; none if its text is refused
-unfoldable pub plain_after_if : List ℕ → Option (List Plain)
+abbrev pub plain_after_if : List ℕ → Option (List Plain)
 plain_after_if text = after_if (words_of (codes "IF " ++ text))
 
 -- a condition, if there is one

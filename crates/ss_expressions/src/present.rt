@@ -1,5 +1,5 @@
 //! The values of the variables in a machine's present state.
-ghost use Rattle.std.specs.Prelude.{◌≡◌, IfOk};
+ghost use Rattle.std.specs.Prelude.{◌≡◌, IfOk, length, pos, slice_index_or};
 ghost use Rattle.ss_values.specs.Seen.{view_readings};
 ghost use Rattle.ss_expressions.specs.Answers.{readings_of};
 
@@ -17,6 +17,7 @@ pub(crate) struct Present {
 }
 
 /// The values of the global variables, in the order of their table.
+#[tactic(auto, using(crate::proofs::Gathered::one_more, crate::proofs::Gathered::all_gathered))]
 fn globals<S: SetBoard>(alloc: Global, machine: &Machine<S>) -> Result<Vec<i64>, AllocError>
     ensures { IfOk result (λ xs. xs.items ≡ machine.now.state.variables) }
 {
@@ -29,15 +30,39 @@ fn globals<S: SetBoard>(alloc: Global, machine: &Machine<S>) -> Result<Vec<i64>,
     Ok(values)
 }
 
+/// The value of the local of the last frame with this number, 0 if there is none.
+#[tactic(auto, using(crate::proofs::Gathered::local_is))]
+fn local<S: SetBoard>(machine: &Machine<S>, number: usize) -> i64
+    ensures { result ≡ slice_index_or machine.now.state.frame.locals number (pos 0) }
+{
+    machine.frame_local(0, number).unwrap_or(0)
+}
+
+/// The values of the locals of the last frame, which are this number.
+#[tactic(auto, using(crate::proofs::Gathered::one_more, crate::proofs::Gathered::all_gathered))]
+fn local_values<S: SetBoard>(
+    alloc: Global,
+    machine: &Machine<S>,
+    count: usize,
+) -> Result<Vec<i64>, AllocError>
+    requires { count ≡ length machine.now.state.frame.locals }
+    ensures { IfOk result (λ xs. xs.items ≡ machine.now.state.frame.locals) }
+{
+    let mut values = Vec::with_capacity(alloc, count)?;
+    for number in 0..count {
+        values.push(local(machine, number))?;
+    }
+    Ok(values)
+}
+
 /// The values of the locals of the last frame, in the order of its section's table.
+#[tactic(auto, using(crate::proofs::Gathered::local_count))]
 fn locals<S: SetBoard>(alloc: Global, machine: &Machine<S>) -> Result<Vec<i64>, AllocError>
     ensures { IfOk result (λ xs. xs.items ≡ machine.now.state.frame.locals) }
 {
-    let mut values = Vec::new(alloc);
-    while let Some(value) = machine.frame_local(0, values.len()) {
-        values.push(value)?;
-    }
-    Ok(values)
+    machine.known();
+    let (section, _) = machine.place();
+    local_values(alloc, machine, machine.program().locals(section).len())
 }
 
 impl Present {
