@@ -13,6 +13,7 @@ use Rattle.ss_routines.specs.Refused.{AreSections, words_from}
 use Rattle.ss_check.specs.declared.fault.CheckRule.{CheckRule}
 use Rattle.ss_check.specs.Breach.{breach}
 use Rattle.ss_check.specs.Resolved.{program_resolved}
+use Rattle.ss_check.specs.Symbols.{Symbols, symbols_of}
 use Rattle.ss_program.specs.Program.{ProgramTable}
 use Rattle.ss_session.specs.Refused.{IsRefused}
 
@@ -50,3 +51,9 @@ IsTextRefused model = (rule : TextRule) × (line : ℕ) × IsOutcome model (refu
 -- a rule C refuses the model
 abbrev pub IsCheckRefused : List ℕ → Type 0
 IsCheckRefused model = (rule : CheckRule) × (line : ℕ) × IsOutcome model (refused_check rule line)
+
+-- a program and a symbol table are those of one text without a breach, which the words of a model spell
+abbrev pub IsOfModel : List ℕ → ProgramTable → Symbols → Type 0
+IsOfModel model program symbols =
+    (d : Decls) × (ss : List Section) × Spells model d ss × (breach d ss ≡ None) × (program ≡ program_resolved d ss)
+    × (symbols ≡ symbols_of d ss)

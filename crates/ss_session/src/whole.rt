@@ -4,7 +4,8 @@ ghost use Rattle.ss_links.specs.Board.{empty_board};
 ghost use Rattle.ss_state.specs.Run.{input_with, run};
 ghost use Rattle.ss_debug.specs.Turn.{initial_debugger_state};
 ghost use Rattle.ss_debug.specs.View.{debugger_state_of};
-ghost use Rattle.ss_session.specs.Model.{accepted, IsOutcome};
+ghost use Rattle.ss_check.specs.Asked.{IsSymbolsOf};
+ghost use Rattle.ss_session.specs.Model.{accepted, IsOfModel, IsOutcome};
 ghost use Rattle.ss_session.specs.Load.{IsLoadFault};
 ghost use Rattle.ss_session.specs.Transcript.{refusal_line};
 ghost use Rattle.ss_session.specs.Session.{SessionSays};
@@ -12,9 +13,10 @@ ghost use Rattle.ss_session.specs.Private.{LineEnds, SessionEnds};
 
 use crate::answers::write_transcript;
 use crate::ending::{Cut, End, SessionFault};
-use crate::load::{LoadFault, load_program};
+use crate::load::{LoadFault, load_program, load_with_symbols};
 use crate::outlet::{Outlet, put_all};
 use crate::refusal::refusal_text;
+use ss_check::SymbolTable;
 use ss_data::Feed;
 use ss_debug::Debugger;
 use ss_links::{LinkedSets, SetBoard};
@@ -77,6 +79,43 @@ pub fn open_debugger(
     let pending = LinkedSets::new(alloc);
     match machine(alloc, program, data_text, sets, pending) {
         Ok(machine) => Ok(Debugger::new(alloc, machine)),
+        Err(_) => Err(LoadFault::Memory),
+    }
+}
+
+/// A debugger over a model, and the symbol table of the model's text.
+#[derive(Drop)]
+pub struct Opened {
+    pub debugger: Debugger<LinkedSets>,
+    pub symbols: SymbolTable,
+}
+
+/// The debugger at the start of the run of a model over its data, as `open_debugger` gives it, with
+/// the symbol table by which expressions and conditions are asked for in the model's sections; or
+/// why the model is no program, or `Memory`.
+pub fn open_debugger_with_symbols(
+    alloc: Global,
+    model: &[u8],
+    data_text: &[u8],
+) -> Result<Opened, LoadFault>
+    ensures program { IfOk result
+        (λ o. IsOutcome model.now (accepted o.debugger.machine.input.program)) }
+    ensures symbols { IfOk result
+        (λ o. IsOfModel model.now o.debugger.machine.input.program o.symbols) }
+    ensures sound { IfOk result (λ o. IsSymbolsOf o.debugger.machine.input.program o.symbols) }
+    ensures input { IfOk result (λ o. o.debugger.machine.input
+        ≡ input_with o.debugger.machine.input.program data_text.now) }
+    ensures start { IfOk result (λ o. debugger_state_of o.debugger ≡ initial_debugger_state) }
+    ensures err { IfErr result (λ fault. IsLoadFault fault model.now) }
+{
+    let loaded = load_with_symbols(alloc, model)?;
+    let sets = LinkedSets::new(alloc);
+    let pending = LinkedSets::new(alloc);
+    match machine(alloc, loaded.program, data_text, sets, pending) {
+        Ok(machine) => Ok(Opened {
+            debugger: Debugger::new(alloc, machine),
+            symbols: loaded.symbols,
+        }),
         Err(_) => Err(LoadFault::Memory),
     }
 }
