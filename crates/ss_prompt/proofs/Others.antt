@@ -4,7 +4,6 @@ use Rattle.ss_state.specs.Run.{Input}
 use Rattle.ss_debug.specs.Turn.{DebuggerState, debugger_state_after}
 use Rattle.ss_debug.specs.declared.commands.Command.{Command}
 use Rattle.ss_debug.specs.declared.commands.Command.TheVariants as plain
-use Rattle.ss_prompt.specs.declared.commands.PromptCommand.{PromptCommand}
 use Rattle.ss_prompt.specs.declared.commands.PromptCommand.TheVariants as prompt
 use Rattle.ss_debug.specs.declared.limits.TheConstants.{GREATEST_LINE}
 use Rattle.ss_prompt.specs.Cleared.{after_clear}

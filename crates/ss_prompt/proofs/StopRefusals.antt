@@ -1,5 +1,5 @@
 -- The state of a debugger if memory was refused at a stop.
-use Rattle.std.proofs.Common.{◌≡◌, ◌⊎◌, inl, inr, refl, subst, ap}
+use Rattle.std.proofs.Common.{◌≡◌, inl, inr, subst, ap}
 use Rattle.ss_debug.specs.AfterRefusal.{IsStateAfterRefusal}
 use Rattle.ss_debug.specs.declared.commands.Command.{Command}
 use Rattle.ss_debug.specs.declared.commands.Command.TheVariants as plain
