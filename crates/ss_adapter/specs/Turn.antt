@@ -171,6 +171,7 @@ at_console state = record {
   displays = state.desk.displays;
   listed = None;
   data_text = None;
+  symbols = None;
 }
 
 -- the answer of the prompt to a command
