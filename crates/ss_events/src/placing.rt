@@ -15,9 +15,9 @@ use ss_links::SetBoard;
 use std::alloc::{AllocError, Global};
 
 /// A list of this many seats gets an index.
-const LONG_LIST: u32 = 32;
+const LONG_LIST: u32 = 64;
 /// The index of a list of fewer seats is given up.
-const SHORT_LIST: u32 = 16;
+const SHORT_LIST: u32 = 32;
 
 /// The seat directly before a place in the list of a head, or none if it is first. The list is
 /// walked from its end: most places are near it.
