@@ -1,7 +1,6 @@
 -- How the times of the seats are kept.
-use Rattle.std.proofs.Common.{◌≡◌, ℕ, ℤ, pos, ◌+◌, ◌-◌, ◌<◌, ◌≤◌, ◌++◌, true, false, eqb, ltb, List, [], ◌∷◌, length}
+use Rattle.std.proofs.Common.{◌≡◌, ℕ, ℤ, pos, ◌-◌, ◌<◌, ◌≤◌, ◌++◌, true, false, eqb, ltb, List, [], ◌∷◌, length}
 use Rattle.std.proofs.Common.{take, get_or, Option, Some, None, refl, sym, ap, ◌∙◌, arith, suc, zero, length-append}
-use Rattle.std.proofs.Common.{subst}
 use Rattle.std.proofs.Math.ListN.{set, length-set, get_or-append}
 use Rattle.std.proofs.Math.Seq.{get_or-append_seam}
 use Rattle.std.proofs.lemmas.List.{get_or-set_same, get_or-set_other, get_or-take, length-take}
@@ -17,7 +16,6 @@ use Rattle.ss_events.specs.Rows.{notices_from, row_at, empty_row, IsGrown, IsAge
 use Rattle.ss_events.proofs.RowLaws.{pending_row}
 use Rattle.ss_events.proofs.StateLaws.{seat_in-notice}
 use Rattle.ss_events.proofs.GiveSeat.{row_at-empty}
-use Rattle.ss_events.specs.Changes.{CanPend}
 use Rattle.ss_events.specs.Views.{notice_of}
 use Rattle.ss_events.proofs.PutAndTakeOut.{has-row, row-is, unseated-idle}
 use Rattle.ss_events.proofs.Stands.{has-get_or}
@@ -97,23 +95,23 @@ due-less ts us ns ms rows i j d k e f = rw (e, f, k) (record {
 })
 
 -- a notice put in, its time at its seat
-pub due-put : (ts us : List ℤ) (rows : List Row) (s : AgendaState) (b : Board) (n x : ℕ) (y : PendingNotice) (r1 r : Row)
+pub due-put : (ts us : List ℤ) (rows : List Row) (s : AgendaState) (b : Board) (n x : ℕ) (y : PendingNotice) (r : Row)
     → IsAgenda rows s b → AreDue ts s.notices rows → has s.notices n ≡ true → x ≡ seat_in s.notices n
-    → us ≡ set ts x y.time → r.pending ≡ Some y → AreDue us s.notices (set (set rows (n - 1) r1) (n - 1) r)
-due-put ts us rows s b n x y r1 r k d h v w e = rw w (record {
+    → us ≡ set ts x y.time → r.pending ≡ Some y → AreDue us s.notices (set rows (n - 1) r)
+due-put ts us rows s b n x y r k d h v w e = rw w (record {
   count = length-set ts x y.time ∙ d.count;
   due = one;
 })
   where
     one : (z : ℕ) (p : PendingNotice) → z < length s.notices
-        → (row_at (set (set rows (n - 1) r1) (n - 1) r) (get_or s.notices z 0 - 1)).pending ≡ Some p
+        → (row_at (set rows (n - 1) r) (get_or s.notices z 0 - 1)).pending ≡ Some p
         → get_or (set ts x y.time) z (pos 0) ≡ p.time
     one z p l g = elim (eqb z x) as (λ t. eqb z x ≡ t → get_or (set ts x y.time) z (pos 0) ≡ p.time) [
       | true ↦ λ t.
           let same : z ≡ x = grind (arith, nat_tests, t) in
           let own : get_or s.notices z 0 ≡ n = rw (same, v) (seat_in-notice s.notices n 0 h) in
-          let row : n - 1 < length (set rows (n - 1) r1) = omega (arith, has-row rows s b n k h, length-set rows (n - 1) r1) in
-          let is : r.pending ≡ Some p = rw (own, get_or-set_same (set rows (n - 1) r1) (n - 1) r empty_row row) at g in
+          let row = has-row rows s b n k h in
+          let is : r.pending ≡ Some p = rw (own, get_or-set_same rows (n - 1) r empty_row row) at g in
           let both : y ≡ p = cc in
           let there : x < length ts = omega (arith, same, l, d.count) in
           ap (λ i. get_or (set ts x y.time) i (pos 0)) same ∙ (get_or-set_same ts x y.time (pos 0) there
@@ -125,8 +123,7 @@ due-put ts us rows s b n x y r1 r k d h v w e = rw w (record {
           let above = (k.seated (get_or s.notices z 0) (has-get_or s.notices z 0 l)).0 in
           let own = (k.seated n h).0 in
           let far : ¬ (get_or s.notices z 0 - 1 ≡ n - 1) = λ a. other (omega (arith, a, above, own)) in
-          let old = get_or-set_other (set rows (n - 1) r1) (n - 1) (get_or s.notices z 0 - 1) r empty_row far
-          ∙ get_or-set_other rows (n - 1) (get_or s.notices z 0 - 1) r1 empty_row far in
+          let old = get_or-set_other rows (n - 1) (get_or s.notices z 0 - 1) r empty_row far in
           get_or-set_other ts x z y.time (pos 0) apart
           ∙ d.due z p l (ap (λ (q : Row). q.pending) (sym old) ∙ g)
     ] refl
@@ -140,17 +137,6 @@ due-grown ts us ns ms old new count d g e f = rw (e, f) (due-fewer ts ns old new
 row-pending : (rows : List Row) (n : ℕ) (q r : Row) → n - 1 < length rows → q ≡ get_or rows (n - 1) q
     → r.pending ≡ q.pending → r.pending ≡ (row_at rows (n - 1)).pending
 row-pending rows n q r l e h = h ∙ ap (λ (t : Row). t.pending) (sym (row-is rows (n - 1) q l e))
-
--- the rows in which a place is looked for
-pub due-ranked : (ts us : List ℤ) (ms : List ℕ) (rows rows1 : List Row) (s t : AgendaState) (b : Board) (n : ℕ)
-    (x : PendingNotice) (q r : Row) → s ≡ t → IsAgenda rows s b → AreDue ts s.notices rows → CanPend t (notice_of n x)
-    → q ≡ get_or rows (n - 1) q → rows1 ≡ set rows (n - 1) r → r.pending ≡ q.pending → us ≡ ts → ms ≡ s.notices
-    → AreDue us ms rows1
-due-ranked ts us ms rows rows1 s t b n x q r v k d p i w h e f =
-    let can = subst (λ (z : AgendaState). CanPend z (notice_of n x)) (sym v) p in
-    let row = has-row rows s b n k can.kept.seat in
-    rw (e, f, w) (due-fewer ts s.notices rows (set rows (n - 1) r) d (same-set rows (n - 1) r (row-pending rows n q r row
-    i h)))
 
 -- a seat is made for a notice
 pub due-seat : (ts us : List ℤ) (ms : List ℕ) (rows : List Row) (s : AgendaState) (b : Board) (n : ℕ) (q r : Row)

@@ -15,14 +15,14 @@ use Rattle.ss_events.specs.declared.pending_notice.Row.{Row}
 use Rattle.ss_events.specs.Agenda.{Pending}
 use Rattle.ss_events.specs.Rules.{Rule}
 use Rattle.ss_events.specs.State.{AgendaState, seat_in, seat_at, board_of, Each, NoneNoted, IsPending}
-use Rattle.ss_events.specs.Rows.{notices_from, and_others, row_at, empty_row, HasNode, IsGrown, IsAgenda}
+use Rattle.ss_events.specs.Rows.{notices_from, and_others, row_at, empty_row, IsGrown, IsAgenda}
 use Rattle.ss_events.specs.Changes.{with_pending, with_notices, with_seat_for, IsLastSeat}
 use Rattle.ss_events.proofs.OrderLaws.{Each-map}
 use Rattle.ss_events.proofs.RowLaws.{from-same}
 use Rattle.ss_events.proofs.StateLaws.{seat_in-more, seat_in-new}
 use Rattle.ss_events.proofs.BoardOf.{IsTold, with_seat-more, free-seat}
 use Rattle.ss_events.proofs.Stands.{told}
-use Rattle.ss_events.proofs.PutAndTakeOut.{row-is, nodes-set, unseated-idle}
+use Rattle.ss_events.proofs.PutAndTakeOut.{row-is}
 
 -- empty rows say nothing
 from-none : (b k : ℕ) → notices_from b (replicate k empty_row) ≡ []
@@ -78,8 +78,6 @@ grown-kept old new s b count k g small =
       sound = k.sound;
       seats = λ i l. ap (λ (r : Row). r.seat) (ap (λ (rs : List Row). row_at rs i) g.whole ∙
           row_at-empty g.more i old) ∙ seat i;
-      nodes = λ i. let same : row_at new i ≡ row_at old i = ap (λ (rs : List Row). row_at rs i) g.whole ∙ row_at-empty
-          g.more i old in rw same (k.nodes i);
       seated = λ n h. let r = k.seated n h in (r.0, omega (arith, r.1, long));
       once = k.once;
       few = g.few MOST_REFERENCES small k.few;
@@ -185,28 +183,23 @@ set-seat rows j i r o l h k = elim (eqb i j) as (λ t. eqb i j ≡ t → (row_at
 ] refl
 
 -- a seat is made
-pub seat-closed : (rows : List Row) (s : AgendaState) (b c : Board) (n x y : ℕ) (r : Row) → IsAgenda rows s b →
+pub seat-closed : (rows : List Row) (s : AgendaState) (b c : Board) (n x : ℕ) (r : Row) → IsAgenda rows s b →
     has s.notices n ≡ false → 0 < n → n ≤ length rows → c ≡ with_seat b → IsSound c → x ≡ b.seats →
-    r ≡ get_or rows (n - 1) r → y ≡ x → IsAgenda (set rows (n - 1) (record {
+    r ≡ get_or rows (n - 1) r → IsAgenda (set rows (n - 1) (record { seat = Some x; pending = r.pending })) (with_pending
+    (with_notices s (s.notices ++ n ∷ [])) (notices_from 1 (set rows (n - 1) (record {
       seat = Some x;
       pending = r.pending;
-      node = Some y;
-    })) (with_pending (with_notices s (s.notices ++ n ∷ [])) (notices_from 1 (set rows (n - 1)
-    (record { seat = Some x; pending = r.pending; node = Some y })))) c
-seat-closed rows s b c n x y r k h a l e sound f i v =
-    let row : Row = record { seat = Some x; pending = r.pending; node = Some y } in
+    })))) c
+seat-closed rows s b c n x r k h a l e sound f i =
+    let row : Row = record { seat = Some x; pending = r.pending } in
     let within : n - 1 < length rows = omega arith in
     let read : s.agenda.pending ≡ notices_from 1 (set rows (n - 1) row) = k.read ∙
     sym (from-same 1 rows (n - 1) row (ap (λ (q : Row). q.pending) (sym (row-is rows (n - 1) r within i)))) in
-    let idle : r.pending ≡ None = ap (λ (q : Row). q.pending) (sym (row-is rows (n - 1) r within i)) ∙ unseated-idle rows
-    s b n k a h in
-    let room : HasNode row = rw (idle, v) refl in
     let count : x ≡ length s.notices = f ∙ ap (λ (d : Board). d.seats) k.board in
     let kept : IsAgenda (set rows (n - 1) row) (with_notices s (s.notices ++ n ∷ [])) c = record {
       read = read;
       board = e ∙ rw k.board (with_seat-more s n (told rows s b k));
       sound = sound;
-      nodes = nodes-set rows (n - 1) row room k.nodes;
       seats = λ j m. set-seat rows (n - 1) j row (seat_at (s.notices ++ n ∷ []) (j + 1)) within (λ t. let same : j +
           1 ≡ n = grind (arith, nat_tests, t, a) in rw (
             same,
@@ -287,31 +280,22 @@ pub seated-same : (s t : AgendaState) (n : ℕ) → s ≡ t → has s.notices n 
 seated-same s t n e h = rw (← e, h) refl
 
 -- a seat is made, with the list of notices as it is after
-pub seat-closed_at : (rows : List Row) (s : AgendaState) (b c : Board) (n x y : ℕ) (r : Row) (ms : List ℕ) →
+pub seat-closed_at : (rows : List Row) (s : AgendaState) (b c : Board) (n x : ℕ) (r : Row) (ms : List ℕ) →
     ms ≡ s.notices ++ n ∷ [] → IsAgenda rows s b → has s.notices n ≡ false → 0 < n → n ≤ length rows →
-    c ≡ with_seat b → IsSound c → x ≡ b.seats → r ≡ get_or rows (n - 1) r → y ≡ x →
-    IsAgenda (set rows (n - 1) (record {
-      seat = Some x;
-      pending = r.pending;
-      node = Some y;
-    })) (with_pending (with_notices s ms) (notices_from 1 (set rows (n - 1) (record {
-      seat = Some x;
-      pending = r.pending;
-      node = Some y;
-    })))) c
-seat-closed_at rows s b c n x y r ms w k h a l e sound f i v = rw w (seat-closed rows s b c n x y r k h a l e sound f i v)
+    c ≡ with_seat b → IsSound c → x ≡ b.seats → r ≡ get_or rows (n - 1) r →
+    IsAgenda (set rows (n - 1) (record { seat = Some x; pending = r.pending })) (with_pending (with_notices s ms)
+    (notices_from 1 (set rows (n - 1) (record { seat = Some x; pending = r.pending })))) c
+seat-closed_at rows s b c n x r ms w k h a l e sound f i = rw w (seat-closed rows s b c n x r k h a l e sound f i)
 
-pub seat-view_at : (rows : List Row) (s t : AgendaState) (b : Board) (n x y : ℕ) (r : Row) (ms : List ℕ) →
+pub seat-view_at : (rows : List Row) (s t : AgendaState) (b : Board) (n x : ℕ) (r : Row) (ms : List ℕ) →
     ms ≡ s.notices ++ n ∷ [] → s ≡ t → IsAgenda rows s b → 0 < n → n ≤ length rows → has s.notices n ≡ false →
     r ≡ get_or rows (n - 1) r → with_pending (with_notices s ms) (notices_from 1 (set rows (n - 1) (record {
       seat = Some x;
       pending = r.pending;
-      node = Some y;
     }))) ≡ with_notices t (with_seat_for t.notices n)
-seat-view_at rows s t b n x y r ms w e k a l h i = rw w (seat-view rows s t b n (record {
+seat-view_at rows s t b n x r ms w e k a l h i = rw w (seat-view rows s t b n (record {
   seat = Some x;
   pending = r.pending;
-  node = Some y;
 }) r e k a l h i refl)
 
 -- the last seat is taken off
@@ -366,17 +350,13 @@ last-row rows s b n k l =
     let absent = last-absent l.others n (rw l.last at (k.once n)) in
     k.seated n (rw l.last (has-append l.others (n ∷ []) n ∙ rw absent (grind (arith, nat_tests))))
 
-no-room : (t : Bool) (o : Option ℕ) → o ≡ None → o ≡ cond t None o
-no-room true o h = h
-no-room false o h = refl
-
 pub unseat-closed : (rows : List Row) (s : AgendaState) (b c : Board) (n : ℕ) (r : Row) (ms : List ℕ) →
     ms ≡ take (length s.notices - 1) s.notices → IsAgenda rows s b → IsLastSeat s n → NoneNoted n s.agenda.pending →
     c ≡ without_last_seat b → IsSound c → r ≡ get_or rows (n - 1) r →
-    IsAgenda (set rows (n - 1) (record { seat = None; pending = r.pending; node = None })) (with_pending (with_notices s ms)
-    (notices_from 1 (set rows (n - 1) (record { seat = None; pending = r.pending; node = None })))) c
+    IsAgenda (set rows (n - 1) (record { seat = None; pending = r.pending })) (with_pending (with_notices s ms)
+    (notices_from 1 (set rows (n - 1) (record { seat = None; pending = r.pending })))) c
 unseat-closed rows s b c n r ms w k l h e sound i =
-    let row : Row = record { seat = None; pending = r.pending; node = None } in
+    let row : Row = record { seat = None; pending = r.pending } in
     let is : ms ≡ l.others = w ∙ taken-list s n l in
     let own = last-row rows s b n k l in
     let within : n - 1 < length rows = omega arith in
@@ -402,7 +382,6 @@ unseat-closed rows s b c n r ms w k l h e sound i =
       read = read;
       board = e ∙ (ap without_last_seat k.board ∙ board);
       sound = sound;
-      nodes = nodes-set rows (n - 1) row (no-room (is_some r.pending) None refl) k.nodes;
       seats = λ j m. set-seat rows (n - 1) j row (seat_at l.others (j + 1)) within (λ t. let same : j + 1 ≡ n = grind
           (arith, nat_tests, t, own.0) in rw same (sym (seat_at-none l.others n absent))) (λ t. let apart : eqb n (j
           + 1) ≡ false = grind (arith, nat_tests, t, own.0) in k.seats j (omega (
@@ -435,12 +414,11 @@ pub unseat-view : (rows : List Row) (s t : AgendaState) (b : Board) (n : ℕ) (r
     r ≡ get_or rows (n - 1) r → with_pending (with_notices s ms) (notices_from 1 (set rows (n - 1) (record {
       seat = None;
       pending = r.pending;
-      node = None;
     }))) ≡ with_notices t (take (length t.notices - 1) t.notices)
 unseat-view rows s t b n r ms w e k l i =
     let own = last-row rows s b n k l in
     let within : n - 1 < length rows = omega arith in
-    let row : Row = record { seat = None; pending = r.pending; node = None } in
+    let row : Row = record { seat = None; pending = r.pending } in
     let read : notices_from 1 (set rows (n - 1) row) ≡ s.agenda.pending = from-same 1 rows (n - 1) row (ap (λ (q :
     Row). q.pending) (sym (row-is rows (n - 1) r within i))) ∙ sym k.read in
     rw (w, read, ← e) refl

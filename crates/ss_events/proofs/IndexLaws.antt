@@ -2,8 +2,9 @@
 use Rattle.std.proofs.Common.{◌≡◌, ℕ, ◌<◌, ◌≤◌, ◌++◌, ◌||◌, Bool, true, false, cond, eqb, List, [], ◌∷◌, length}
 use Rattle.std.proofs.Common.{get_or}
 use Rattle.std.proofs.Common.{Option, Some, refl, sym, ap, ◌∙◌, arith, subst, ◌-◌}
-use Rattle.std.proofs.Math.ListN.{set}
-use Rattle.std.proofs.lemmas.List.{get_or_default}
+use Rattle.std.proofs.Common.{None, IfSome}
+use Rattle.std.proofs.Math.ListN.{set, length-set}
+use Rattle.std.proofs.lemmas.List.{get_or_default, get_or-set_same, get_or-set_other}
 use Rattle.std.proofs.lemmas.Bool.Decides.{nat_tests}
 use Rattle.std.specs.List.{list_all}
 use Rattle.ss_links.specs.declared.board.Place.{Place}
@@ -21,19 +22,20 @@ use Rattle.ss_events.specs.Rules.{Rule, is_event_class, event_classes, event_num
 use Rattle.ss_events.specs.State.{AgendaState, Each, IsPending, seat_in, seats_of, order, board_of}
 use Rattle.ss_events.specs.Places.{notices_passed, rank_place, notice_on}
 use Rattle.ss_events.specs.Views.{notice_of}
-use Rattle.ss_events.specs.Rows.{notices_from, row_at, IsAgenda}
+use Rattle.ss_events.specs.Rows.{notices_from, IsAgenda}
 use Rattle.ss_events.specs.Changes.{CanPend}
-use Rattle.ss_events.specs.Indexes.{IsOfClass, IsComparable, comes_before, is_before_some}
+use Rattle.ss_events.specs.Indexes.{IsOfClass, IsComparable, comes_before, is_before_some, IsIndex, IsFiled, IsWithout}
+use Rattle.ss_events.specs.Indexes.{AreIndexes}
 use Rattle.ss_events.proofs.OrderLaws.{IsOrder, AreBehind, IsSorted, Each-map, Each-of_class, IsSorted-of_class}
 use Rattle.ss_events.proofs.OrderLaws.{behind-trans}
-use Rattle.ss_events.proofs.RowLaws.{pending_at-each, from-same}
+use Rattle.ss_events.proofs.RowLaws.{pending_at-each}
 use Rattle.ss_events.proofs.BeforeLaws.{IsKeyed, IsOrder-is_before}
 use Rattle.ss_events.proofs.StateLaws.{seat_in-below, seat_in-notice}
 use Rattle.ss_events.proofs.EventLaws.{list_at-by, event-at}
 use Rattle.ss_events.proofs.BoardOf.{class_seats, Each-order, AreKeyed-order, IsSorted-order, pending_in-class}
 use Rattle.ss_events.proofs.Stands.{told, sound_board, Each-pending_at, seats_of-append, once-between, each-between}
 use Rattle.ss_events.proofs.Stands.{length-lists}
-use Rattle.ss_events.proofs.PutAndTakeOut.{pending-seat, has-row, row-is, taken-head}
+use Rattle.ss_events.proofs.PutAndTakeOut.{pending-seat, taken-head}
 use Rattle.ss_events.proofs.Predecessors.{between}
 
 Each-both : (P Q : Pending → Type 0) (es : List Pending) → Each P es → Each Q es → Each (λ e. P e × Q e) es
@@ -135,14 +137,11 @@ agrees-class : (rows : List Row) (s : AgendaState) (b : Board) (e : Pending) (c 
 agrees-class rows s b e c k own = Each-map (Known s e) (λ f. behind_in s e (seat_in s.notices f.notice) ≡ is_before
     s.rules e f) (λ f h. h.1) (of_class c (order s)) (known-class rows s b e c k own)
 
--- the list of a class's head, as an index has it
-pub index-list : (rows : List Row) (s : AgendaState) (b : Board) (c : ℕ) (ls : List (List ℕ)) (l : List ℕ) →
-    IsAgenda rows s b → is_event_class s.rules c ≡ true → ls ≡ b.lists → event_number s.rules c < length ls →
-    l ≡ get_or ls (event_number s.rules c) l → l ≡ class_seats s c
-index-list rows s b c ls l k own e within h =
-    let at : list_at ls (event_number s.rules c) ≡ l = get_or_default ls (event_number s.rules c) [] l within ∙ sym h in
-    sym at ∙ (ap (λ (ms : List (List ℕ)). list_at ms (event_number s.rules c)) (e ∙ ap (λ (d : Board). d.lists) k.board)
-    ∙ list_at-by (class_seats s) s.rules c own)
+-- the list of a class's head
+pub head-list : (rows : List Row) (s : AgendaState) (b : Board) (c : ℕ) → IsAgenda rows s b →
+    is_event_class s.rules c ≡ true → list_at b.lists (event_number s.rules c) ≡ class_seats s c
+head-list rows s b c k own = ap (λ (d : Board). list_at d.lists (event_number s.rules c)) k.board ∙
+    list_at-by (class_seats s) s.rules c own
 
 -- the requirements of `put`, and the place at which it puts
 pub record IsRanked (rules : List Rule) (es : List Pending) (ns : List ℕ) (e : Pending) (l : List ℕ) (o : Option ℕ) :
@@ -172,31 +171,29 @@ ranked-class rows s b e l k own h =
       before = ap last_of (seats_passed-seats s.notices (behind_in s e) (is_before s.rules) e es agrees);
     })
 
--- the head of a class within the indexes
-pub head-within : (rows : List Row) (s t : AgendaState) (b : Board) (ls : List (List ℕ)) (h : ℕ) → s ≡ t →
-    IsAgenda rows s b → ls ≡ b.lists → h < length (event_classes t.rules) → h < length ls
-head-within rows s t b ls h v k e w = rw (e, length-lists rows s b k, v) w
+-- the head of a class within the lists
+pub head-within : (rows : List Row) (s t : AgendaState) (b : Board) (h : ℕ) → s ≡ t → IsAgenda rows s b →
+    h < length (event_classes t.rules) → h < length b.lists
+head-within rows s t b h v k w = rw (length-lists rows s b k, v) w
+
+-- the head of a notice's class
+pub class-head : (t : AgendaState) (n h : ℕ) (x : PendingNotice) → CanPend t (notice_of n x) →
+    h ≡ event_number t.rules x.class → h < length (event_classes t.rules)
+class-head t n h x p d = rw d (event-at t.rules x.class p.kept.well.class).0
 
 -- so of a notice that is put in
-pub put_in-ranked : (rows rows1 : List Row) (s t : AgendaState) (b : Board) (n h : ℕ) (x : PendingNotice) (q1 r1 : Row)
-    (rules : List Rule) (ns : List ℕ) (ls : List (List ℕ)) (l : List ℕ) → s ≡ t → IsAgenda rows s b →
-    CanPend t (notice_of n x) → q1 ≡ get_or rows (n - 1) q1 → rows1 ≡ set rows (n - 1) r1 → r1.pending ≡ q1.pending →
-    h ≡ event_number t.rules x.class → h < length (event_classes t.rules) → ls ≡ b.lists → l ≡ get_or ls h l →
-    rules ≡ s.rules → ns ≡ s.notices → IsRanked rules (notices_from 1 rows1) ns (notice_of 0 x) l (rank_place s
-    (notice_of 0 x)).before
-put_in-ranked rows rows1 s t b n h x q1 r1 rules ns ls l v k p i w j d within e g u z =
+pub put_in-ranked : (rows rows1 : List Row) (s t : AgendaState) (b : Board) (n h : ℕ) (x : PendingNotice)
+    (rules : List Rule) (ns : List ℕ) → s ≡ t → IsAgenda rows s b → CanPend t (notice_of n x) → rows1 ≡ rows →
+    h ≡ event_number t.rules x.class → rules ≡ s.rules → ns ≡ s.notices → IsRanked rules (notices_from 1 rows1) ns
+    (notice_of 0 x) (list_at b.lists h) (rank_place s (notice_of 0 x)).before
+put_in-ranked rows rows1 s t b n h x rules ns v k p w d u z =
     let can = subst (λ (r : AgendaState). CanPend r (notice_of n x)) (sym v) p in
-    let row = has-row rows s b n k can.kept.seat in
-    let same : r1.pending ≡ (row_at rows (n - 1)).pending = j ∙ ap (λ (r : Row). r.pending) (sym (row-is rows (n - 1) q1
-    row i)) in
-    let read : notices_from 1 rows1 ≡ s.agenda.pending = ap (notices_from 1) w ∙ (from-same 1 rows (n - 1) r1 same ∙ sym
-    k.read) in
+    let read : notices_from 1 rows1 ≡ s.agenda.pending = ap (notices_from 1) w ∙ sym k.read in
     let number : h ≡ event_number s.rules x.class = d ∙ ap (λ (r : AgendaState). event_number r.rules x.class) (sym v) in
-    let there : h < length ls = head-within rows s t b ls h v k e within in
     let own : IsOfClass s.rules (notice_of 0 x) = (can.kept.well.class, can.kept.well.keys) in
-    let list : l ≡ class_seats s x.class = index-list rows s b x.class ls l k can.kept.well.class e (rw number at there)
-    (rw number at g) in
-    rw (u, read, z) (ranked-class rows s b (notice_of 0 x) l k own list)
+    let list : list_at b.lists h ≡ class_seats s x.class = ap (list_at b.lists) number ∙ head-list rows s b x.class k
+    can.kept.well.class in
+    rw (u, read, z) (ranked-class rows s b (notice_of 0 x) (list_at b.lists h) k own list)
 
 abbrev place_at : ℕ → Option ℕ → Place
 place_at head before = record { head = head; before = before }
@@ -205,18 +202,53 @@ pub place-is : (s t : AgendaState) (e : Pending) (h : ℕ) (o : Option ℕ) → 
     o ≡ (rank_place s e).before → place_at h o ≡ rank_place s e
 place-is s t e h o v d q = rw (d, q, v) refl
 
+-- an index of a head, among those of the others
+index-set : (ixs : List (Option (List ℕ))) (ls ms : List (List ℕ)) (h : ℕ) (new : Option (List ℕ)) → AreIndexes ixs ls →
+    h < length ls → length ms ≡ length ls → IsIndex new (list_at ms h) →
+    ((i : ℕ) → ¬ (i ≡ h) → list_at ms i ≡ list_at ls i) → AreIndexes (set ixs h new) ms
+index-set ixs ls ms h new k within long own others = record {
+  count = length-set ixs h new ∙ (k.count ∙ sym long);
+  kept = λ i. elim (eqb i h) as (λ t. eqb i h ≡ t → IsIndex (get_or (set ixs h new) i None) (list_at ms i)) [
+    | true ↦ λ t.
+        let same : i ≡ h = grind (arith, nat_tests, t) in
+        let there : h < length ixs = omega (arith, within, k.count) in
+        rw (same, get_or-set_same ixs h new None there) own
+    | false ↦ λ t.
+        let apart : ¬ (i ≡ h) = λ e. absurd (grind (arith, nat_tests, t, e)) in
+        rw (get_or-set_other ixs h i new None apart, others i apart) (k.kept i)
+  ] refl;
+}
+
+-- the index of a head given up, or made
+pub index-changed : (ixs : List (Option (List ℕ))) (ls : List (List ℕ)) (h : ℕ) (new : Option (List ℕ)) →
+    AreIndexes ixs ls → h < length ls → IsIndex new (list_at ls h) → AreIndexes (set ixs h new) ls
+index-changed ixs ls h new k within own = index-set ixs ls ls h new k within refl own (λ i a. refl)
+
+-- the same lists
+pub index-same : (ixs : List (Option (List ℕ))) (ls ms : List (List ℕ)) → AreIndexes ixs ls → ms ≡ ls → AreIndexes ixs ms
+index-same ixs ls ms k e = rw e k
+
 -- an index in which a seat is put is the list of the board on which it is linked
-pub index-put : (ls : List (List ℕ)) (b c : Board) (p : ℕ → Bool) (h x y : ℕ) (l m : List ℕ) (o : Option ℕ) →
-    ls ≡ b.lists → IsSound b → h < length ls → l ≡ get_or ls h l → o ≡ last_of (seats_passed p l) →
-    c ≡ after_relink b x (place_at h o) → m ≡ seats_filed p y l → y ≡ x → set ls h m ≡ c.lists
-index-put ls b c p h x y l m o e sound within i q r f u =
-    let at : list_at b.lists h ≡ l = rw e at (get_or_default ls h [] l within ∙ sym i) in
-    let once : (z : ℕ) → times_in l z ≤ 1 = λ z. rw at at (once-list_at b sound h z) in
-    let filed_at : m ≡ put_at l o x = f ∙ (ap (λ (z : ℕ). seats_filed p z l) u ∙ (seats_filed-put_at p x l once ∙ ap (λ (w : Option
-    ℕ). put_at l w x) (sym q))) in
-    let lists : c.lists ≡ set b.lists h (put_at (list_at b.lists h) o x) = ap (λ (d : Board). d.lists) r in
-    ap (set ls h) filed_at ∙ (ap (λ (k : List (List ℕ)). set k h (put_at l o x)) e ∙ (ap (λ (k : List ℕ). set b.lists h
-    (put_at k o x)) (sym at) ∙ sym lists))
+pub index-put : (ixs : List (Option (List ℕ))) (b c : Board) (p : ℕ → Bool) (h x : ℕ) (node : Option ℕ)
+    (new : Option (List ℕ)) (o : Option ℕ) → AreIndexes ixs b.lists → IsSound b → h < length b.lists →
+    o ≡ last_of (seats_passed p (list_at b.lists h)) → c ≡ after_relink b x (place_at h o) →
+    IsFiled p node (list_at b.lists h) new → IfSome node (λ y. y ≡ x) → AreIndexes (set ixs h new) c.lists
+index-put ixs b c p h x node new o k sound within q r f u =
+    let l = list_at b.lists h in
+    let lists : c.lists ≡ set b.lists h (put_at l o x) = ap (λ (d : Board). d.lists) r in
+    let long : length c.lists ≡ length b.lists = ap length lists ∙ length-set b.lists h (put_at l o x) in
+    let own : list_at c.lists h ≡ put_at l o x = ap (λ (ls : List (List ℕ)). list_at ls h) lists ∙ get_or-set_same b.lists
+    h (put_at l o x) [] within in
+    index-set ixs b.lists c.lists h new k within long (λ m e.
+    let y = (f m e).0 in
+    let same : y ≡ x = node-is node y (f m e).1 u in
+    (f m e).2 ∙ (ap (λ (z : ℕ). seats_filed p z l) same ∙ (seats_filed-put_at p x l (λ z. once-list_at b sound h z) ∙
+    (ap (λ (w : Option ℕ). put_at l w x) (sym q) ∙ sym own)))) (λ i a. ap (λ (ls : List (List ℕ)). list_at ls i) lists ∙
+    get_or-set_other b.lists h i (put_at l o x) [] a)
+  where
+    node-is : (node : Option ℕ) (y : ℕ) → node ≡ Some y → IfSome node (λ z. z ≡ x) → y ≡ x
+    node-is None y e v = absurd (cc)
+    node-is (Some z) y e v = let same : z ≡ y = cc in sym same ∙ v
 
 -- parts of sorted notices around one of them
 each-front : (P : Pending → Type 0) (a : List Pending) (e : Pending) (b : List Pending) → Each P (a ++ e ∷ b) → Each P a
@@ -308,53 +340,73 @@ removable rows s b n y x l k h i j =
     }
 
 -- the head of a pending notice's seat
-record IsHeaded (s : AgendaState) (b : Board) (n seat h : ℕ) (x : PendingNotice) (ls : List (List ℕ)) : Type 0 where
+record IsHeaded (s : AgendaState) (b : Board) (n seat h : ℕ) (x : PendingNotice) : Type 0 where
   seat_is : seat ≡ seat_in s.notices n
   number : h ≡ event_number s.rules x.class
-  within : h < length ls
+  within : h < length b.lists
   class : is_event_class s.rules x.class ≡ true
 
 some-same : (x y : ℕ) (o : Option ℕ) → o ≡ Some x → o ≡ Some y → x ≡ y
 some-same x y o h k = cc
 
-headed : (rows : List Row) (s : AgendaState) (b : Board) (n seat h : ℕ) (q : Row) (x : PendingNotice) (ls : List (List
-    ℕ)) → IsAgenda rows s b → pending_at s.agenda.pending n ≡ Some (notice_of n x) → q ≡ get_or rows (n - 1) q →
-    q.seat ≡ Some seat → head_of b.lists seat ≡ Some h → ls ≡ b.lists → IsHeaded s b n seat h x ls
-headed rows s b n seat h q x ls k there i j d e =
+headed : (rows : List Row) (s : AgendaState) (b : Board) (n seat h : ℕ) (q : Row) (x : PendingNotice) → IsAgenda rows s b
+    → pending_at s.agenda.pending n ≡ Some (notice_of n x) → q ≡ get_or rows (n - 1) q →
+    q.seat ≡ Some seat → head_of b.lists seat ≡ Some h → IsHeaded s b n seat h x
+headed rows s b n seat h q x k there i j d =
     let t = taken-head rows s b n seat q x k there i j in
     let class = (pending-seat rows s b n (notice_of n x) k there).1 in
     let number = some-same h (event_number s.rules x.class) (head_of b.lists seat) d t.1 in
     record {
       seat_is = t.0;
       number = number;
-      within = rw (e, length-lists rows s b k, number) (event-at s.rules x.class class).0;
+      within = rw (length-lists rows s b k, number) (event-at s.rules x.class class).0;
       class = class;
     }
 
-pub headed-within : (rows : List Row) (s : AgendaState) (b : Board) (n seat h : ℕ) (q : Row) (x : PendingNotice)
-    (ls : List (List ℕ)) → IsAgenda rows s b → pending_at s.agenda.pending n ≡ Some (notice_of n x) →
-    q ≡ get_or rows (n - 1) q → q.seat ≡ Some seat → head_of b.lists seat ≡ Some h → ls ≡ b.lists → h < length ls
-headed-within rows s b n seat h q x ls k there i j d e = (headed rows s b n seat h q x ls k there i j d e).within
+pub headed-within : (rows : List Row) (s : AgendaState) (b : Board) (n seat h : ℕ) (q : Row) (x : PendingNotice) →
+    IsAgenda rows s b → pending_at s.agenda.pending n ≡ Some (notice_of n x) →
+    q ≡ get_or rows (n - 1) q → q.seat ≡ Some seat → head_of b.lists seat ≡ Some h → h < length b.lists
+headed-within rows s b n seat h q x k there i j d = (headed rows s b n seat h q x k there i j d).within
 
 -- so of a notice that is taken out
 pub take_out-ranked : (rows : List Row) (s : AgendaState) (b : Board) (n seat h : ℕ) (q : Row) (x : PendingNotice)
-    (rules : List Rule) (es : List Pending) (ns : List ℕ) (ls : List (List ℕ)) (l : List ℕ) → IsAgenda rows s b →
+    (rules : List Rule) (es : List Pending) (ns : List ℕ) → IsAgenda rows s b →
     pending_at s.agenda.pending n ≡ Some (notice_of n x) → q ≡ get_or rows (n - 1) q → q.seat ≡ Some seat →
-    head_of b.lists seat ≡ Some h → ls ≡ b.lists → l ≡ get_or ls h l → rules ≡ s.rules → es ≡ s.agenda.pending →
-    ns ≡ s.notices → IsRemovable rules es ns (notice_of 0 x) seat l
-take_out-ranked rows s b n seat h q x rules es ns ls l k there i j d e g u v z =
-    let t = headed rows s b n seat h q x ls k there i j d e in
-    let list : l ≡ class_seats s x.class = index-list rows s b x.class ls l k t.class e (rw t.number at t.within) (rw
-    t.number at g) in
-    rw (u, v, z) (removable rows s b n x seat l k there t.seat_is list)
+    head_of b.lists seat ≡ Some h → rules ≡ s.rules → es ≡ s.agenda.pending →
+    ns ≡ s.notices → IsRemovable rules es ns (notice_of 0 x) seat (list_at b.lists h)
+take_out-ranked rows s b n seat h q x rules es ns k there i j d u v z =
+    let t = headed rows s b n seat h q x k there i j d in
+    let list : list_at b.lists h ≡ class_seats s x.class = ap (list_at b.lists) t.number ∙ head-list rows s b x.class k
+    t.class in
+    rw (u, v, z) (removable rows s b n x seat (list_at b.lists h) k there t.seat_is list)
 
 -- an index from which a seat is taken is the list of the board from which it is unlinked
-pub index-taken : (ls : List (List ℕ)) (b c : Board) (h x : ℕ) (l m : List ℕ) → ls ≡ b.lists → IsSound b →
-    h < length ls → l ≡ get_or ls h l → head_of b.lists x ≡ Some h → c ≡ after_unlink b x → m ≡ list_without l x →
-    set ls h m ≡ c.lists
-index-taken ls b c h x l m e sound within i q r f =
-    let at : list_at b.lists h ≡ l = rw e at (get_or_default ls h [] l within ∙ sym i) in
-    let lists : c.lists ≡ set b.lists h (list_without (list_at b.lists h) x) = ap (λ (d : Board). d.lists) r ∙
-    lists-unlinked b x h sound q in
-    ap (set ls h) f ∙ (ap (λ (k : List (List ℕ)). set k h (list_without l x)) e ∙ (ap (λ (k : List ℕ). set b.lists h
-    (list_without k x)) (sym at) ∙ sym lists))
+pub index-taken : (ixs : List (Option (List ℕ))) (b c : Board) (h x : ℕ) (old new : Option (List ℕ)) →
+    AreIndexes ixs b.lists → IsSound b → h < length b.lists → old ≡ get_or ixs h old → head_of b.lists x ≡ Some h →
+    c ≡ after_unlink b x → IsWithout x old new → AreIndexes (set ixs h new) c.lists
+index-taken ixs b c h x old new k sound within i q r f =
+    let l = list_at b.lists h in
+    let there : h < length ixs = omega (arith, within, k.count) in
+    let is : get_or ixs h None ≡ old = get_or_default ixs h None old there ∙ sym i in
+    let lists : c.lists ≡ set b.lists h (list_without l x) = ap (λ (d : Board). d.lists) r ∙ lists-unlinked b x h sound q in
+    let long : length c.lists ≡ length b.lists = ap length lists ∙ length-set b.lists h (list_without l x) in
+    let own : list_at c.lists h ≡ list_without l x = ap (λ (ls : List (List ℕ)). list_at ls h) lists ∙ get_or-set_same
+    b.lists h (list_without l x) [] within in
+    index-set ixs b.lists c.lists h new k within long (left old f (λ m e. k.kept h m (is ∙ e)) own)
+    (λ j a. ap (λ (ls : List (List ℕ)). list_at ls j) lists ∙ get_or-set_other b.lists h j (list_without l x) [] a)
+  where
+    left : (old : Option (List ℕ)) → IsWithout x old new → IsIndex old (list_at b.lists h) →
+        list_at c.lists h ≡ list_without (list_at b.lists h) x → IsIndex new (list_at c.lists h)
+    left None f g own m e = absurd (cc)
+    left (Some l) f g own m e =
+        let some : Some (list_without l x) ≡ Some m = sym f ∙ e in
+        let same : list_without l x ≡ m = cc in
+        sym same ∙ (ap (λ (z : List ℕ). list_without z x) (g l refl) ∙ sym own)
+
+-- the index of the head of a seat that is taken out
+pub index-kept : (ixs : List (Option (List ℕ))) (ls : List (List ℕ)) (h : ℕ) (old : Option (List ℕ)) →
+    AreIndexes ixs ls → h < length ls → old ≡ get_or ixs h old → IsIndex old (list_at ls h)
+index-kept ixs ls h old k within i =
+    let there : h < length ixs = omega (arith, within, k.count) in
+    let is : get_or ixs h None ≡ old = get_or_default ixs h None old there ∙ sym i in
+    λ m e. k.kept h m (is ∙ e)

@@ -10,6 +10,7 @@ pub mod Stands
 pub mod PutAndTakeOut
 pub mod Predecessors
 pub mod IndexLaws
+pub mod Walks
 pub mod GiveSeat
 pub mod Schedule
 pub mod Listings

@@ -2,7 +2,7 @@
 use Rattle.std.proofs.Common.{◌≡◌, ℕ, ◌+◌, ◌-◌, ◌<◌, true, false, cond, eqb, List, [], ◌∷◌, length, get_or, Option}
 use Rattle.std.proofs.Common.{Some, None, refl, sym, ap, ◌∙◌, arith, suc, zero}
 use Rattle.std.proofs.Math.ListN.{set, length-set}
-use Rattle.std.proofs.lemmas.List.{get_or-set_same, get_or-set_other, set-set}
+use Rattle.std.proofs.lemmas.List.{get_or-set_same, get_or-set_other}
 use Rattle.std.proofs.lemmas.Bool.Decides.{nat_tests}
 use Rattle.std.specs.Option.{IsSome, option_map}
 use Rattle.ss_links.specs.Board.{Board, head_of, IsSound, CanRelink, after_relink, after_unlink}
@@ -16,7 +16,7 @@ use Rattle.ss_events.specs.Agenda.{pending_at, with_notice}
 use Rattle.ss_events.specs.State.{AgendaState, seat_in, seats_of, order, NoneNoted, IsPending}
 use Rattle.ss_events.specs.Places.{notices_passed, rank_place}
 use Rattle.ss_events.specs.Views.{notice_of}
-use Rattle.ss_events.specs.Rows.{notices_from, row_at, empty_row, HasNode, IsAgenda}
+use Rattle.ss_events.specs.Rows.{notices_from, row_at, empty_row, IsAgenda}
 use Rattle.ss_events.specs.Changes.{with_pending, CanPend}
 use Rattle.ss_events.proofs.OrderLaws.{Each-with, Each-without}
 use Rattle.ss_events.proofs.RowLaws.{pending_row, pending_at-none, pending_at-each, from-with, from-without}
@@ -79,15 +79,6 @@ row-seat_set rows j i r l h = elim (eqb i j)
           ap (λ (q : Row). q.seat) (get_or-set_other rows j i r empty_row apart)
     ] refl
 
--- a row with its room among others
-pub nodes-set : (rows : List Row) (j : ℕ) (r : Row) → HasNode r → ((i : ℕ) → HasNode (row_at rows i)) → (i : ℕ) →
-    HasNode (row_at (set rows j r) i)
-nodes-set [] j r h k i = k i
-nodes-set (q ∷ qs) zero r h k zero = h
-nodes-set (q ∷ qs) zero r h k (suc i) = k (suc i)
-nodes-set (q ∷ qs) (suc j) r h k zero = k 0
-nodes-set (q ∷ qs) (suc j) r h k (suc i) = nodes-set qs j r h (λ m. k (suc m)) i
-
 -- a notice is put in
 pub put_in-read : (rows : List Row) (s : AgendaState) (b : Board) (n : ℕ) (x : PendingNotice) (r : Row) →
     IsAgenda rows s b → CanPend s (notice_of n x) → r.pending ≡ Some x →
@@ -99,10 +90,10 @@ put_in-read rows s b n x r k p h =
     k above p.notice) h)))
 
 pub put_in-kept : (rows : List Row) (s : AgendaState) (b c : Board) (n : ℕ) (x : PendingNotice) (r : Row) →
-    IsAgenda rows s b → CanPend s (notice_of n x) → r.pending ≡ Some x → r.seat ≡ (row_at rows (n - 1)).seat → HasNode r →
+    IsAgenda rows s b → CanPend s (notice_of n x) → r.pending ≡ Some x → r.seat ≡ (row_at rows (n - 1)).seat →
     c ≡ after_relink b (seat_in s.notices n) (rank_place s (notice_of n x)) → IsSound c →
     IsAgenda (set rows (n - 1) r) (with_pending s (with_notice (notice_of n x) s.agenda.pending)) c
-put_in-kept rows s b c n x r k p h seat node e sound = record {
+put_in-kept rows s b c n x r k p h seat e sound = record {
   sound = sound;
   read = put_in-read rows s b n x r k p h;
   board = e ∙ rw k.board (relinked-with s (notice_of n x) (told rows s b k) (new-notice s (notice_of n x) p));
@@ -110,7 +101,6 @@ put_in-kept rows s b c n x r k p h seat node e sound = record {
     arith,
     length-set rows (n - 1) r,
   ));
-  nodes = nodes-set rows (n - 1) r node k.nodes;
   seated = λ m l. let d = k.seated m l in (d.0, omega (arith, d.1, length-set rows (n - 1) r));
   once = k.once;
   few = omega (arith, k.few, length-set rows (n - 1) r);
@@ -132,10 +122,10 @@ take_out-read rows s b n r k a h =
     rw k.read (sym (rw same at (from-without 1 rows (n - 1) r (has-row rows s b n k a) h)))
 
 pub take_out-kept : (rows : List Row) (s : AgendaState) (b c : Board) (n : ℕ) (r : Row) → IsAgenda rows s b →
-    has s.notices n ≡ true → r.pending ≡ None → r.seat ≡ (row_at rows (n - 1)).seat → HasNode r →
+    has s.notices n ≡ true → r.pending ≡ None → r.seat ≡ (row_at rows (n - 1)).seat →
     c ≡ after_unlink b (seat_in s.notices n) → IsSound c →
     IsAgenda (set rows (n - 1) r) (with_pending s (without_notice n s.agenda.pending)) c
-take_out-kept rows s b c n r k a h seat node e sound = record {
+take_out-kept rows s b c n r k a h seat e sound = record {
   sound = sound;
   read = take_out-read rows s b n r k a h;
   board = e ∙ rw k.board (unlinked-without s n (told rows s b k) a);
@@ -143,7 +133,6 @@ take_out-kept rows s b c n r k a h seat node e sound = record {
     arith,
     length-set rows (n - 1) r,
   ));
-  nodes = nodes-set rows (n - 1) r node k.nodes;
   seated = λ m l. let d = k.seated m l in (d.0, omega (arith, d.1, length-set rows (n - 1) r));
   once = k.once;
   few = omega (arith, k.few, length-set rows (n - 1) r);
@@ -206,50 +195,21 @@ put_in-relink rows s b n x q seat place k p e f g = rw (
   rank_place-number s 0 n x,
 ) (CanRelink-rank s (notice_of n x) (told rows s b k) (new-notice s (notice_of n x) p))
 
-pub put_in-closed : (rows : List Row) (s : AgendaState) (b c : Board) (n : ℕ) (x : PendingNotice) (q q1 r1 r2 : Row)
+pub put_in-closed : (rows : List Row) (s : AgendaState) (b c : Board) (n : ℕ) (x : PendingNotice) (q r : Row)
     (seat : ℕ) (place : Place) → IsAgenda rows s b → CanPend s (notice_of n x) → q ≡ get_or rows (n - 1) q →
     q.seat ≡ Some seat → place ≡ rank_place s (notice_of 0 x) → c ≡ after_relink b seat place → IsSound c →
-    q1 ≡ get_or rows (n - 1) q1 → r1.seat ≡ q1.seat → r1.node ≡ None → r2 ≡ get_or (set rows (n - 1) r1) (n - 1) r2 →
-    IsAgenda (set (set rows (n - 1) r1) (n - 1) (record { seat = r2.seat; pending = Some x; node = r2.node })) (with_pending s (notices_from 1 (set (set rows (n - 1) r1) (n - 1)
-    (record { seat = r2.seat; pending = Some x; node = r2.node })))) c
-put_in-closed rows s b c n x q q1 r1 r2 seat place k p e f g h sound e1 i j m =
+    r ≡ get_or rows (n - 1) r →
+    IsAgenda (set rows (n - 1) (record { seat = r.seat; pending = Some x })) (with_pending s (notices_from 1 (set rows
+    (n - 1) (record { seat = r.seat; pending = Some x })))) c
+put_in-closed rows s b c n x q r seat place k p e f g h sound i =
     let within = has-row rows s b n k p.kept.seat in
-    let same : r1 ≡ r2 = sym (row-is_set rows (n - 1) r1 within) ∙ row-is (set rows (n - 1) r1) (n - 1) r2 (omega (
-      arith,
-      within,
-      length-set rows (n - 1) r1,
-    )) m in
-    let row : Row = record { seat = r2.seat; pending = Some x; node = r2.node } in
-    let whole : set (set rows (n - 1) r1) (n - 1) row ≡ set rows (n - 1) row = set-set rows (n - 1) r1 row in
-    let own : r2.seat ≡ (row_at rows (n - 1)).seat = ap (λ (t : Row). t.seat) (sym same) ∙ (i ∙ ap (λ (t : Row). t.seat)
-    (sym (row-is rows (n - 1) q1 within e1))) in
+    let row : Row = record { seat = r.seat; pending = Some x } in
+    let own : r.seat ≡ (row_at rows (n - 1)).seat = ap (λ (t : Row). t.seat) (sym (row-is rows (n - 1) r within i)) in
     let board : c ≡ after_relink b (seat_in s.notices n) (rank_place s (notice_of n x)) = h ∙
     (ap (λ (t : ℕ). after_relink b t place) (seat-read rows s b n seat q k p.kept.seat e f) ∙
     ap (λ (t : Place). after_relink b (seat_in s.notices n) t) (g ∙ rank_place-number s 0 n x)) in
-    let new = put_in-kept rows s b c n x row k p refl own (ap (λ (t : Row). t.node) (sym same) ∙ j) board sound in
-    rw whole (rw (put_in-read rows s b n x row k p refl) at new)
-
-pub put_in-read_set : (rows : List Row) (s : AgendaState) (b : Board) (n : ℕ) (x : PendingNotice) (r1 r : Row) →
-    IsAgenda rows s b → CanPend s (notice_of n x) → r.pending ≡ Some x →
-    with_notice (notice_of n x) s.agenda.pending ≡ notices_from 1 (set (set rows (n - 1) r1) (n - 1) r)
-put_in-read_set rows s b n x r1 r k p h = rw (set-set rows (n - 1) r1 r) (put_in-read rows s b n x r k p h)
-
--- the room of a seat whose notice is not pending
-pub node-there : (rows : List Row) (s : AgendaState) (b : Board) (n : ℕ) (x : PendingNotice) (q : Row) →
-    IsAgenda rows s b → CanPend s (notice_of n x) → q ≡ get_or rows (n - 1) q → q.node ≡ Some (seat_in s.notices n)
-node-there rows s b n x q k p e =
-    let is = row-is rows (n - 1) q (has-row rows s b n k p.kept.seat) e in
-    let none = row-none rows s b n k (k.seated n p.kept.seat).0 p.notice in
-    let seat = seat-is rows s b n k p.kept.seat in
-    let node : (row_at rows (n - 1)).node ≡ Some (seat_in s.notices n) = k.nodes (n - 1) ∙ rw (none, seat) refl in
-    ap (λ (r : Row). r.node) (sym is) ∙ node
-
-pub node-is : (rows : List Row) (s : AgendaState) (b : Board) (n : ℕ) (x : PendingNotice) (q r : Row) (node seat : ℕ) →
-    IsAgenda rows s b → CanPend s (notice_of n x) → q ≡ get_or rows (n - 1) q → q.node ≡ Some node →
-    r ≡ get_or rows (n - 1) r → r.seat ≡ Some seat → node ≡ seat
-node-is rows s b n x q r node seat k p e f g h =
-    some-same node (seat_in s.notices n) q.node f (node-there rows s b n x q k p e) ∙ sym (seat-read rows s b n seat r k
-    p.kept.seat g h)
+    let new = put_in-kept rows s b c n x row k p refl own board sound in
+    rw (put_in-read rows s b n x row k p refl) at new
 
 -- the state that is read off the rows
 pub view-with : (s t : AgendaState) (es : List Pending) (f : List Pending → List Pending) → s ≡ t →
@@ -293,19 +253,17 @@ pub taken-entry : (rows : List Row) (s : AgendaState) (b : Board) (n : ℕ) (r :
 taken-entry rows s b n r k a h i = ap (λ (es : List Pending). pending_at es n) k.read ∙ (pending_row rows n a ∙
     ap (λ (q : Row). option_map (notice_of n) q.pending) (row-is rows (n - 1) r (pending-row rows s b n k h).row i))
 
-pub take_out-closed : (rows : List Row) (s : AgendaState) (b c : Board) (n : ℕ) (q r : Row) (seat node : ℕ) (o : Option
+pub take_out-closed : (rows : List Row) (s : AgendaState) (b c : Board) (n : ℕ) (q r : Row) (seat : ℕ) (o : Option
     PendingNotice) → IsAgenda rows s b → IsSome (pending_at s.agenda.pending n) → q ≡ get_or rows (n - 1) q →
-    q.seat ≡ Some seat → c ≡ after_unlink b seat → IsSound c → r ≡ get_or rows (n - 1) r → o ≡ None → node ≡ seat →
-    IsAgenda (set rows (n - 1) (record { seat = r.seat; pending = o; node = Some node })) (with_pending s (notices_from 1
-    (set rows (n - 1) (record { seat = r.seat; pending = o; node = Some node })))) c
-take_out-closed rows s b c n q r seat node o k a e f h sound i z d =
+    q.seat ≡ Some seat → c ≡ after_unlink b seat → IsSound c → r ≡ get_or rows (n - 1) r → o ≡ None →
+    IsAgenda (set rows (n - 1) (record { seat = r.seat; pending = o })) (with_pending s (notices_from 1
+    (set rows (n - 1) (record { seat = r.seat; pending = o })))) c
+take_out-closed rows s b c n q r seat o k a e f h sound i z =
     let p = pending-row rows s b n k a in
-    let row : Row = record { seat = r.seat; pending = o; node = Some node } in
+    let row : Row = record { seat = r.seat; pending = o } in
     let own : r.seat ≡ (row_at rows (n - 1)).seat = ap (λ (t : Row). t.seat) (sym (row-is rows (n - 1) r p.row i)) in
-    let is : r.seat ≡ Some seat = own ∙ (ap (λ (t : Row). t.seat) (row-is rows (n - 1) q p.row e) ∙ f) in
-    let room : HasNode row = rw (z, is, d) refl in
     let board : c ≡ after_unlink b (seat_in s.notices n) = h ∙ rw (seat-read rows s b n seat q k p.seat e f) refl in
-    let new = take_out-kept rows s b c n row k p.seat z own room board sound in
+    let new = take_out-kept rows s b c n row k p.seat z own board sound in
     rw (take_out-read rows s b n row k p.seat z) at new
 
 -- the seat is its class's head's

@@ -1,6 +1,6 @@
 -- The agenda without notices, and its board by class.
 use Rattle.std.proofs.Common.{◌≡◌, ℕ, ◌+◌, ◌<◌, ◌≤◌, ◌++◌, List, [], ◌∷◌, length, map, refl, sym, ap, ◌∙◌, arith, suc}
-use Rattle.std.proofs.Common.{zero}
+use Rattle.std.proofs.Common.{zero, Option, Some, None, get_or, length-append}
 use Rattle.std.proofs.Common.{true, slice_index}
 use Rattle.std.specs.List.{range_with_len}
 use Rattle.std.proofs.lemmas.List.FromFn.{map-range_with_len_more, length-map-range_with_len}
@@ -12,6 +12,7 @@ use Rattle.ss_events.specs.Rules.{Rule, event_classes}
 use Rattle.ss_events.specs.State.{AreRanked}
 use Rattle.ss_events.specs.State.{AgendaState, seats_of, order, no_notices}
 use Rattle.ss_events.specs.Places.{notice_on}
+use Rattle.ss_events.specs.Indexes.{IsIndex, AreIndexes}
 use Rattle.ss_events.specs.Rows.{IsAgenda, notices_from}
 use Rattle.ss_events.specs.declared.pending_notice.Row.{Row}
 use Rattle.ss_events.proofs.OrderLaws.{Each-of_class}
@@ -30,10 +31,27 @@ board_of_lists ls = record { lists = ls; seats = 0 }
 pub heads-more : (n : ℕ) → with_head (empty_heads n) ≡ empty_heads (n + 1)
 heads-more n = ap board_of_lists (sym (map-range_with_len_more (λ c. []) 0 n n (omega arith)))
 
+-- no indexes of no heads
+pub indexes-none : (ls : List (Option (List ℕ))) (b : Board) → ls ≡ [] → b ≡ empty_heads 0 → AreIndexes ls b.lists
+indexes-none ls b e h = rw (e, h) (record { count = refl; kept = λ i m f. absurd (cc) })
+
 -- the indexes of heads, with one head more
-pub indexes-more : (ls ms : List (List ℕ)) (l : List ℕ) (b c : Board) → ms ≡ ls ++ l ∷ [] → l ≡ [] → ls ≡ b.lists →
-    c ≡ with_head b → ms ≡ c.lists
-indexes-more ls ms l b c e h i k = rw (e, h, i, k) refl
+pub indexes-more : (ls ms : List (Option (List ℕ))) (b c : Board) → ms ≡ ls ++ None ∷ [] → AreIndexes ls b.lists →
+    c ≡ with_head b → AreIndexes ms c.lists
+indexes-more ls ms b c e h k = rw (e, k) (record {
+  count = omega (arith, h.count, length-append ls (None ∷ []), length-append b.lists ([] ∷ []));
+  kept = λ i m f. more ls b.lists i m h.count h.kept f;
+})
+  where
+    more : (ls : List (Option (List ℕ))) (qs : List (List ℕ)) (i : ℕ) (m : List ℕ) → length ls ≡ length qs →
+        ((j : ℕ) → IsIndex (get_or ls j None) (list_at qs j)) → get_or (ls ++ None ∷ []) i None ≡ Some m →
+        m ≡ list_at (qs ++ [] ∷ []) i
+    more [] [] zero m l g f = absurd (cc)
+    more [] [] (suc i) m l g f = absurd (cc)
+    more [] (q ∷ qs) i m l g f = absurd (omega (arith, l))
+    more (o ∷ os) [] i m l g f = absurd (omega (arith, l))
+    more (o ∷ os) (q ∷ qs) zero m l g f = g 0 m f
+    more (o ∷ os) (q ∷ qs) (suc i) m l g f = more os qs i m (omega (arith, l)) (λ j. g (suc j)) f
 
 times-empty : (a n x : ℕ) → times (map (λ c. []) (range_with_len a n)) x ≡ 0
 times-empty a zero x = refl
@@ -52,7 +70,6 @@ begins rules n b h r few e = record {
   board = e ∙ (ap empty_heads h ∙ ap board_of_lists (empty-each 0 (event_classes rules)));
   sound = rw e (record { once = λ x. omega (arith, times-empty 0 n x); below = λ x l. times-empty 0 n x });
   seats = λ i l. absurd (omega arith);
-  nodes = λ i. refl;
   seated = λ m l. absurd (cc);
   once = λ m. omega arith;
   few = omega arith;

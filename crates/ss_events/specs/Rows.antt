@@ -1,7 +1,7 @@
 -- The agenda's state, read from the rows that it keeps, one for each number of a notice. Private:
 -- only the view, the invariant and private functions cite it.
 use Rattle.std.specs.Prelude.{◌≡◌, ℕ, ℤ, pos, ◌+◌, ◌-◌, ◌<◌, ◌≤◌, true, List, [], ◌∷◌, ◌++◌, replicate, length, map}
-use Rattle.std.specs.Prelude.{slice_index, slice_index_or, is_some, if◌then◌else◌, Option, Some, None}
+use Rattle.std.specs.Prelude.{slice_index, slice_index_or, Option, Some, None}
 use Rattle.ss_links.specs.Board.{Board, IsSound}
 use Rattle.ss_links.specs.Seats.{has, times_in}
 use Rattle.ss_events.specs.declared.rule.ClassRule.{ClassRule}
@@ -27,7 +27,7 @@ notices_from n (r ∷ rs) = and_others n r.pending (notices_from (n + 1) rs)
 
 -- a row without a seat and without an entry
 abbrev pub empty_row : Row
-empty_row = record { seat = None; pending = None; node = None }
+empty_row = record { seat = None; pending = None }
 
 -- the row of a number
 abbrev pub row_at : List Row → ℕ → Row
@@ -40,10 +40,6 @@ state_of rules rows next notices = record {
   agenda = record { pending = notices_from 1 rows; next_filing = next };
   notices = notices;
 }
-
--- the room of a row's seat in an index is kept in the row while its notice is not pending
-abbrev pub HasNode : Row → Type 0
-HasNode row = row.node ≡ (if is_some row.pending then None else row.seat)
 
 -- each seat has a time; if its notice is pending, it is due at that time
 pub record AreDue (times : List ℤ) (notices : List ℕ) (rows : List Row) : Type 0 where
@@ -63,8 +59,6 @@ pub record IsAgenda (rows : List Row) (agenda : AgendaState) (b : Board) : Type 
   pub sound : IsSound b
   -- each row has its notice's seat
   pub seats : (i : ℕ) → i < length rows → (row_at rows i).seat ≡ seat_at agenda.notices (i + 1)
-  -- each seat has its room
-  pub nodes : (i : ℕ) → HasNode (row_at rows i)
   -- a seat is a row's notice's
   pub seated : (n : ℕ) → has agenda.notices n ≡ true → (0 < n) × (n ≤ length rows)
   -- no notice has two seats

@@ -15,7 +15,7 @@ ghost use Rattle.ss_events.specs.Slots.{slot_of};
 use crate::pending_notice::{PendingNotice, Row};
 use crate::ranking::entry_of;
 use crate::rule::{ClassRule, class_rules, event_number};
-use ss_index::SeatIndex;
+use ss_index::{SeatIndex, SeatNode};
 use ss_links::SetBoard;
 use ss_program::Program;
 use std::alloc::{AllocError, Global};
@@ -58,8 +58,11 @@ pub struct Agenda<S: SetBoard> {
     pub(crate) times: Vec<i64>,
     pub(crate) next_filing: u64,
     pub(crate) board: S,
-    /// The list of each head of the board once more, in which a place is found down a tree.
-    pub(crate) indexes: Vec<SeatIndex>,
+    /// The list of each head of the board once more, in which a place is found down a tree, if the
+    /// list is long.
+    pub(crate) indexes: Vec<Option<SeatIndex>>,
+    /// The room of a seat that was taken out of an index.
+    pub(crate) spare: Option<SeatNode>,
 }
 
 impl<S: SetBoard> Model for Agenda<S> {
@@ -69,12 +72,13 @@ impl<S: SetBoard> Model for Agenda<S> {
 
     ghost use Rattle.std.specs.Prelude.{◌≡◌};
     ghost use Rattle.ss_events.specs.Rows.{state_of, IsAgenda, AreDue};
+    ghost use Rattle.ss_events.specs.Indexes.{AreIndexes};
 
     ghost view = { λ a. state_of a.rules.items a.rows.items a.next_filing a.notices.items };
 
     ghost invariant = { λ a.
         IsAgenda a.rows.items (state_of a.rules.items a.rows.items a.next_filing a.notices.items)
-        (S.board a.board) × (a.indexes.items ≡ (S.board a.board).lists)
+        (S.board a.board) × AreIndexes a.indexes.items (S.board a.board).lists
         × AreDue a.times.items a.notices.items a.rows.items };
 }
 
@@ -102,7 +106,7 @@ impl<S: SetBoard> Agenda<S> {
         for class in 0..rules.len() {
             if rules[class].for_events {
                 board.try_add_head()?;
-                indexes.push(SeatIndex::new())?;
+                indexes.push(None)?;
             }
         }
         Ok(Agenda {
@@ -114,6 +118,7 @@ impl<S: SetBoard> Agenda<S> {
             next_filing: 1,
             board,
             indexes,
+            spare: None,
         })
     }
 

@@ -7,6 +7,7 @@ pub mod limits;
 mod listing;
 mod order;
 mod pending_notice;
+mod placing;
 mod ranking;
 mod rule;
 mod scheduling;

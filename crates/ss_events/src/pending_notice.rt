@@ -1,6 +1,4 @@
 //! The rows that an agenda keeps for its notices.
-use ss_index::SeatNode;
-
 /// The entry of a pending notice: the values that its order needs.
 #[derive(Drop)]
 pub struct PendingNotice {
@@ -20,6 +18,4 @@ pub struct Row {
     pub seat: Option<u32>,
     /// The entry of the notice, if it is pending.
     pub pending: Option<PendingNotice>,
-    /// The room of its seat in an index, if it has a seat and is not pending.
-    pub node: Option<SeatNode>,
 }

@@ -46,7 +46,6 @@ pub(crate) fn grow(rows: &mut Vec<Row>, count: usize) -> Result<(), AllocError>
         rows.push(Row {
             seat: None,
             pending: None,
-            node: None,
         })?;
     }
     Ok(())

@@ -4,7 +4,7 @@ ghost use Rattle.std.specs.Option.{IsSome};
 ghost use Rattle.ss_words.specs.declared.limits.TheConstants.{MOST_REFERENCES};
 ghost use Rattle.ss_events.specs.declared.limits.TheConstants.{MOST_SCHEDULINGS};
 ghost use Rattle.ss_links.specs.Seats.{has};
-ghost use Rattle.ss_events.specs.Rules.{rule_at, is_event_class};
+ghost use Rattle.ss_events.specs.Rules.{rule_at, is_event_class, event_number};
 ghost use Rattle.ss_events.specs.Agenda.{pending_at, may_schedule, may_cancel};
 ghost use Rattle.ss_events.specs.Agenda.{with_notice, without_notice};
 ghost use Rattle.ss_events.specs.State.{NoneNoted, Each};
@@ -17,24 +17,36 @@ ghost use Rattle.ss_events.specs.Views.{notice_of};
 use crate::agenda::{Agenda, AgendaChange};
 use crate::limits::MOST_SCHEDULINGS;
 use crate::pending_notice::PendingNotice;
+use crate::placing::{filed_before, node_for, take_from};
 use crate::ranking::{EntryRank, entry_of, grow, notice_if};
-use ss_index::SeatNode;
 use ss_journal::Undo;
 use ss_links::{Place, SetBoard};
 use ss_words::{RunFault, StepFault};
 use std::alloc::AllocError;
 
 impl<S: SetBoard> Agenda<S> {
-    /// Makes a notice pending. The index of its class finds the place for its seat.
+    /// Makes a notice pending.
     fn put_in(&mut self, notice: u32, entry: PendingNotice)
         requires { CanPend self.old (notice_of notice entry) }
         ensures { self.new
             ≡ with_pending self.old (with_notice (notice_of notice entry) self.old.agenda.pending) }
     {
         let head = self.head(entry.class);
+        self.keep_index(head);
+        self.link(notice, entry, head);
+    }
+
+    /// Makes a notice pending, whose class has this head.
+    fn link(&mut self, notice: u32, entry: PendingNotice, head: u32)
+        requires can { CanPend self.old (notice_of notice entry) }
+        requires head { head ≡ event_number self.old.rules entry.class }
+        ensures { self.new
+            ≡ with_pending self.old (with_notice (notice_of notice entry) self.old.agenda.pending) }
+    {
+        let list = &mut self.indexes[head as usize];
         let index = notice as usize - 1;
         let seat = self.rows[index].seat.unwrap();
-        let node = self.rows[index].node.take().unwrap();
+        let node = node_for(self.alloc, list, &mut self.spare, seat);
         let rank = EntryRank {
             rules: &self.rules,
             rows: &self.rows,
@@ -42,7 +54,7 @@ impl<S: SetBoard> Agenda<S> {
             times: &self.times,
             entry: &entry,
         };
-        let before = self.indexes[head as usize].put(node, &rank);
+        let before = filed_before(&self.board, head, list, node, &rank);
         self.times[seat as usize] = entry.time;
         self.rows[index].pending = Some(entry);
         self.board.relink(seat, Place { head, before });
@@ -69,10 +81,10 @@ impl<S: SetBoard> Agenda<S> {
             times: &self.times,
             entry,
         };
-        let node = self.indexes[head as usize].take(seat, &rank);
+        let list = &mut self.indexes[head as usize];
+        take_from(list, seat, &rank, &mut self.spare);
         let row = &mut self.rows[index];
         let entry = row.pending.take().unwrap();
-        row.node = Some(node);
         let place = self.board.unlink(seat);
         let predecessor = notice_if(&self.notices, place.before);
         (entry, predecessor)
@@ -93,13 +105,11 @@ impl<S: SetBoard> Agenda<S> {
         }
         self.notices.reserve(1)?;
         self.times.reserve(1)?;
-        let node = SeatNode::new(self.alloc, self.notices.len() as u32)?;
         let seat = self.board.try_add_seat()?;
         self.notices.push(notice).unwrap();
         self.times.push(0).unwrap();
         let row = &mut self.rows[index];
         row.seat = Some(seat);
-        row.node = Some(node);
         Ok(true)
     }
 
@@ -115,7 +125,6 @@ impl<S: SetBoard> Agenda<S> {
         self.times.truncate(self.times.len() - 1);
         let row = &mut self.rows[notice as usize - 1];
         row.seat = None;
-        row.node = None;
     }
 
     /// Takes the next filing number.

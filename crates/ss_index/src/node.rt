@@ -39,6 +39,16 @@ impl SeatNode {
         Ok(SeatNode { fork })
     }
 
+    /// The same room, for another seat.
+    #[inline]
+    pub fn renumbered(self, seat: u32) -> SeatNode
+        ensures { result ≡ seat }
+    {
+        let SeatNode { mut fork } = self;
+        fork.seat = seat;
+        SeatNode { fork }
+    }
+
     /// The seat's number.
     pub fn seat(&self) -> u32
         ensures { result ≡ self.now }

@@ -10,7 +10,7 @@ use Rattle.ss_events.proofs.RowLaws.{pending_of_row}
 use Rattle.ss_events.proofs.PutAndTakeOut.{pending-row, read-seat, taken-linked, taken-entry, take_out-closed}
 use Rattle.ss_events.proofs.PutAndTakeOut.{take_out-read, view-with, seat-read}
 use Rattle.ss_events.proofs.Predecessors.{predecessor-taken, predecessor-read}
-use Rattle.ss_events.proofs.IndexLaws.{take_out-ranked, headed-within, index-taken}
+use Rattle.ss_events.proofs.IndexLaws.{take_out-ranked, headed-within, index-kept, index-taken}
 use Rattle.ss_events.proofs.Due.{due-same, due-fewer, none-set}
 use Rattle.ss_events.proofs.agenda.Agenda.take_out.Goals as goal
 
@@ -46,46 +46,55 @@ unwrap-entry-requires g c =
     let row = pending_of_row _ _ _ _ _ c.requires.number refl c.deref.ensures.value c.entry_of.ensures in
     is-some-map _ c.entry_of.result (is-some-map _ _ (rw row at p))
 
-pub index_mut-requires : goal.index_mut-requires
-index_mut-requires g c =
+pub index_mut-list-requires : goal.index_mut-list-requires
+index_mut-list-requires g c =
     let there = pending_of_row _ _ _ (Some c.unwrap-entry.result.now) _ c.requires.number refl c.deref.ensures.value (rw
     c.unwrap-entry.ensures at c.entry_of.ensures) in
     let head = sym c.place.ensures.value ∙ c.unwrap-head.ensures in
-    let within = headed-within _ _ _ c.args.notice _ _ _ c.unwrap-entry.result.now _ c.self.invariant.0 there
-    c.index.ensures c.unwrap-seat.ensures head c.self.invariant.1 in
-    omega (arith, within, c.self.inside.indexes.ok)
+    let within = headed-within _ _ _ c.args.notice _ _ _ c.unwrap-entry.result.now c.self.invariant.0 there
+    c.index.ensures c.unwrap-seat.ensures head in
+    omega (arith, within, c.self.invariant.1.count, c.self.inside.indexes.ok)
 
-pub take-node-requires-clause-known : goal.take-node-requires-clause-known
-take-node-requires-clause-known g c =
+pub take_from-requires-clause-known : goal.take_from-requires-clause-known
+take_from-requires-clause-known g c =
     let there = pending_of_row _ _ _ (Some c.unwrap-entry.result.now) _ c.requires.number refl c.deref.ensures.value (rw
     c.unwrap-entry.ensures at c.entry_of.ensures) in
     let head = sym c.place.ensures.value ∙ c.unwrap-head.ensures in
-    let r = take_out-ranked _ _ _ c.args.notice _ _ _ c.unwrap-entry.result.now _ _ _ _ _ c.self.invariant.0 there
-    c.index.ensures c.unwrap-seat.ensures head c.self.invariant.1 c.index_mut.ensures.value (ap (map _)
-    c.deref-2.ensures.value) (ap (notices_from 1) c.deref-3.ensures.value) c.deref-4.ensures.value in
+    let within = headed-within _ _ _ c.args.notice _ _ _ c.unwrap-entry.result.now c.self.invariant.0 there
+    c.index.ensures c.unwrap-seat.ensures head in
+    let kept = index-kept _ _ _ _ c.self.invariant.1 within c.index_mut-list.ensures.value in
+    let r = take_out-ranked _ _ _ c.args.notice _ _ _ c.unwrap-entry.result.now _ _ _ c.self.invariant.0 there
+    c.index.ensures c.unwrap-seat.ensures head (ap (map _) c.deref-2.ensures.value) (ap (notices_from 1)
+    c.deref-3.ensures.value) c.deref-4.ensures.value in
     let due = due-same _ _ _ _ _ _ c.self.invariant.2 c.deref-5.ensures.value c.deref-4.ensures.value
     c.deref-3.ensures.value in
-    λ y h. (r.known y h, due)
+    λ l e. rw (kept l e) (λ y h. (r.known y h, due))
 
-pub take-node-requires-clause-divided : goal.take-node-requires-clause-divided
-take-node-requires-clause-divided g c =
+pub take_from-requires-clause-divided : goal.take_from-requires-clause-divided
+take_from-requires-clause-divided g c =
     let there = pending_of_row _ _ _ (Some c.unwrap-entry.result.now) _ c.requires.number refl c.deref.ensures.value (rw
     c.unwrap-entry.ensures at c.entry_of.ensures) in
     let head = sym c.place.ensures.value ∙ c.unwrap-head.ensures in
-    let r = take_out-ranked _ _ _ c.args.notice _ _ _ c.unwrap-entry.result.now _ _ _ _ _ c.self.invariant.0 there
-    c.index.ensures c.unwrap-seat.ensures head c.self.invariant.1 c.index_mut.ensures.value (ap (map _)
-    c.deref-2.ensures.value) (ap (notices_from 1) c.deref-3.ensures.value) c.deref-4.ensures.value in
-    r.divided
+    let within = headed-within _ _ _ c.args.notice _ _ _ c.unwrap-entry.result.now c.self.invariant.0 there
+    c.index.ensures c.unwrap-seat.ensures head in
+    let kept = index-kept _ _ _ _ c.self.invariant.1 within c.index_mut-list.ensures.value in
+    let r = take_out-ranked _ _ _ c.args.notice _ _ _ c.unwrap-entry.result.now _ _ _ c.self.invariant.0 there
+    c.index.ensures c.unwrap-seat.ensures head (ap (map _) c.deref-2.ensures.value) (ap (notices_from 1)
+    c.deref-3.ensures.value) c.deref-4.ensures.value in
+    λ l e. rw (kept l e) r.divided
 
-pub take-node-requires-clause-placed : goal.take-node-requires-clause-placed
-take-node-requires-clause-placed g c =
+pub take_from-requires-clause-placed : goal.take_from-requires-clause-placed
+take_from-requires-clause-placed g c =
     let there = pending_of_row _ _ _ (Some c.unwrap-entry.result.now) _ c.requires.number refl c.deref.ensures.value (rw
     c.unwrap-entry.ensures at c.entry_of.ensures) in
     let head = sym c.place.ensures.value ∙ c.unwrap-head.ensures in
-    let r = take_out-ranked _ _ _ c.args.notice _ _ _ c.unwrap-entry.result.now _ _ _ _ _ c.self.invariant.0 there
-    c.index.ensures c.unwrap-seat.ensures head c.self.invariant.1 c.index_mut.ensures.value (ap (map _)
-    c.deref-2.ensures.value) (ap (notices_from 1) c.deref-3.ensures.value) c.deref-4.ensures.value in
-    r.placed
+    let within = headed-within _ _ _ c.args.notice _ _ _ c.unwrap-entry.result.now c.self.invariant.0 there
+    c.index.ensures c.unwrap-seat.ensures head in
+    let kept = index-kept _ _ _ _ c.self.invariant.1 within c.index_mut-list.ensures.value in
+    let r = take_out-ranked _ _ _ c.args.notice _ _ _ c.unwrap-entry.result.now _ _ _ c.self.invariant.0 there
+    c.index.ensures c.unwrap-seat.ensures head (ap (map _) c.deref-2.ensures.value) (ap (notices_from 1)
+    c.deref-3.ensures.value) c.deref-4.ensures.value in
+    λ l e. rw (kept l e) r.placed
 
 pub unlink-place-requires-clause-is_seat : goal.unlink-place-requires-clause-is_seat
 unlink-place-requires-clause-is_seat g c =
@@ -111,13 +120,12 @@ invariant_of-self g c =
     let there = pending_of_row _ _ _ (Some c.unwrap-entry.result.now) _ c.requires.number refl c.deref.ensures.value (rw
     c.unwrap-entry.ensures at c.entry_of.ensures) in
     let head = sym c.place.ensures.value ∙ c.unwrap-head.ensures in
-    let within = headed-within _ _ _ c.args.notice _ _ _ c.unwrap-entry.result.now _ c.self.invariant.0 there
-    c.index.ensures c.unwrap-seat.ensures head c.self.invariant.1 in (
-      take_out-closed _ _ _ _ _ _ _ _ _ _ c.self.invariant.0 p c.index.ensures c.unwrap-seat.ensures
-          c.unlink-place.ensures.board c.unlink-place.ensures.sound.1 c.index_mut-row.ensures.value c.take.ensures.after
-          c.take-node.ensures.node,
-      index-taken _ _ _ _ _ _ _ c.self.invariant.1 c.self.invariant.0.sound within c.index_mut.ensures.value head
-          c.unlink-place.ensures.board c.take-node.ensures.seats,
+    let within = headed-within _ _ _ c.args.notice _ _ _ c.unwrap-entry.result.now c.self.invariant.0 there
+    c.index.ensures c.unwrap-seat.ensures head in (
+      take_out-closed _ _ _ _ _ _ _ _ _ c.self.invariant.0 p c.index.ensures c.unwrap-seat.ensures
+          c.unlink-place.ensures.board c.unlink-place.ensures.sound.1 c.index_mut-row.ensures.value c.take.ensures.after,
+      index-taken _ _ _ _ _ _ _ c.self.invariant.1 c.self.invariant.0.sound within c.index_mut-list.ensures.value head
+          c.unlink-place.ensures.board c.take_from.ensures,
       due-fewer _ _ _ _ c.self.invariant.2 (none-set _ _ _ c.take.ensures.after),
     )
 
@@ -137,7 +145,6 @@ returns-clause-state g c =
       seat =
           c.index_mut-row.result.now.seat;
       pending = c.take.new.self;
-      node = Some c.take-node.result;
     }) c.self.invariant.0 (pending-row _ _ _ _
     c.self.invariant.0 p).seat c.take.ensures.after)
 
@@ -152,7 +159,6 @@ returns-clause-predecessor g c =
     let read = take_out-read _ _ _ _ (record {
       seat = c.index_mut-row.result.now.seat;
       pending = c.take.new.self;
-      node = Some c.take-node.result;
     }) c.self.invariant.0 r.seat c.take.ensures.after in
     let told = rw c.deref-6.ensures.value at c.notice_if-predecessor.ensures in
     told ∙ predecessor-read _ _ c.unwrap-entry-2.result _ _ (predecessor-taken _ _ _ c.args.notice

@@ -3,6 +3,7 @@ use Rattle.ss_links.specs.Board.{Board}
 use Rattle.ss_events.specs.State.{AgendaState, NoneNoted}
 use Rattle.ss_events.specs.Changes.{IsLastSeat}
 use Rattle.ss_events.proofs.GiveSeat.{unseated-free, last-row, unseat-closed, unseat-view}
+use Rattle.ss_events.proofs.IndexLaws.{index-same}
 use Rattle.ss_events.proofs.Due.{due-unseat}
 use Rattle.ss_events.proofs.agenda.Agenda.take_seat.Goals as goal
 
@@ -46,7 +47,7 @@ invariant_of-self g c =
       unseat-closed _ _ _ _ _ _ _ (c.truncate.ensures.items ∙
           ap (λ (k : ℕ). take (k - 1) c.self.inside.notices.items) same) c.self.invariant.0 l i
           c.take_last_seat.ensures.board c.take_last_seat.ensures.sound.1 c.index_mut-row.ensures.value,
-      c.self.invariant.1 ∙ ap (λ (d : Board). d.lists) (sym c.take_last_seat.ensures.board),
+      index-same _ _ _ c.self.invariant.1 (ap (λ (d : Board). d.lists) c.take_last_seat.ensures.board),
       due-unseat _ _ _ _ _ c.args.notice _ _ _ _ c.self.invariant.2 (omega (arith, r.0, r.1))
           c.index_mut-row.ensures.value refl count c.truncate-2.ensures.items c.truncate.ensures.items,
     )
