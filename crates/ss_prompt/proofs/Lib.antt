@@ -19,3 +19,4 @@ pub mod Cleared
 pub mod Listed
 pub mod TakenRefusals
 pub mod MissingLaws
+mod NothingAsked

@@ -349,6 +349,10 @@ impl<'a> PromptDesk<'a> {
     {
         let done = match command {
             PromptCommand::Plain(command) => return self.obey_plain(debugger, command, answer),
+            PromptCommand::Value(text, is_numbered) => {
+                self.show_value(debugger, &text, is_numbered, answer)?;
+                return Ok(Go::On);
+            }
             PromptCommand::Travel(movement) => self.travel(debugger, movement, answer),
             PromptCommand::Once(line) => self.run_once(debugger, line, answer),
             PromptCommand::Lines(line) => self.list(debugger, line, answer),
@@ -369,9 +373,6 @@ impl<'a> PromptDesk<'a> {
             PromptCommand::Display(question) => self.display(question, answer),
             PromptCommand::Undisplay => self.undisplay(answer),
             PromptCommand::UndisplayOne(question) => self.undisplay_one(question, answer),
-            PromptCommand::Value(text, is_numbered) => {
-                self.show_value(debugger, &text, is_numbered, answer)
-            }
             PromptCommand::Missing(missing) => push_missing(answer, &missing),
             PromptCommand::Unread(word, is_numbered) => push_unread(answer, word, is_numbered),
             PromptCommand::Names(name) => self.names(name, answer),

@@ -1,7 +1,8 @@
 //! SHOW of an expression or a condition.
 ghost use Rattle.std.specs.Prelude.{◌≡◌, ◌++◌, OnOk, IfOk, option_map};
 ghost use Rattle.ss_prompt.specs.PromptState.{state_at};
-ghost use Rattle.ss_prompt.specs.Valued.{Suits, value_by, value_said};
+ghost use Rattle.ss_prompt.specs.Advice.{unread_text};
+ghost use Rattle.ss_prompt.specs.Valued.{Suits, show_word, value_by, value_said};
 
 use crate::advice::push_unread;
 use crate::desk::PromptDesk;
@@ -10,6 +11,14 @@ use ss_debug::Debugger;
 use ss_expressions::asked_answer;
 use ss_links::SetBoard;
 use std::alloc::AllocError;
+
+/// Appends that SHOW of a text is no command.
+fn push_no_value(answer: &mut Vec<u8>, is_numbered: bool) -> Result<(), AllocError>
+    ensures { OnOk result (answer.new.items
+        ≡ answer.old.items ++ unread_text show_word is_numbered) }
+{
+    push_unread(answer, name_of_word(b"SHOW"), is_numbered)
+}
 
 impl<'a> PromptDesk<'a> {
     /// The value of a text, if a symbol table is kept and the text is an expression or a condition.
@@ -31,6 +40,7 @@ impl<'a> PromptDesk<'a> {
     }
 
     /// SHOW of a text that is no other question.
+    #[tactic(auto, using(crate::proofs::NothingAsked::not_shown))]
     pub(crate) fn show_value<S: SetBoard>(
         &self,
         debugger: &Debugger<S>,
@@ -44,7 +54,7 @@ impl<'a> PromptDesk<'a> {
     {
         match self.value_of(debugger, text.as_slice())? {
             Some(value) => answer.extend_from_slice(&value),
-            None => push_unread(answer, name_of_word(b"SHOW"), is_numbered),
+            None => push_no_value(answer, is_numbered),
         }
     }
 }
