@@ -1,5 +1,6 @@
 -- The command that a line of the prompt gives.
-use Rattle.std.specs.Prelude.{ℕ, ℤ, Bool, List, [], ◌∷◌, length, map, drop, Option, Some, None, if◌then◌else◌, nat_lt, codes}
+use Rattle.std.specs.Prelude.{ℕ, ℤ, Bool, List, [], ◌∷◌, length, map, drop, Option, Some, None}
+use Rattle.std.specs.Prelude.{if◌then◌else◌, nat_lt, codes}
 use Rattle.std.specs.Prelude.{nat_eq, nat_le, is_some, Result, Ok, Err}
 use Rattle.std.specs.Char.{to_ascii_uppercase}
 use Rattle.std.specs.Str.{bytes_eq}
@@ -28,7 +29,8 @@ use Rattle.ss_prompt.specs.Sights.{sight_of}
 use Rattle.ss_prompt.specs.Cuts.{whole_line, first_whole_line}
 use Rattle.ss_prompt.specs.declared.commands.PromptCommand.{PromptCommand}
 use Rattle.ss_prompt.specs.declared.commands.PromptCommand.TheVariants.{Plain, Travel, Lines, SectionLines}
-use Rattle.ss_prompt.specs.declared.commands.PromptCommand.TheVariants.{BreakSection, ClearSection, ClearAll, Breaks, Once}
+use Rattle.ss_prompt.specs.declared.commands.PromptCommand.TheVariants.{BreakSection, ClearSection, ClearAll}
+use Rattle.ss_prompt.specs.declared.commands.PromptCommand.TheVariants.{Breaks, Once}
 use Rattle.ss_prompt.specs.declared.commands.PromptCommand.TheVariants.{Changed, Missing, NoPlace}
 use Rattle.ss_prompt.specs.declared.commands.PromptCommand.TheVariants.{LinesBetween, UndisplayOne, Unread, Value}
 use Rattle.ss_prompt.specs.declared.commands.PromptCommand.TheVariants.{Ask, See, Why, History, Display, Undisplay}
