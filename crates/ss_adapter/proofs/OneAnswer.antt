@@ -141,8 +141,8 @@ unfolding told_debugged answer_about_run
 standing_answered state ConfigurationDone = configuration_answered state
 standing_answered state (Goto target) = goto_answered state target
 standing_answered state (Obey text) =
-    command_told state (console_command (prompt_command_of state.input.program text))
-    (is_movement (console_command (prompt_command_of state.input.program text)))
+    command_told state (console_command state.input.program (prompt_command_of state.input.program text))
+    (is_movement (console_command state.input.program (prompt_command_of state.input.program text)))
 standing_answered state (Ask text) =
     question_answered state.input state.debugger.position (asked_of state.input.program text)
 standing_answered state (Source reference) = source_answered (report_at state.input state.debugger) reference

@@ -15,7 +15,7 @@ use Rattle.ss_prompt.specs.declared.commands.PromptCommand.TheVariants.{Plain, C
 use Rattle.ss_debug.specs.declared.commands.Command.TheVariants.{Bad}
 use Rattle.ss_prompt.specs.declared.missing.Missing.{Missing as NoName}
 use Rattle.ss_prompt.specs.PromptState.{PromptState}
-use Rattle.ss_prompt.specs.Points.{is_movement, point_of}
+use Rattle.ss_prompt.specs.Points.{is_movement, point_of, without_symbols}
 use Rattle.ss_prompt.specs.Prompting.{prompt_answer, prompt_state_after}
 use Rattle.ss_prompt.specs.Reading.{prompt_command_of}
 use Rattle.ss_prompt.specs.Source.{source_lines}
@@ -200,10 +200,11 @@ behind_command state command true =
     (first_line (console_answer state command)) None
 behind_command state command false = point_behind state command (point_of state.input.program command)
 
--- a command as the console takes it: CLEAR needs a line, since an editor hears of one at a time
-abbrev pub console_command : PromptCommand → PromptCommand
-console_command ClearAll = Plain Bad
-console_command command = command
+-- a command as the console takes it: CLEAR needs a line, since an editor hears of one at a time, and no symbol table is
+-- kept
+abbrev pub console_command : ProgramTable → PromptCommand → PromptCommand
+console_command program ClearAll = Plain Bad
+console_command program command = without_symbols program command
 
 -- a command that the console takes: the answer of the prompt, and the messages after it
 abbrev pub answer_to_command : AdapterState → PromptCommand → List Sent
@@ -212,7 +213,7 @@ answer_to_command state command =
 
 -- a command of the console
 abbrev pub answer_to_line : AdapterState → PromptCommand → List Sent
-answer_to_line state command = answer_to_command state (console_command command)
+answer_to_line state command = answer_to_command state (console_command state.input.program command)
 
 -- a question that is answered: by its value, if the program has its names
 abbrev pub answer_to_question : Input → ℕ → Option (Result Question NoName) → List Sent
@@ -383,7 +384,7 @@ after_command state command =
 
 -- the state after a command of the console
 abbrev pub behind_line : AdapterState → PromptCommand → AdapterState
-behind_line state command = after_command state (console_command command)
+behind_line state command = after_command state (console_command state.input.program command)
 
 -- the state after break lines
 abbrev pub behind_setting : AdapterState → Setting → AdapterState

@@ -198,13 +198,13 @@ fn obey_standing<S: SetBoard>(
 }
 
 /// A command as the console takes it: CLEAR needs a line, since an editor hears of one line at a
-/// time.
-fn console_command(command: PromptCommand) -> PromptCommand
-    ensures { result ≡ console_command command }
+/// time, and no symbol table is kept.
+fn console_command(program: &Program, command: PromptCommand) -> PromptCommand
+    ensures { result ≡ console_command program.now command }
 {
     match command {
         PromptCommand::ClearAll => PromptCommand::Plain(Command::Bad),
-        other => other,
+        other => other.without_symbols(program),
     }
 }
 
@@ -225,8 +225,8 @@ pub fn obey_line<S: SetBoard>(
         ≡ behind_line (adapter_state_of debugger.old desk.old)
         (prompt_command_of debugger.old.machine.input.program line.now)) }
 {
-    let command = prompt_command(debugger.machine().program(), line);
-    let command = console_command(command);
+    let program = debugger.machine().program();
+    let command = console_command(program, prompt_command(program, line));
     if command.is_movement() {
         obey_movement(debugger, desk, request, post, command)
     } else {

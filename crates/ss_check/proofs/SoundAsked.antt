@@ -13,12 +13,12 @@ use Rattle.ss_program.specs.Program as program
 use Rattle.ss_program.specs.Program.{ProgramTable, SectionTable}
 use Rattle.ss_program.specs.ProgramExpr.{Expr as ProgramExpr}
 use Rattle.ss_program.specs.ProgramCondition.{Condition as ProgramCondition}
-use Rattle.ss_program.specs.ProgramSound.{Scope, IsSoundExpr, IsSoundCondition}
+use Rattle.ss_program.specs.ProgramSound.{Scope, IsSoundExpr, IsSoundCondition, scope_in}
 use Rattle.ss_check.specs.declared.fault.CheckRule.{CheckRule}
 use Rattle.ss_check.specs.declared.fault.CheckRule.TheVariants.{WrongClass, WrongUse, WrongCount, FixedTarget}
 use Rattle.ss_check.specs.Asked.{AskedFault, is_unknown, first_unknown, rule_fault, name_fault}
 use Rattle.ss_check.specs.Asked.{fault_of_uses, unless, locals_at, judged_expression, judged_condition}
-use Rattle.ss_check.specs.Asked.{scope_in, AskedExpressionsAreSound, AskedConditionsAreSound}
+use Rattle.ss_check.specs.Asked.{AskedExpressionsAreSound, AskedConditionsAreSound}
 use Rattle.ss_check.specs.Breach.{breach}
 use Rattle.ss_check.specs.Declarations.{Declared, declared_by_program, headed_items, heads, is_declared}
 use Rattle.ss_check.specs.Facts.{is_among}

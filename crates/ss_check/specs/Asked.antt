@@ -7,10 +7,10 @@ use Rattle.ss_preamble.specs.Tree.{Decls}
 use Rattle.ss_routines.specs.Expr.{Expr}
 use Rattle.ss_routines.specs.Condition.{Condition}
 use Rattle.ss_routines.specs.Places.{Section}
-use Rattle.ss_program.specs.Program.{ProgramTable, is_permanent, locals_of}
+use Rattle.ss_program.specs.Program.{ProgramTable}
 use Rattle.ss_program.specs.ProgramExpr.{Expr as ProgramExpr}
 use Rattle.ss_program.specs.ProgramCondition.{Condition as ProgramCondition}
-use Rattle.ss_program.specs.ProgramSound.{Scope, IsSoundExpr, IsSoundCondition}
+use Rattle.ss_program.specs.ProgramSound.{IsSoundExpr, IsSoundCondition, scope_in}
 use Rattle.ss_check.specs.declared.fault.CheckRule.{CheckRule}
 use Rattle.ss_check.specs.Breach.{breach}
 use Rattle.ss_check.specs.Declarations.{Declared, is_declared}
@@ -82,15 +82,6 @@ abbrev pub IsSymbolsOf : ProgramTable → Symbols → Type 0
 IsSymbolsOf program symbols =
     (decls : Decls) × (sections : List Section) × (breach decls sections ≡ None)
     × (program ≡ program_resolved decls sections) × (symbols ≡ symbols_of decls sections)
-
--- the tables that the places of section number q may name rows of
-abbrev pub scope_in : ProgramTable → ℕ → Scope
-scope_in program q = record {
-  globals = length program.globals;
-  locals = length (locals_of (slice_get program.sections q));
-  permanent = map (λ c. is_permanent c.kind) program.classes;
-  sets = length program.sets;
-}
 
 -- an expression that has a meaning in a section names only rows that exist there
 abbrev pub AskedExpressionsAreSound : Type 0

@@ -1,3 +1,6 @@
 pub mod AfterIf
-pub mod Gathered
+pub mod Lists
+pub mod LocalNames
 pub mod Scopes
+pub mod Frames
+pub mod References

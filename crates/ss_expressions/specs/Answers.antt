@@ -1,23 +1,28 @@
--- The answers to expressions and conditions, in the section of the last frame.
+-- The answers to expressions, conditions, lists and classes, in the section of the last frame.
 use Rattle.std.specs.Prelude.{ℕ, ℤ, Bool, true, false, List, ◌∷◌, [], ◌++◌, codes, decimal, Option, Some, None}
 use Rattle.std.specs.Prelude.{Result, Ok, Err}
 use Rattle.std.specs.Fmt.{signed_decimal}
 use Rattle.ss_words.specs.declared.fault.RunFault.{RunFault}
 use Rattle.ss_words.specs.Faults.{run_fault_number}
-use Rattle.ss_program.specs.Program.{ProgramTable}
-use Rattle.ss_program.specs.ProgramExpr.{Expr}
-use Rattle.ss_program.specs.ProgramCondition.{Condition}
+use Rattle.ss_program.specs.declared.kinds.Owner.{Owner}
+use Rattle.ss_program.specs.declared.kinds.Owner.TheVariants.{System, OwnedBy}
+use Rattle.ss_program.specs.declared.target.SetRef.{SetRef}
+use Rattle.ss_program.specs.Program.{ProgramTable, class_of, set_of}
 use Rattle.ss_check.specs.declared.fault.CheckRule.{CheckRule}
 use Rattle.ss_check.specs.CheckRules.{check_rule_code}
 use Rattle.ss_check.specs.Symbols.{Symbols}
-use Rattle.ss_check.specs.Asked.{AskedFault, Unknown, Broken, judged_expression, judged_condition}
+use Rattle.ss_check.specs.Asked.{AskedFault, Unknown, Broken}
 use Rattle.ss_sentences.specs.Wording.{fault_sentence, rule_sentence}
 use Rattle.ss_store.specs.Tables.{tables_of}
-use Rattle.ss_values.specs.Values.{Readings, value_of}
+use Rattle.ss_values.specs.Values.{Readings, value_of, subscript_value}
 use Rattle.ss_values.specs.Conditions.{holds}
 use Rattle.ss_state.specs.State.{State}
 use Rattle.ss_state.specs.Readings.{readings}
-use Rattle.ss_expressions.specs.Asked.{Asked, value, truth, asked_in}
+use Rattle.ss_debug.specs.Entities.{list_text}
+use Rattle.ss_inspect.specs.Living.{class_living_text}
+use Rattle.ss_expressions.specs.Asked.{Asked, asked_in}
+use Rattle.ss_expressions.specs.Wanted.{wanted_of}
+use Rattle.ss_expressions.specs.Senses.{Sense, expression, condition, list, living, set_in, judged_sense}
 
 -- the number of a fault, and its sentence
 abbrev pub fault_line : RunFault → List ℕ
@@ -56,22 +61,47 @@ refused_answer (Broken rule) = broken_answer rule
 abbrev pub readings_of : ProgramTable → State → Readings
 readings_of program state = readings (tables_of program) state
 
--- an expression as the checker judges it: its value, or why it has none
-abbrev pub judged_value : ProgramTable → State → List ℕ → Result Expr AskedFault → List ℕ
-judged_value program state text (Ok e) = value_answer text (value_of (readings_of program state) e)
-judged_value program state text (Err fault) = refused_answer fault
+-- the owner of a list as its answer names it: the system's has no number
+abbrev pub owner_told : Owner → ℤ → Option ℤ
+owner_told System x = None
+owner_told (OwnedBy class) x = Some x
 
--- a condition as the checker judges it: whether it holds, or why not
-abbrev pub judged_truth : ProgramTable → State → List ℕ → Result Condition AskedFault → List ℕ
-judged_truth program state text (Ok c) = truth_answer text (holds (readings_of program state) c)
-judged_truth program state text (Err fault) = refused_answer fault
+-- the list of set number s for the owner that a value names, as SHOW SET tells it
+abbrev pub list_told : ProgramTable → State → ℕ → ℤ → List ℕ
+list_told program state s x =
+    list_text (set_of program s).name (owner_told (set_of program s).owner x) program state s (set_of program s).owner
+
+-- that list, or the fault of its owner's evaluation
+abbrev pub list_by_owner : ProgramTable → State → ℕ → Result ℤ RunFault → List ℕ
+list_by_owner program state s (Ok x) = list_told program state s x
+list_by_owner program state s (Err fault) = fault_line fault
+
+-- the answer to a list, if there is one
+abbrev pub list_answer : ProgramTable → State → Option SetRef → List ℕ
+list_answer program state None = []
+list_answer program state (Some r) =
+    list_by_owner program state r.set (subscript_value (readings_of program state) r.owner)
+
+-- the living entities of a class, as SHOW c tells them
+abbrev pub class_told : ProgramTable → State → ℕ → List ℕ
+class_told program state class = class_living_text (class_of program class).name state.store (Some class)
+
+-- the answer to what is asked, as the checker judged it
+abbrev pub sense_answer : ProgramTable → State → List ℕ → Sense → List ℕ
+sense_answer program state text (expression e) = value_answer text (value_of (readings_of program state) e)
+sense_answer program state text (condition c) = truth_answer text (holds (readings_of program state) c)
+sense_answer program state text (list c) = list_answer program state (set_in c)
+sense_answer program state text (living class) = class_told program state class
+
+-- the answer to a judgement: to what is asked, or why it has no value
+abbrev pub judged_answer : ProgramTable → State → List ℕ → Result Sense AskedFault → List ℕ
+judged_answer program state text (Ok sense) = sense_answer program state text sense
+judged_answer program state text (Err fault) = refused_answer fault
 
 -- the answer to what is asked, by the names of the section of the last frame
 abbrev pub answer_to : Symbols → ProgramTable → State → List ℕ → Asked → List ℕ
-answer_to symbols program state text (value e) =
-    judged_value program state text (judged_expression symbols state.frame.section e)
-answer_to symbols program state text (truth c) =
-    judged_truth program state text (judged_condition symbols state.frame.section c)
+answer_to symbols program state text asked =
+    judged_answer program state text (judged_sense symbols state.frame.section (wanted_of program asked))
 
 -- the answer to what a text asks, if it asks anything
 abbrev pub answer_if_asked : Symbols → ProgramTable → State → List ℕ → Option Asked → Option (List ℕ)

@@ -1,24 +1,25 @@
 //! The answer to an expression or a condition.
 ghost use Rattle.std.specs.Prelude.{◌≡◌, ◌++◌, ◌∷◌, [], OnOk, IfOk, option_map};
-ghost use Rattle.ss_routines.specs.View.{expr_view, condition_view};
-ghost use Rattle.ss_program.specs.ProgramSound.{IsSoundExpr, IsSoundCondition};
-ghost use Rattle.ss_check.specs.Asked.{IsSymbolsOf, scope_in};
+ghost use Rattle.ss_program.specs.ProgramSound.{IsSoundExpr, IsSoundCondition, IsSoundSubscript, scope_in};
+ghost use Rattle.ss_check.specs.Asked.{IsSymbolsOf};
 ghost use Rattle.ss_check.specs.AskedView.{asked_fault_view};
-ghost use Rattle.ss_values.specs.Values.{value_of};
+ghost use Rattle.ss_values.specs.Values.{value_of, subscript_value};
 ghost use Rattle.ss_values.specs.Conditions.{holds};
-ghost use Rattle.ss_expressions.specs.Asked as question;
 ghost use Rattle.ss_expressions.specs.Answers as spec;
+ghost use Rattle.ss_expressions.specs.Senses.{IsSoundSense, set_in};
+ghost use Rattle.ss_expressions.specs.SensesView.{sense_view};
 ghost use Rattle.ss_expressions.specs.AskedView.{asked_view};
 
 use crate::asked::{Asked, asked_in};
-use crate::present::Present;
+use crate::listed::{push_class, push_list};
+use crate::sense::{Sense, judged, set_in};
+use crate::wanted::wanted_of;
 use ss_check::{AskedFault, CheckRule, SymbolTable};
 use ss_debug::{push_integer, push_number};
 use ss_links::SetBoard;
 use ss_machine::Machine;
-use ss_program::{Condition, Expr};
+use ss_program::{Condition, Expr, Index};
 use ss_sentences::{fault_sentence, rule_sentence};
-use ss_values::{holds, value};
 use ss_words::RunFault;
 use std::alloc::{AllocError, Global};
 
@@ -66,7 +67,7 @@ fn push_broken(text: &mut Vec<u8>, rule: CheckRule) -> Result<(), AllocError>
 }
 
 /// Appends why what is asked has no value.
-fn push_refused(text: &mut Vec<u8>, fault: AskedFault<'_>) -> Result<(), AllocError>
+pub(crate) fn push_refused(text: &mut Vec<u8>, fault: AskedFault<'_>) -> Result<(), AllocError>
     ensures { OnOk result (text.new.items
         ≡ text.old.items ++ spec.refused_answer (asked_fault_view fault.entry)) }
 {
@@ -115,108 +116,109 @@ fn push_truth(
 }
 
 /// The value of an expression in a machine's present state.
-fn value_now<S: SetBoard>(
-    alloc: Global,
-    machine: &Machine<S>,
-    e: &Expr,
-) -> Result<Result<i64, RunFault>, AllocError>
+fn value_now<S: SetBoard>(machine: &Machine<S>, e: &Expr) -> Result<i64, RunFault>
     requires { IsSoundExpr (scope_in machine.now.input.program
         machine.now.state.frame.section) e.now }
-    ensures { IfOk result (λ x. x
-        ≡ value_of (spec.readings_of machine.now.input.program machine.now.state) e.now) }
+    ensures { result
+        ≡ value_of (spec.readings_of machine.now.input.program machine.now.state) e.now }
 {
-    machine.known();
-    let present = Present::new(alloc, machine)?;
-    Ok(value(present.view(machine), e))
+    machine.value_in(0, e).unwrap_or(Err(RunFault::NoEntity))
 }
 
 /// Whether a condition holds in a machine's present state.
-fn truth_now<S: SetBoard>(
-    alloc: Global,
-    machine: &Machine<S>,
-    c: &Condition,
-) -> Result<Result<bool, RunFault>, AllocError>
+pub(crate) fn truth_now<S: SetBoard>(machine: &Machine<S>, c: &Condition) -> Result<bool, RunFault>
     requires { IsSoundCondition (scope_in machine.now.input.program
         machine.now.state.frame.section) c.now }
-    ensures { IfOk result (λ x. x
-        ≡ holds (spec.readings_of machine.now.input.program machine.now.state) c.now) }
+    ensures { result
+        ≡ holds (spec.readings_of machine.now.input.program machine.now.state) c.now }
 {
-    machine.known();
-    let present = Present::new(alloc, machine)?;
-    Ok(holds(present.view(machine), c))
+    machine.truth_in(0, c).unwrap_or(Err(RunFault::NoEntity))
 }
 
-/// The answer to an expression.
-#[tactic(auto, using(crate::proofs::Scopes::expression_sound))]
-fn value_answer<S: SetBoard>(
-    alloc: Global,
-    machine: &Machine<S>,
-    symbols: &SymbolTable,
-    text: &[u8],
-    e: &ss_routines::Expr,
-) -> Result<Vec<u8>, AllocError>
-    requires { IsSymbolsOf machine.now.input.program symbols.now }
-    ensures { IfOk result (λ answer. answer.items
-        ≡ spec.answer_to symbols.now machine.now.input.program machine.now.state text.now
-        (question.value (expr_view e.now))) }
+/// The number that a subscript means in a machine's present state.
+fn subscript_now<S: SetBoard>(machine: &Machine<S>, index: &Index) -> Result<i64, RunFault>
+    requires { IsSoundSubscript (scope_in machine.now.input.program
+        machine.now.state.frame.section) index.now }
+    ensures { result ≡ subscript_value
+        (spec.readings_of machine.now.input.program machine.now.state) index.now }
 {
-    machine.known();
-    let (section, _) = machine.place();
-    let mut answer = Vec::new(alloc);
-    match symbols.expression(section, e)? {
-        Ok(e) => push_value(&mut answer, text, value_now(alloc, machine, &e)?)?,
-        Err(fault) => push_refused(&mut answer, fault)?,
-    }
-    Ok(answer)
+    machine
+        .subscript_in(0, index)
+        .unwrap_or(Err(RunFault::NoEntity))
 }
 
-/// The answer to a condition.
-#[tactic(auto, using(crate::proofs::Scopes::condition_sound))]
-fn truth_answer<S: SetBoard>(
-    alloc: Global,
+/// Appends the list of which a condition says that it IS EMPTY, or why there is none.
+#[tactic(auto, using(crate::proofs::Frames::set_sound))]
+fn push_list_of<S: SetBoard>(
+    answer: &mut Vec<u8>,
     machine: &Machine<S>,
-    symbols: &SymbolTable,
-    text: &[u8],
-    c: &ss_routines::Condition,
-) -> Result<Vec<u8>, AllocError>
-    requires { IsSymbolsOf machine.now.input.program symbols.now }
-    ensures { IfOk result (λ answer. answer.items
-        ≡ spec.answer_to symbols.now machine.now.input.program machine.now.state text.now
-        (question.truth (condition_view c.now))) }
+    condition: &Condition,
+) -> Result<(), AllocError>
+    requires { IsSoundCondition (scope_in machine.now.input.program
+        machine.now.state.frame.section) condition.now }
+    ensures { OnOk result (answer.new.items ≡ answer.old.items
+        ++ spec.list_answer machine.now.input.program machine.now.state (set_in condition.now)) }
 {
-    machine.known();
-    let (section, _) = machine.place();
-    let mut answer = Vec::new(alloc);
-    match symbols.condition(section, c)? {
-        Ok(c) => push_truth(&mut answer, text, truth_now(alloc, machine, &c)?)?,
-        Err(fault) => push_refused(&mut answer, fault)?,
+    let Some(set) = set_in(condition) else {
+        return Ok(());
+    };
+    match subscript_now(machine, &set.owner) {
+        Ok(owner) => push_list(answer, machine, set.set, owner),
+        Err(fault) => push_fault(answer, fault),
     }
-    Ok(answer)
+}
+
+/// Appends the answer to what is asked, as the checker judged it.
+fn push_sense<S: SetBoard>(
+    answer: &mut Vec<u8>,
+    machine: &Machine<S>,
+    text: &[u8],
+    sense: &Sense,
+) -> Result<(), AllocError>
+    requires { IsSoundSense (scope_in machine.now.input.program
+        machine.now.state.frame.section) (sense_view sense.now) }
+    ensures { OnOk result (answer.new.items ≡ answer.old.items
+        ++ spec.sense_answer machine.now.input.program machine.now.state text.now
+        (sense_view sense.now)) }
+{
+    match sense {
+        Sense::Expression(e) => push_value(answer, text, value_now(machine, e)),
+        Sense::Condition(c) => push_truth(answer, text, truth_now(machine, c)),
+        Sense::List(c) => push_list_of(answer, machine, c),
+        Sense::Living(class) => push_class(answer, machine, *class),
+    }
 }
 
 /// The answer to what is asked.
+#[tactic(auto, using(crate::proofs::Scopes::sense_sound))]
 fn answer_to<S: SetBoard>(
     alloc: Global,
     machine: &Machine<S>,
     symbols: &SymbolTable,
     text: &[u8],
-    asked: &Asked,
+    asked: Asked,
 ) -> Result<Vec<u8>, AllocError>
     requires { IsSymbolsOf machine.now.input.program symbols.now }
     ensures { IfOk result (λ answer. answer.items
         ≡ spec.answer_to symbols.now machine.now.input.program machine.now.state text.now
-        (asked_view asked.now)) }
+        (asked_view asked)) }
 {
-    match asked {
-        Asked::Value(e) => value_answer(alloc, machine, symbols, text, e),
-        Asked::Truth(c) => truth_answer(alloc, machine, symbols, text, c),
+    machine.known();
+    let (section, _) = machine.place();
+    let wanted = wanted_of(alloc, machine.program(), asked);
+    let mut answer = Vec::new(alloc);
+    match judged(symbols, section, &wanted)? {
+        Ok(sense) => push_sense(&mut answer, machine, text, &sense)?,
+        Err(fault) => push_refused(&mut answer, fault)?,
     }
+    Ok(answer)
 }
 
 /// The answer to a text that is an expression or a condition of the language (docs/LANGUAGE.md,
-/// "Expressions" and "Conditions"), in the section of the last frame and in the present state: its
-/// value, or why it has none. `None` if the text is neither. The text is in capitals, with one blank
-/// between its words: the answer begins with it.
+/// "Expressions" and "Conditions"), a list or the name of a class, in the section of the last frame
+/// and in the present state: its value, or why it has none. `None` if the text is nothing of these.
+/// The text is in capitals, with one blank between its words: an answer with a value begins with it,
+/// but one of a list or a class with its name.
 ///
 /// `AllocError` if memory was refused.
 #[tactic(auto, unfolding(crate::specs::Answers::asked_answer))]
@@ -232,6 +234,6 @@ pub fn asked_answer<S: SetBoard>(
 {
     match asked_in(alloc, text)? {
         None => Ok(None),
-        Some(asked) => Ok(Some(answer_to(alloc, machine, symbols, text, &asked)?)),
+        Some(asked) => Ok(Some(answer_to(alloc, machine, symbols, text, asked)?)),
     }
 }

@@ -2,8 +2,17 @@
 //! grammar, judged by the checker in the section of the last frame, and valued in the present state.
 #![tactic(auto)]
 
+mod aim;
 mod answer;
 mod asked;
-mod present;
+mod listed;
+mod local_names;
+mod meaning;
+mod sense;
+mod valued;
+mod wanted;
 
+pub use aim::{Aimed, ConditionAim, aim_of};
 pub use answer::asked_answer;
+pub use meaning::{Meaning, Meant, meaning_of};
+pub use valued::{Judgement, judged_text, value_asked};

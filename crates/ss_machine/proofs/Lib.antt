@@ -4,6 +4,7 @@ pub mod NumberBytes
 pub mod Histories
 pub mod Rooms
 pub mod Scopes
+pub mod InFrames
 pub mod Returns
 pub mod Moments
 pub mod Timelines

@@ -10,7 +10,7 @@ use Rattle.ss_program.specs.declared.kinds.ClassKind.TheVariants.{Permanent, Tem
 use Rattle.ss_program.specs.declared.place.Spot.{Spot}
 use Rattle.ss_program.specs.Program.{ClassTable, ProgramTable, is_permanent, locals_of, spot_at}
 use Rattle.ss_program.specs.Program as program
-use Rattle.ss_program.specs.ProgramSound.{Scope, IsSound, IsSoundPlace}
+use Rattle.ss_program.specs.ProgramSound.{Scope, scope_in, IsSound, IsSoundPlace}
 use Rattle.ss_store.specs.declared.shape.ClassShape.{ClassShape}
 use Rattle.ss_store.specs.Tables.{tables_of, class_shape, set_shape, class_in}
 use Rattle.ss_store.specs.Tables as shapes
@@ -20,7 +20,7 @@ use Rattle.ss_state.specs.Readings.{readings}
 use Rattle.ss_machine.specs.Seen.{InHeld}
 use Rattle.ss_state.specs.Loops.{AreSoundWalks}
 use Rattle.ss_state.specs.Well.{IsInBounds}
-use Rattle.ss_state.proofs.Sounds.{scope_at, spot_sound}
+use Rattle.ss_state.proofs.Sounds.{spot_sound}
 
 -- ---- tables
 
@@ -53,7 +53,7 @@ shape_kind p i c e =
     ap (λ (o : Option ClassTable). unwrap_or o (program.class_of (record p { classes = [] }) 0)) e in
     ap (λ (d : ClassTable). shapes.is_permanent d.kind) f ∙ same_kind c.kind
 
-permanent_classes : (p : ProgramTable) →
+pub permanent_classes : (p : ProgramTable) →
     map (λ (s : ClassShape). s.permanent) (tables_of p).classes
     ≡ map (λ (c : ClassTable). is_permanent c.kind) p.classes
 permanent_classes p =
@@ -80,7 +80,7 @@ pub sound_with : (p : ProgramTable) (h : Held) (spot : Spot) → IsSound p → l
     h.beside.tables ≡ tables_of p →
     spot_at p h.state.frame.section h.state.frame.place ≡ Some spot → InHeld h IsSoundPlace spot.place
 sound_with p h spot sound v l e f =
-    let here : scope_of (readings (tables_of p) h.state) ≡ scope_at p h.state.frame.section =
+    let here : scope_of (readings (tables_of p) h.state) ≡ scope_in p h.state.frame.section =
     scopes _ _ _ _ _ _ _ _ v l (permanent_classes p) (set_count p) in
     rw e (subst (λ (sc : Scope). IsSoundPlace sc spot.place) (sym here)
     (spot_sound p h.state.frame.section h.state.frame.place spot sound f))

@@ -64,7 +64,7 @@ use Rattle.ss_program.specs.declared.kinds.Owner.{Owner}
 use Rattle.ss_program.specs.declared.kinds.Owner.TheVariants.{System, OwnedBy}
 use Rattle.ss_program.specs.EventTable.{EventTable}
 use Rattle.ss_program.specs.Program.{ClassTable, SetTable, SectionTable, ProgramTable, is_main, is_routine, class_of}
-use Rattle.ss_program.specs.Program.{is_permanent, is_event, is_event_section, section_of}
+use Rattle.ss_program.specs.Program.{is_permanent, is_event, is_event_section, section_of, locals_of}
 
 -- the tables that a place may name rows of
 pub record Scope : Type 0 where
@@ -76,6 +76,15 @@ pub record Scope : Type 0 where
   pub permanent : List Bool
   -- how many sets there are
   pub sets : ℕ
+
+-- the tables that the places of section number q may name rows of
+abbrev pub scope_in : ProgramTable → ℕ → Scope
+scope_in program q = record {
+  globals = length program.globals;
+  locals = length (locals_of (slice_get program.sections q));
+  permanent = map (λ c. is_permanent c.kind) program.classes;
+  sets = length program.sets;
+}
 
 -- a variable is one of the global ones, one of the locals, or the clock
 abbrev pub IsSoundVariable : Scope → AVariable → Type 0

@@ -12,7 +12,8 @@ use Rattle.ss_prompt.specs.declared.commands.PromptCommand.TheVariants.{Plain}
 use Rattle.ss_prompt.specs.PromptState.{PromptState, with_listed}
 use Rattle.ss_prompt.specs.Listed.{listed_after}
 use Rattle.ss_prompt.specs.Plain.{plain_next, plain_said, plain_stop}
-use Rattle.ss_prompt.specs.Prompting.{prompt_meaning, prompt_answer, prompt_state_after, state_led}
+use Rattle.ss_prompt.specs.Misread.{line_misread}
+use Rattle.ss_prompt.specs.Prompting.{prompt_meaning, prompt_answer, prompt_state_after, state_led, line_next}
 use Rattle.ss_program.specs.Program.{ProgramTable}
 use Rattle.ss_prompt.specs.Reading.{plain_command_of, prompt_command_of}
 use Rattle.ss_prompt.specs.Laws.{IsPlain, ArePlain, AnswersFirst, PlainLinesAnswerTheBatch, PlainLinesLeadAsTheBatch}
@@ -38,7 +39,7 @@ with_rest s c lines =
 answered_line : (s : PromptState) (line : List ℕ) (lines : List (List ℕ)) →
     prompt_command_of s.input.program line ≡ Plain (command_of line) → plain_command_of line ≡ command_of line →
     answers prompt_meaning s (line ∷ lines) ≡ with_rest s (command_of line) lines
-unfolding answers prompt_answer prompt_state_after state_led
+unfolding answers prompt_answer prompt_state_after state_led line_misread
 answered_line s line lines e f = rw (e, f) refl
 
 -- a line that is meant so is that command
@@ -61,9 +62,8 @@ plain_batch s (line ∷ lines) h =
 
 -- the state after a line
 led_line : (s : PromptState) (line : List ℕ) →
-    prompt_command_of s.input.program line ≡ Plain (command_of line) →
-    prompt_state_after s (prompt_command_of s.input.program line) ≡ plain_after s (command_of line)
-unfolding prompt_state_after state_led
+    prompt_command_of s.input.program line ≡ Plain (command_of line) → line_next s line ≡ plain_after s (command_of line)
+unfolding prompt_state_after state_led line_misread
 led_line s line e = rw e refl
 
 pub plain_led : PlainLinesLeadAsTheBatch

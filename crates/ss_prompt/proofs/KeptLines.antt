@@ -2,7 +2,7 @@
 -- the same as the line.
 use Rattle.std.proofs.Common.{◌≡◌, ℕ, ◌+◌, ◌<◌, ◌≤◌, Bool, true, false, not, ◌||◌, nat_lt}
 use Rattle.std.proofs.Common.{List, [], ◌∷◌, length, map, refl, ap, sym, ◌∙◌, arith}
-use Rattle.std.specs.Prelude.{nat_eq, ◌==◌, if◌then◌else◌}
+use Rattle.std.specs.Prelude.{nat_eq, ◌==◌, if◌then◌else◌, None}
 use Rattle.std.proofs.lemmas.Bool.Decides.{nat_tests}
 use Rattle.std.specs.List.{filter, list_any, slice_split}
 use Rattle.ss_words.specs.TextLines.{without_empty_last}
@@ -18,8 +18,10 @@ use Rattle.ss_debug.specs.Command.{command_of, command_of_long_line}
 use Rattle.ss_prompt.specs.PromptState.{PromptState}
 use Rattle.ss_program.specs.Program.{ProgramTable}
 use Rattle.ss_prompt.specs.Reading.{or_own, or_else, bad, own_command_of, prompt_command_of}
-use Rattle.ss_prompt.specs.Reading.{plain_command_of, first_whole_command_of}
-use Rattle.ss_prompt.specs.Prompting.{prompt_meaning, prompt_state_after}
+use Rattle.ss_prompt.specs.Reading.{plain_command_of, first_whole_command_of, plain_meant}
+use Rattle.ss_prompt.specs.declared.commands.PromptCommand.{PromptCommand}
+use Rattle.ss_prompt.specs.Misread.{line_misread}
+use Rattle.ss_prompt.specs.Prompting.{prompt_meaning, line_next}
 use Rattle.ss_prompt.specs.Laws.{KeptLinesSayTheSame, LinesAreThoseOfTheBatch, PlainTextsAnswerTheBatch}
 use Rattle.ss_prompt.proofs.Batches.{plain_batch}
 
@@ -193,6 +195,28 @@ kept_says program line = (
   plain_at line (nat_lt LONGEST_LINE (length line)) refl,
 )
 
+-- a line that is too long asks for nothing in a text
+nothing_told : (program : ProgramTable) (some : Bool) (other : List ℕ) →
+    line_misread (or_own program (or_else (says some) Bad) bad) other ≡ None
+unfolding line_misread plain_meant
+nothing_told program true other = refl
+nothing_told program false other = refl
+
+long_misread : (program : ProgramTable) (line other : List ℕ) → nat_lt LONGEST_LINE (length line) ≡ true →
+    line_misread (prompt_command_of program line) other ≡ None
+long_misread program line other e =
+    ap (λ (c : PromptCommand). line_misread c other) (long_says program line e)
+    ∙ nothing_told program (list_any (λ b. not (is_stop b)) line) other
+
+-- so the text in the kept part is misread as that in the line
+misread_kept : (program : ProgramTable) (line : List ℕ) (b : Bool) → nat_lt LONGEST_LINE (length line) ≡ b →
+    line_misread (prompt_command_of program line) (kept_part line) ≡ line_misread (prompt_command_of program line) line
+misread_kept program line false e =
+    let short : length line ≤ LONGEST_LINE = grind (arith, nat_tests) in
+    ap (line_misread (prompt_command_of program line)) (short_lines_are_kept line short)
+misread_kept program line true e =
+    long_misread program line (kept_part line) e ∙ sym (long_misread program line line e)
+
 -- so they are answered the same
 answers_kept : (s : PromptState) (ls : List (List ℕ)) →
     answers prompt_meaning s (map kept_part ls) ≡ answers prompt_meaning s ls
@@ -200,7 +224,8 @@ unfolding answers
 answers_kept s [] = refl
 answers_kept s (line ∷ ls) =
     let same = kept_says s.input.program line in
-    rw (same.0, same.1, answers_kept (prompt_state_after s (prompt_command_of s.input.program line)) ls) refl
+    let misread = misread_kept s.input.program line (nat_lt LONGEST_LINE (length line)) refl in
+    rw (same.0, same.1, misread, answers_kept (line_next s line) ls) refl
 
 pub plain_texts : PlainTextsAnswerTheBatch
 plain_texts s text h = rw (answers_kept s (lines text), lines_same text) (plain_batch s (command_lines text) h)

@@ -14,9 +14,13 @@ pub mod Quits
 pub mod Others
 pub mod Searches
 pub mod StopRefusals
+pub mod Aims
+pub mod MeantChanges
+pub mod Causing
 pub mod Once
 pub mod Cleared
 pub mod Listed
 pub mod TakenRefusals
 pub mod MissingLaws
 mod NothingAsked
+pub mod Misreads

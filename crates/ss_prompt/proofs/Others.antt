@@ -6,12 +6,17 @@ use Rattle.ss_debug.specs.declared.commands.Command.{Command}
 use Rattle.ss_debug.specs.declared.commands.Command.TheVariants as plain
 use Rattle.ss_prompt.specs.declared.commands.PromptCommand.TheVariants as prompt
 use Rattle.ss_debug.specs.declared.limits.TheConstants.{GREATEST_LINE}
+use Rattle.ss_prompt.specs.declared.causes.CauseCommand.TheVariants as causes
 use Rattle.ss_prompt.specs.Cleared.{after_clear}
 use Rattle.ss_prompt.specs.Laws.{OthersLeaveTheBreakLines, OthersStandStill}
 use Rattle.ss_prompt.specs.Points.{is_movement, point_of}
 use Rattle.ss_prompt.specs.Prompting.{prompt_state_after, state_led}
 use Rattle.ss_prompt.specs.PromptState.{PromptState}
 use Rattle.ss_prompt.specs.Sections.{command_on, taken_line, line_of_section, on_line_next}
+use Rattle.ss_prompt.specs.Until.{aim_by}
+use Rattle.ss_prompt.specs.declared.manner.Manner.TheVariants.{Why, History, RunChange, BackChange}
+use Rattle.ss_prompt.proofs.Aims.{until_breaks}
+use Rattle.ss_prompt.proofs.MeantChanges.{meant_breaks}
 
 -- ---- the break lines
 
@@ -57,14 +62,19 @@ breaks s (prompt.Ask question) h k = refl
 breaks s (prompt.See sight) h k = refl
 breaks s prompt.Changed h k = refl
 breaks s (prompt.Why question) h k = refl
+breaks s (prompt.Cause causes.Why) h k = refl
+breaks s (prompt.Cause causes.Back) h k = refl
 breaks s (prompt.History question rows) h k = refl
 breaks s (prompt.Display question) h k = refl
 breaks s prompt.Undisplay h k = refl
 breaks s (prompt.UndisplayOne question) h k = refl
 breaks s (prompt.Value text numbered) h k = refl
+breaks s (prompt.Until way text numbered) h k = until_breaks s way (aim_by s text s.symbols)
+breaks s (prompt.Meant manner text numbered) h k = meant_breaks s manner text
 breaks s (prompt.Unread word numbered) h k = refl
 breaks s (prompt.Missing missing) h k = refl
 breaks s (prompt.Names name) h k = refl
+breaks s prompt.Reads h k = refl
 breaks s prompt.Warnings h k = refl
 breaks s (prompt.Help word) h k = refl
 
@@ -129,13 +139,21 @@ position s (prompt.Ask question) h = refl
 position s (prompt.See sight) h = refl
 position s prompt.Changed h = refl
 position s (prompt.Why question) h = refl
+position s (prompt.Cause causes.Why) h = refl
+position s (prompt.Cause causes.Back) h = absurd (cc)
 position s (prompt.History question rows) h = refl
 position s (prompt.Display question) h = refl
 position s prompt.Undisplay h = refl
 position s (prompt.UndisplayOne question) h = refl
 position s (prompt.Value text numbered) h = refl
+position s (prompt.Until way text numbered) h = absurd (cc)
+position s (prompt.Meant Why text numbered) h = refl
+position s (prompt.Meant History text numbered) h = refl
+position s (prompt.Meant RunChange text numbered) h = absurd (cc)
+position s (prompt.Meant BackChange text numbered) h = absurd (cc)
 position s (prompt.Unread word numbered) h = refl
 position s (prompt.Missing missing) h = refl
 position s (prompt.Names name) h = refl
+position s prompt.Reads h = refl
 position s prompt.Warnings h = refl
 position s (prompt.Help word) h = refl

@@ -1,5 +1,5 @@
 -- Whatever a command says, the run and the model are the same ones.
-use Rattle.std.proofs.Common.{◌≡◌, ℕ, Option, Some, None, Result, Ok, Err, OnOk, OnErr, refl, ap, ◌∙◌}
+use Rattle.std.proofs.Common.{◌≡◌, ℕ, Bool, true, false, List, Option, Some, None, Result, Ok, Err, OnOk, OnErr, inl, inr, refl, ap, ◌∙◌}
 use Rattle.ss_debug.specs.declared.commands.Command.{Command}
 use Rattle.ss_debug.specs.declared.commands.Command.TheVariants as plain
 use Rattle.ss_prompt.specs.declared.commands.PromptCommand.{PromptCommand}
@@ -7,12 +7,25 @@ use Rattle.ss_prompt.specs.declared.commands.PromptCommand.TheVariants as prompt
 use Rattle.ss_prompt.specs.PromptState.{PromptState, with_listed, IsSameBeside}
 use Rattle.ss_prompt.specs.Plain.{IsPlainRefused}
 use Rattle.ss_prompt.specs.Travel.{IsTravelRefused}
-use Rattle.ss_prompt.specs.Stops.{HasLookedBeside}
+use Rattle.ss_prompt.specs.Stops.{HasLookedBeside, IsStopRefused}
+use Rattle.ss_prompt.specs.Causes.{back_cause_next, IsBackCauseRefused}
+use Rattle.ss_prompt.specs.declared.causes.CauseCommand.TheVariants as causes
+use Rattle.ss_prompt.proofs.StopRefusals.{beside as beside_stop}
 use Rattle.ss_prompt.specs.Histories.{HasLookedBack}
 use Rattle.ss_prompt.specs.Once.{IsOnceRefused}
 use Rattle.ss_prompt.specs.Cleared.{IsClearRefused}
 use Rattle.ss_prompt.specs.Sections.{on_line_next, line_of_section}
 use Rattle.ss_prompt.specs.Prompting.{prompt_state_after, state_led, IsRefused}
+use Rattle.ss_prompt.specs.Until.{aim_by, until_led, until_next, IsSeekRefused, IsAimRefused, IsUntilRefused}
+use Rattle.ss_prompt.specs.Meant.{meaning_in, change_led, meant_next, IsChangeRefused, IsChangeLedRefused}
+use Rattle.ss_prompt.specs.Meant.{IsMannerRefused, IsMeantRefused}
+use Rattle.ss_expressions.specs.Meanings.{Meant, meant}
+use Rattle.ss_expressions.specs.Meanings as meanings
+use Rattle.ss_prompt.specs.declared.manner.Manner.{Manner}
+use Rattle.ss_prompt.specs.declared.manner.Manner.TheVariants.{Why, History, RunChange, BackChange}
+use Rattle.ss_prompt.specs.declared.until.Until.{Until}
+use Rattle.ss_expressions.specs.Aims.{Aimed, aimed}
+use Rattle.ss_expressions.specs.Aims as aims
 
 -- the run of two states of the prompt is the same one, and so are the model, its lines, the text of
 -- the data and the symbol table
@@ -46,6 +59,25 @@ on_line s make (Some line) = record { input = refl; model = refl; lines = refl; 
 noted : (s after : PromptState) (x : Option ℕ) → IsSameRun s after → IsSameRun s (with_listed after x)
 noted s after x h = record { input = h.input; model = h.model; lines = h.lines; data_text = h.data_text; symbols = h.symbols }
 
+-- after a movement to a state in which a condition holds
+sought : (s : PromptState) (way : Until) (o : Option Aimed) → IsSameRun s (until_led s way o)
+sought s way None = same s
+sought s way (Some (aimed aim)) = record { input = refl; model = refl; lines = refl; data_text = refl; symbols = refl }
+sought s way (Some (aims.refused answer)) = same s
+
+-- after a movement to a change
+changed : (s : PromptState) (back : Bool) (o : Option Meant) → IsSameRun s (change_led s back o)
+changed s back None = same s
+changed s back (Some (meant meaning)) = record { input = refl; model = refl; lines = refl; data_text = refl; symbols = refl }
+changed s back (Some (meanings.refused answer)) = same s
+
+-- after a command on what a text asks
+asked : (s : PromptState) (manner : Manner) (text : List ℕ) → IsSameRun s (meant_next s manner text)
+asked s Why text = same s
+asked s History text = same s
+asked s RunChange text = changed s false (meaning_in s text)
+asked s BackChange text = changed s true (meaning_in s text)
+
 -- after a command
 obeyed : (s : PromptState) (command : PromptCommand) → IsSameRun s (prompt_state_after s command)
 unfolding prompt_state_after state_led
@@ -68,14 +100,22 @@ obeyed s (prompt.Ask question) = record { input = refl; model = refl; lines = re
 obeyed s (prompt.See sight) = record { input = refl; model = refl; lines = refl; data_text = refl; symbols = refl }
 obeyed s prompt.Changed = record { input = refl; model = refl; lines = refl; data_text = refl; symbols = refl }
 obeyed s (prompt.Why question) = record { input = refl; model = refl; lines = refl; data_text = refl; symbols = refl }
+obeyed s (prompt.Cause causes.Why) = record { input = refl; model = refl; lines = refl; data_text = refl; symbols = refl }
+obeyed s (prompt.Cause causes.Back) = record { input = refl; model = refl; lines = refl; data_text = refl; symbols = refl }
 obeyed s (prompt.History question rows) = record { input = refl; model = refl; lines = refl; data_text = refl; symbols = refl }
 obeyed s (prompt.Display question) = record { input = refl; model = refl; lines = refl; data_text = refl; symbols = refl }
 obeyed s prompt.Undisplay = record { input = refl; model = refl; lines = refl; data_text = refl; symbols = refl }
 obeyed s (prompt.UndisplayOne question) = record { input = refl; model = refl; lines = refl; data_text = refl; symbols = refl }
+obeyed s (prompt.Until way text numbered) = noted s (until_next s way text) None (sought s way (aim_by s text s.symbols))
+obeyed s (prompt.Meant Why text numbered) = noted s (meant_next s Why text) s.listed (asked s Why text)
+obeyed s (prompt.Meant History text numbered) = noted s (meant_next s History text) s.listed (asked s History text)
+obeyed s (prompt.Meant RunChange text numbered) = noted s (meant_next s RunChange text) None (asked s RunChange text)
+obeyed s (prompt.Meant BackChange text numbered) = noted s (meant_next s BackChange text) None (asked s BackChange text)
 obeyed s (prompt.Value text numbered) = record { input = refl; model = refl; lines = refl; data_text = refl; symbols = refl }
 obeyed s (prompt.Unread word numbered) = record { input = refl; model = refl; lines = refl; data_text = refl; symbols = refl }
 obeyed s (prompt.Missing missing) = record { input = refl; model = refl; lines = refl; data_text = refl; symbols = refl }
 obeyed s (prompt.Names name) = record { input = refl; model = refl; lines = refl; data_text = refl; symbols = refl }
+obeyed s prompt.Reads = record { input = refl; model = refl; lines = refl; data_text = refl; symbols = refl }
 obeyed s prompt.Warnings = record { input = refl; model = refl; lines = refl; data_text = refl; symbols = refl }
 obeyed s (prompt.Help word) = record { input = refl; model = refl; lines = refl; data_text = refl; symbols = refl }
 
@@ -90,9 +130,47 @@ refused_plain s after (plain.Forget count) h = beside s after h.0
 refused_plain s after (plain.Show question) h = beside s after h.0
 refused_plain s after plain.Quit h = beside s after h.0
 
+refused_aim : (s after : PromptState) (way : Until) (o : Option Aimed) → IsAimRefused s way o after → IsSameRun s after
+unfolding IsSeekRefused
+refused_aim s after way None h = unchanged s after h
+refused_aim s after way (Some (aimed aim)) h = beside s after h.0
+refused_aim s after way (Some (aims.refused answer)) h = unchanged s after h
+
+refused_until : (s after : PromptState) (way : Until) (text : List ℕ) → IsUntilRefused s way text after → IsSameRun s after
+unfolding IsUntilRefused
+refused_until s after way text (inl e) = unchanged s after e
+refused_until s after way text (inr h) = refused_aim s after way (aim_by s text s.symbols) h
+
+refused_change : (s after : PromptState) (back : Bool) (o : Option Meant) → IsChangeLedRefused s back o after →
+    IsSameRun s after
+unfolding IsChangeRefused
+refused_change s after back None h = unchanged s after h
+refused_change s after back (Some (meant meaning)) h = beside s after h.0
+refused_change s after back (Some (meanings.refused answer)) h = unchanged s after h
+
+refused_manner : (s after : PromptState) (manner : Manner) (text : List ℕ) → IsMannerRefused s manner text after →
+    IsSameRun s after
+unfolding HasLookedBack
+refused_manner s after Why text h = beside s after h.0
+refused_manner s after History text h = beside s after h.0
+refused_manner s after RunChange text h = refused_change s after false (meaning_in s text) h
+refused_manner s after BackChange text h = refused_change s after true (meaning_in s text) h
+
+refused_meant : (s after : PromptState) (manner : Manner) (text : List ℕ) → IsMeantRefused s manner text after →
+    IsSameRun s after
+unfolding IsMeantRefused
+refused_meant s after manner text (inl e) = unchanged s after e
+refused_meant s after manner text (inr h) = refused_manner s after manner text h
+
+-- if memory was refused for the text at the stop of BACK CAUSE
+at_stop : (s after : PromptState) → IsStopRefused (back_cause_next s) after → IsSameRun s after
+at_stop s after h =
+    let b = beside_stop (back_cause_next s) after h in
+    record { input = b.2; model = b.0; lines = b.1; data_text = b.5; symbols = b.6 }
+
 -- if memory was refused for a command
 refused : (s after : PromptState) (command : PromptCommand) → IsRefused s command after → IsSameRun s after
-unfolding IsRefused IsTravelRefused IsOnceRefused IsClearRefused HasLookedBeside HasLookedBack
+unfolding IsRefused IsTravelRefused IsOnceRefused IsClearRefused IsBackCauseRefused HasLookedBeside HasLookedBack
 refused s after (prompt.Plain command) h = refused_plain s after command h
 refused s after (prompt.Travel movement) h = beside s after h.0
 refused s after (prompt.Once line) h = beside s after h.0
@@ -108,14 +186,19 @@ refused s after (prompt.Ask question) h = unchanged s after h
 refused s after (prompt.See sight) h = unchanged s after h
 refused s after prompt.Changed h = beside s after h.0
 refused s after (prompt.Why question) h = beside s after h.0
+refused s after (prompt.Cause causes.Why) h = beside s after h.0
+refused s after (prompt.Cause causes.Back) h = at_stop s after h
 refused s after (prompt.History question rows) h = beside s after h.0
 refused s after (prompt.Display question) h = unchanged s after h
 refused s after prompt.Undisplay h = unchanged s after h
 refused s after (prompt.UndisplayOne question) h = unchanged s after h
 refused s after (prompt.Value text numbered) h = unchanged s after h
+refused s after (prompt.Until way text numbered) h = refused_until s after way text h
+refused s after (prompt.Meant manner text numbered) h = refused_meant s after manner text h
 refused s after (prompt.Unread word numbered) h = unchanged s after h
 refused s after (prompt.Missing missing) h = unchanged s after h
 refused s after (prompt.Names name) h = unchanged s after h
+refused s after prompt.Reads h = beside s after h.0
 refused s after prompt.Warnings h = unchanged s after h
 refused s after (prompt.Help word) h = unchanged s after h
 
@@ -131,9 +214,44 @@ listed_plain s after (plain.Forget count) h = h.0.4
 listed_plain s after (plain.Show question) h = h.0.4
 listed_plain s after plain.Quit h = h.0.4
 
+-- for a movement to a state in which a condition holds
+listed_aim : (s after : PromptState) (way : Until) (o : Option Aimed) → IsAimRefused s way o after → after.listed ≡ s.listed
+unfolding IsSeekRefused
+listed_aim s after way None h = ap (λ (v : PromptState). v.listed) h
+listed_aim s after way (Some (aimed aim)) h = h.0.4
+listed_aim s after way (Some (aims.refused answer)) h = ap (λ (v : PromptState). v.listed) h
+
+listed_until : (s after : PromptState) (way : Until) (text : List ℕ) → IsUntilRefused s way text after →
+    after.listed ≡ s.listed
+unfolding IsUntilRefused
+listed_until s after way text (inl e) = ap (λ (v : PromptState). v.listed) e
+listed_until s after way text (inr h) = listed_aim s after way (aim_by s text s.symbols) h
+
+-- for a command on what a text asks
+listed_change : (s after : PromptState) (back : Bool) (o : Option Meant) → IsChangeLedRefused s back o after →
+    after.listed ≡ s.listed
+unfolding IsChangeRefused
+listed_change s after back None h = ap (λ (v : PromptState). v.listed) h
+listed_change s after back (Some (meant meaning)) h = h.0.4
+listed_change s after back (Some (meanings.refused answer)) h = ap (λ (v : PromptState). v.listed) h
+
+listed_manner : (s after : PromptState) (manner : Manner) (text : List ℕ) → IsMannerRefused s manner text after →
+    after.listed ≡ s.listed
+unfolding HasLookedBack
+listed_manner s after Why text h = h.0.4
+listed_manner s after History text h = h.0.4
+listed_manner s after RunChange text h = listed_change s after false (meaning_in s text) h
+listed_manner s after BackChange text h = listed_change s after true (meaning_in s text) h
+
+listed_meant : (s after : PromptState) (manner : Manner) (text : List ℕ) → IsMeantRefused s manner text after →
+    after.listed ≡ s.listed
+unfolding IsMeantRefused
+listed_meant s after manner text (inl e) = ap (λ (v : PromptState). v.listed) e
+listed_meant s after manner text (inr h) = listed_manner s after manner text h
+
 -- and for a command
 listed_still : (s after : PromptState) (command : PromptCommand) → IsRefused s command after → after.listed ≡ s.listed
-unfolding IsRefused IsTravelRefused IsOnceRefused IsClearRefused HasLookedBeside HasLookedBack
+unfolding IsRefused IsTravelRefused IsOnceRefused IsClearRefused IsBackCauseRefused HasLookedBeside HasLookedBack
 listed_still s after (prompt.Plain command) h = listed_plain s after command h
 listed_still s after (prompt.Travel movement) h = h.0.4
 listed_still s after (prompt.Once line) h = h.0.4
@@ -149,14 +267,19 @@ listed_still s after (prompt.Ask question) h = ap (λ (v : PromptState). v.liste
 listed_still s after (prompt.See sight) h = ap (λ (v : PromptState). v.listed) h
 listed_still s after prompt.Changed h = h.0.4
 listed_still s after (prompt.Why question) h = h.0.4
+listed_still s after (prompt.Cause causes.Why) h = h.0.4
+listed_still s after (prompt.Cause causes.Back) h = (beside_stop (back_cause_next s) after h).4
 listed_still s after (prompt.History question rows) h = h.0.4
 listed_still s after (prompt.Display question) h = ap (λ (v : PromptState). v.listed) h
 listed_still s after prompt.Undisplay h = ap (λ (v : PromptState). v.listed) h
 listed_still s after (prompt.UndisplayOne question) h = ap (λ (v : PromptState). v.listed) h
 listed_still s after (prompt.Value text numbered) h = ap (λ (v : PromptState). v.listed) h
+listed_still s after (prompt.Until way text numbered) h = listed_until s after way text h
+listed_still s after (prompt.Meant manner text numbered) h = listed_meant s after manner text h
 listed_still s after (prompt.Unread word numbered) h = ap (λ (v : PromptState). v.listed) h
 listed_still s after (prompt.Missing missing) h = ap (λ (v : PromptState). v.listed) h
 listed_still s after (prompt.Names name) h = ap (λ (v : PromptState). v.listed) h
+listed_still s after prompt.Reads h = h.0.4
 listed_still s after prompt.Warnings h = ap (λ (v : PromptState). v.listed) h
 listed_still s after (prompt.Help word) h = ap (λ (v : PromptState). v.listed) h
 

@@ -52,6 +52,10 @@ shown_or None other = other
 abbrev pub asked_of : List (List ℕ) → Option Question
 asked_of words = shown_or (question_of (command_behind (codes "SHOW") words)) (own_asked words)
 
+-- that question as a program has its names, or which of them it hasn't
+abbrev pub question_in : ProgramTable → List (List ℕ) → Option (Result Question Missing)
+question_in program words = option_map (asked_of_program program) (asked_of words)
+
 -- the question that the only word asks, if it is a name: a set, or else a variable
 abbrev pub bare_of : ProgramTable → Option (List ℕ) → Option Question
 bare_of program None = None

@@ -14,15 +14,15 @@ use Rattle.ss_prompt.specs.declared.cuts.Standing.TheVariants.{First, BehindRun,
 abbrev pub first_words : List ℕ
 first_words =
     codes "STEP RUN NEXT BACK BREAK CLEAR FORGET SHOW QUIT OVER OUT GO LIST BREAKS DISPLAY UNDISPLAY HELP WHY HISTORY "
-    ++ codes "NAMES WARNINGS TBREAK"
+    ++ codes "NAMES WARNINGS TBREAK READS"
 
 -- the words that may come after RUN
 abbrev pub run_words : List ℕ
-run_words = codes "CHANGE"
+run_words = codes "CHANGE UNTIL"
 
 -- the words that may come after BACK
 abbrev pub back_words : List ℕ
-back_words = codes "EVENT BREAK CHANGE OVER OUT"
+back_words = codes "EVENT BREAK CHANGE UNTIL OVER OUT CAUSE"
 
 -- the words that a question may begin with
 abbrev pub question_words : List ℕ

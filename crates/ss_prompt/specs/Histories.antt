@@ -9,7 +9,7 @@ use Rattle.ss_trace.specs.History.{history_text, newest_change, why_head, why_li
 use Rattle.ss_program.specs.Program.{ProgramTable}
 use Rattle.ss_prompt.specs.declared.missing.Missing.{Missing}
 use Rattle.ss_prompt.specs.Words.{line_behind, command_behind}
-use Rattle.ss_prompt.specs.Asked.{asked_in}
+use Rattle.ss_prompt.specs.Asked.{question_in}
 use Rattle.ss_prompt.specs.Source.{marked_line}
 use Rattle.ss_prompt.specs.PromptState.{PromptState, IsSameBeside}
 
@@ -38,7 +38,7 @@ with_number _ _ = None
 -- the question of a line, if it is not too long
 abbrev pub asked_in_line : ProgramTable → Option (List ℕ) → Option (Result Question Missing)
 asked_in_line program None = None
-asked_in_line program (Some line) = asked_in program (command_words line)
+asked_in_line program (Some line) = question_in program (command_words line)
 
 -- a question and, as its last word, a number of rows
 abbrev pub with_rows : ProgramTable → List (List ℕ) → Option (Result Question Missing × ℕ)

@@ -24,10 +24,16 @@ pub mod Cleared
 pub mod Displays
 pub mod Histories
 pub mod Past
+pub mod Causes
 pub mod Help
 pub mod Advice
 pub mod Points
 pub mod Listed
+pub mod Misread
 pub mod Prompting
 pub mod Laws
 pub mod Valued
+pub mod Until
+pub mod Manners
+pub mod Meant
+pub mod Reads

@@ -1,5 +1,5 @@
 -- The command that a line of the prompt gives.
-use Rattle.std.specs.Prelude.{ℕ, ℤ, Bool, List, [], ◌∷◌, length, map, drop, Option, Some, None}
+use Rattle.std.specs.Prelude.{ℕ, ℤ, Bool, false, not, List, [], ◌∷◌, length, map, drop, Option, Some, None}
 use Rattle.std.specs.Prelude.{if◌then◌else◌, nat_lt, codes}
 use Rattle.std.specs.Prelude.{nat_eq, nat_le, is_some, Result, Ok, Err}
 use Rattle.std.specs.Char.{to_ascii_uppercase}
@@ -15,6 +15,7 @@ use Rattle.ss_debug.specs.declared.commands.Movement.TheVariants.{Step, RunTo}
 use Rattle.ss_trace.specs.declared.movement.Movement.TheVariants.{Over, Out, BackOver, BackOut, BackTo, Go, GoEnd}
 use Rattle.ss_trace.specs.declared.movement.Movement.TheVariants.{RunChange, BackChange}
 use Rattle.ss_trace.specs.declared.question.Question.{Question as AskedQuestion}
+use Rattle.ss_trace.specs.declared.question.Question.TheVariants.{Shown}
 use Rattle.ss_program.specs.Program.{ProgramTable}
 use Rattle.ss_prompt.specs.declared.histories.TheConstants.{ROWS_UNLESS_SAID}
 use Rattle.ss_prompt.specs.declared.missing.Missing.{Missing as Unknown}
@@ -23,18 +24,26 @@ use Rattle.ss_prompt.specs.Missing.{asked_of_program, bare_asked, is_declared}
 use Rattle.ss_prompt.specs.Advice.{verb_of, has_number}
 use Rattle.ss_prompt.specs.Places.{next_line}
 use Rattle.ss_prompt.specs.Words.{command_or_bad, command_behind, line_behind, only_name_of}
-use Rattle.ss_prompt.specs.Asked.{own_asked, asked_in}
+use Rattle.ss_prompt.specs.Asked.{own_asked, asked_in, asked_of, question_in}
 use Rattle.ss_prompt.specs.Histories.{with_rows}
+use Rattle.ss_prompt.specs.Causes.{asks_cause}
+use Rattle.ss_prompt.specs.declared.causes.CauseCommand.TheVariants as causes
 use Rattle.ss_prompt.specs.Sights.{sight_of}
 use Rattle.ss_prompt.specs.Cuts.{whole_line, first_whole_line}
+use Rattle.ss_prompt.specs.Manners.{words_before}
+use Rattle.ss_prompt.specs.declared.manner.Manner.{Manner}
+use Rattle.ss_prompt.specs.declared.manner.Manner.TheVariants as manners
+use Rattle.ss_prompt.specs.declared.until.Until.{Until as Way}
+use Rattle.ss_prompt.specs.declared.until.Until.TheVariants as way
 use Rattle.ss_prompt.specs.declared.commands.PromptCommand.{PromptCommand}
 use Rattle.ss_prompt.specs.declared.commands.PromptCommand.TheVariants.{Plain, Travel, Lines, SectionLines}
 use Rattle.ss_prompt.specs.declared.commands.PromptCommand.TheVariants.{BreakSection, ClearSection, ClearAll}
-use Rattle.ss_prompt.specs.declared.commands.PromptCommand.TheVariants.{Breaks, Once}
+use Rattle.ss_prompt.specs.declared.commands.PromptCommand.TheVariants.{Breaks, Once, Cause}
 use Rattle.ss_prompt.specs.declared.commands.PromptCommand.TheVariants.{Changed, Missing, NoPlace}
-use Rattle.ss_prompt.specs.declared.commands.PromptCommand.TheVariants.{LinesBetween, UndisplayOne, Unread, Value}
+use Rattle.ss_prompt.specs.declared.commands.PromptCommand.TheVariants.{LinesBetween, UndisplayOne, Unread, Value, Until, Meant}
 use Rattle.ss_prompt.specs.declared.commands.PromptCommand.TheVariants.{Ask, See, Why, History, Display, Undisplay}
 use Rattle.ss_prompt.specs.declared.commands.PromptCommand.TheVariants.{Names, Warnings, Help}
+use Rattle.ss_prompt.specs.declared.commands.PromptCommand.TheVariants.{Reads}
 
 -- no command
 abbrev pub bad : PromptCommand
@@ -65,6 +74,10 @@ abbrev pub back_to_of : Command → PromptCommand
 back_to_of (Move (RunTo time)) = Travel (BackTo time)
 back_to_of _ = bad
 
+-- a movement to a state in which a condition holds; the words of the condition may be none
+abbrev pub until_command : Way → List (List ℕ) → PromptCommand
+until_command way words = made_or_bad (λ text. Until way text (has_number words)) (line_behind [] words)
+
 -- GO: a position is a number as RUN TO takes it
 abbrev pub go_of : Command → PromptCommand
 go_of (Move (RunTo position)) = Travel (Go position)
@@ -74,7 +87,8 @@ go_of _ = bad
 abbrev pub go_command : List (List ℕ) → PromptCommand
 go_command [] = bad
 go_command (word ∷ rest) =
-    if bytes_eq word (codes "END") then alone (Travel GoEnd) rest
+    if bytes_eq word (codes "END") then alone (Travel GoEnd) rest else
+    if bytes_eq word (codes "FIRST") then until_command way.First rest
     else go_of (command_behind (codes "RUN TO") (word ∷ rest))
 
 -- a command on a question as a program has its names, or which of them it hasn't
@@ -86,6 +100,26 @@ asked_command make (Err m) = Missing m
 abbrev pub question_command : ProgramTable → (AskedQuestion → PromptCommand) → List (List ℕ) → PromptCommand
 question_command program make words = made_or_bad (asked_command make) (asked_in program words)
 
+-- a command on a question, by its manner
+abbrev pub made_by : Manner → AskedQuestion → PromptCommand
+made_by manners.Why x = Why x
+made_by manners.History x = History x ROWS_UNLESS_SAID
+made_by manners.RunChange x = Travel (RunChange x)
+made_by manners.BackChange x = Travel (BackChange x)
+
+-- a command on what a text of some words asks
+abbrev pub text_command : Manner → List (List ℕ) → PromptCommand
+text_command manner words = made_or_bad (λ text. Meant manner text (has_number words)) (line_behind [] words)
+
+-- a command on a question, if there is one, or else on a text
+abbrev pub question_or_text : Manner → List (List ℕ) → Option (Result AskedQuestion Unknown) → PromptCommand
+question_or_text manner words (Some asked) = asked_command (made_by manner) asked
+question_or_text manner words None = text_command manner words
+
+-- a command on the question that some words ask, or else on a text
+abbrev pub manner_command : ProgramTable → Manner → List (List ℕ) → PromptCommand
+manner_command program manner words = question_or_text manner words (question_in program words)
+
 -- the words after BACK
 abbrev pub back_command : ProgramTable → List (List ℕ) → PromptCommand
 back_command program [] = bad
@@ -93,26 +127,45 @@ back_command program (word ∷ rest) =
     if bytes_eq word (codes "OVER") then back_over_of (command_behind (codes "STEP") rest) else
     if bytes_eq word (codes "OUT") then alone (Travel BackOut) rest else
     if bytes_eq word (codes "TO") then back_to_of (command_behind (codes "RUN TO") rest) else
-    if bytes_eq word (codes "CHANGE") then question_command program (λ x. Travel (BackChange x)) rest else bad
+    if bytes_eq word (codes "CHANGE") then manner_command program manners.BackChange rest else
+    if bytes_eq word (codes "UNTIL") then until_command way.Back rest else
+    if bytes_eq word (codes "CAUSE") then alone (Cause causes.Back) rest else bad
+
+-- the words after WHY: CAUSE, or what else it asks
+abbrev pub why_command : ProgramTable → List (List ℕ) → PromptCommand
+why_command program words =
+    if asks_cause words then Cause causes.Why else manner_command program manners.Why words
 
 -- the words after RUN
 abbrev pub run_command : ProgramTable → List (List ℕ) → PromptCommand
 run_command program [] = bad
 run_command program (word ∷ rest) =
-    if bytes_eq word (codes "CHANGE") then question_command program (λ x. Travel (RunChange x)) rest else bad
+    if bytes_eq word (codes "CHANGE") then manner_command program manners.RunChange rest else
+    if bytes_eq word (codes "UNTIL") then until_command way.Run rest else bad
 
--- HISTORY of the longest question whose names the program has, else the longest's missing name
+-- HISTORY of the longest question whose names the program has, else the longest's missing name, else
+-- another command
 abbrev pub history_by : Option (Result AskedQuestion Unknown) → Option (Result AskedQuestion Unknown × ℕ) →
-    PromptCommand
-history_by (Some (Ok x)) other = History x ROWS_UNLESS_SAID
-history_by longest (Some (Ok x, rows)) = History x rows
-history_by (Some (Err m)) other = Missing m
-history_by None (Some (Err m, rows)) = Missing m
-history_by None None = bad
+    PromptCommand → PromptCommand
+history_by (Some (Ok x)) shorter other = History x ROWS_UNLESS_SAID
+history_by longest (Some (Ok x, rows)) other = History x rows
+history_by (Some (Err m)) shorter other = Missing m
+history_by None (Some (Err m, rows)) other = Missing m
+history_by None None other = other
 
--- the words after HISTORY: a question, and perhaps a number of rows
+-- whether a question is on an entity of no class: then its number is one of rows
+abbrev pub is_rows_of : ProgramTable → Option AskedQuestion → Bool
+is_rows_of program (Some (Shown (Entity name x))) = not (is_some (class_named program name))
+is_rows_of program _ = false
+
+-- the longest question after HISTORY
+abbrev pub longest_in : ProgramTable → List (List ℕ) → Option (Result AskedQuestion Unknown)
+longest_in program words = if is_rows_of program (asked_of words) then None else question_in program words
+
+-- the words after HISTORY: a question, and perhaps a number of rows, or else a text
 unfoldable pub history_command : ProgramTable → List (List ℕ) → PromptCommand
-history_command program words = history_by (asked_in program words) (with_rows program words)
+history_command program words =
+    history_by (longest_in program words) (with_rows program words) (text_command manners.History words)
 
 -- the words after SHOW that are no question: CHANGED, or another sight
 abbrev pub sight_command : List (List ℕ) → PromptCommand
@@ -120,11 +173,11 @@ sight_command [] = bad
 sight_command (word ∷ rest) =
     if bytes_eq word (codes "CHANGED") then alone Changed rest else made_or_bad See (sight_of (word ∷ rest))
 
--- a bare name: the entities of a class, or else a set or a variable
+-- a bare name: the entities of a class, or else a set or a variable; another may be an attribute
 abbrev pub bare_command : ProgramTable → List ℕ → PromptCommand
 bare_command program name =
     if is_some (class_named program name) then See (Living name) else
-    if is_declared program name then Ask (bare_asked program name) else See (Living name)
+    if is_declared program name then Ask (bare_asked program name) else bad
 
 -- a sight; a bare name is read by its declaration
 abbrev pub seen_command : ProgramTable → PromptCommand → PromptCommand
@@ -192,9 +245,10 @@ own_in_words program (verb ∷ rest) =
     if bytes_eq verb (codes "BACK") then back_command program rest else
     if bytes_eq verb (codes "RUN") then run_command program rest else
     if bytes_eq verb (codes "SHOW") then show_command program (own_asked rest) rest else
-    if bytes_eq verb (codes "WHY") then question_command program Why rest else
+    if bytes_eq verb (codes "WHY") then why_command program rest else
     if bytes_eq verb (codes "HISTORY") then history_command program rest else
     if bytes_eq verb (codes "GO") then go_command rest else
+    if bytes_eq verb (codes "READS") then alone Reads rest else
     if bytes_eq verb (codes "LIST") then list_command rest else
     if bytes_eq verb (codes "BREAK") then made_or_bad BreakSection (only_name_of rest) else
     if bytes_eq verb (codes "CLEAR") then clear_command rest else
@@ -255,9 +309,16 @@ unread_or_value line None numbered = Unread None numbered
 unread_or_value line (Some verb) numbered =
     if bytes_eq verb (codes "SHOW") then show_value verb numbered (text_asked line) else Unread (Some verb) numbered
 
+-- a command on the words of a line after the first ones, as they are written, if they are not too long
+abbrev pub written_command : Manner → Bool → Option (List ℕ) → PromptCommand
+written_command manner numbered None = bad
+written_command manner numbered (Some text) = Meant manner text numbered
+
 -- the command of a line in upper case, if it is one; else what the line may ask for
 abbrev pub or_value : List ℕ → PromptCommand → PromptCommand
 or_value line (Unread verb numbered) = unread_or_value line verb numbered
+or_value line (Meant manner text numbered) =
+    written_command manner numbered (line_behind [] (drop (words_before manner) (command_words line)))
 or_value line command = command
 
 -- the command in a line that is none of docs/DEBUGGER.md as written: in upper case, its words whole

@@ -1,6 +1,7 @@
 -- The sights that SHOW gives, next to its answers to questions.
 use Rattle.std.specs.Prelude.{ℕ, Bool, ◌||◌, List, [], ◌∷◌, codes, Option, Some, None, if◌then◌else◌}
 use Rattle.std.specs.Str.{bytes_eq}
+use Rattle.ss_words.specs.Spellings.{is_reserved_name}
 use Rattle.ss_state.specs.Run.{Input}
 use Rattle.ss_inspect.specs.Frames.{calls_text, locals_text, globals_text}
 use Rattle.ss_inspect.specs.Tables.{classes_text, sets_text, sections_text}
@@ -35,6 +36,15 @@ abbrev pub places_of : Command → Option Sight
 places_of (Show (Entity class x)) = Some (Places class x)
 places_of _ = None
 
+-- a name that is no reserved word of the language
+abbrev pub unless_reserved : Option (List ℕ) → Option (List ℕ)
+unless_reserved None = None
+unless_reserved (Some name) = if is_reserved_name name then None else Some name
+
+-- the name that the only word is, if it is no reserved word
+abbrev pub free_name_of : List (List ℕ) → Option (List ℕ)
+free_name_of words = unless_reserved (only_name_of words)
+
 -- c v, if both are names
 abbrev pub entity_by : Option (List ℕ) → Option (List ℕ) → Option (List ℕ) → Option Sight
 entity_by (Some class) (Some variable) attribute = Some (ByVariable class variable attribute)
@@ -45,11 +55,11 @@ abbrev pub attribute_by : Option (List ℕ) → Option (List ℕ) → Option (Li
 attribute_by class variable None = None
 attribute_by class variable (Some name) = entity_by class variable (Some name)
 
--- c v or c v a
+-- c v or c v a, which are no reserved words
 abbrev pub by_variable : List ℕ → List ℕ → List (List ℕ) → Option Sight
-by_variable what word [] = entity_by (only_name_of (what ∷ [])) (only_name_of (word ∷ [])) None
+by_variable what word [] = entity_by (free_name_of (what ∷ [])) (free_name_of (word ∷ [])) None
 by_variable what word (name ∷ more) =
-    attribute_by (only_name_of (what ∷ [])) (only_name_of (word ∷ [])) (only_name_of (name ∷ more))
+    attribute_by (free_name_of (what ∷ [])) (free_name_of (word ∷ [])) (free_name_of (name ∷ more))
 
 -- whether a word begins other questions than those on a class
 abbrev pub is_question_word : List ℕ → Bool

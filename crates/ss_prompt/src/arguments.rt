@@ -6,20 +6,24 @@ ghost use Rattle.ss_prompt.specs.Reading.{made_or_bad, alone, over_of, back_over
 ghost use Rattle.ss_prompt.specs.Reading.{go_command, back_command, list_command, names_command, help_command};
 ghost use Rattle.ss_prompt.specs.Reading.{run_command, sight_command, show_command, bare_command};
 ghost use Rattle.ss_prompt.specs.Reading.{seen_command, question_command, history_by, history_command};
-ghost use Rattle.ss_prompt.specs.Reading.{undisplay_command, clear_command, lines_between};
+ghost use Rattle.ss_prompt.specs.Reading.{made_by, text_command, manner_command, is_rows_of, longest_in};
+ghost use Rattle.ss_prompt.specs.Reading.{undisplay_command, clear_command, lines_between, until_command};
 ghost use Rattle.ss_prompt.specs.Asked.{own_asked};
 ghost use Rattle.ss_prompt.specs.declared.commands.PromptCommand.TheVariants as prompt;
-ghost use Rattle.ss_trace.specs.declared.movement.Movement.TheVariants as trace;
 
-use crate::asked::{asked_in, own_asked};
+use crate::advice::has_number;
+use crate::asked::{asked, asked_in, own_asked, question_in};
+use crate::causes::CauseCommand;
 use crate::commands::PromptCommand;
 use crate::histories::{ROWS_UNLESS_SAID, with_rows};
-use crate::line::{command_behind, command_of_word, name_of_word, only_name};
+use crate::line::{Line, command_behind, command_of_word, name_of_word, only_name};
+use crate::manner::Manner;
 use crate::missing::{Missing, asked_of_program, bare, is_class, is_declared};
 use crate::pieces::next_word;
 use crate::seeing::sight;
 use crate::sight::Sight;
-use ss_debug::{Command, Movement as PlainMovement, Name};
+use crate::until::Until;
+use ss_debug::{Command, Movement as PlainMovement, Name, Question as Shown};
 use ss_program::Program;
 use ss_trace::{Movement, Question};
 
@@ -63,7 +67,17 @@ fn back_to(rest: &[u8]) -> PromptCommand
     }
 }
 
-/// The words after GO: END, or a position.
+/// A movement to a state in which the condition of a text holds; the text may be none.
+fn until(way: Until, rest: &[u8]) -> PromptCommand
+    ensures { result ≡ until_command way (command_words rest.now) }
+{
+    match Line::of_words(rest) {
+        Some(text) => PromptCommand::Until(way, text, has_number(rest)),
+        None => PromptCommand::Plain(Command::Bad),
+    }
+}
+
+/// The words after GO: END, FIRST and a condition, or a position.
 pub(crate) fn go(rest: &[u8]) -> PromptCommand
     ensures { result ≡ go_command (command_words rest.now) }
 {
@@ -73,6 +87,9 @@ pub(crate) fn go(rest: &[u8]) -> PromptCommand
     if word == b"END".as_slice() {
         return alone(PromptCommand::Travel(Movement::GoEnd), more);
     }
+    if word == b"FIRST".as_slice() {
+        return until(Until::First, more);
+    }
     match command_behind(b"RUN TO", rest) {
         Command::Move(PlainMovement::RunTo(position)) => {
             PromptCommand::Travel(Movement::Go(position))
@@ -81,26 +98,35 @@ pub(crate) fn go(rest: &[u8]) -> PromptCommand
     }
 }
 
-/// RUN CHANGE: a question.
-fn run_change(program: &Program, rest: &[u8]) -> PromptCommand
-    ensures { result ≡ question_command program.now (λ x. prompt.Travel (trace.RunChange x))
-        (command_words rest.now) }
+/// A command on a question, by its manner.
+pub(crate) fn made_by(manner: Manner, question: Question) -> PromptCommand
+    ensures { result ≡ made_by manner question }
 {
-    match asked_in(program, rest) {
-        None => PromptCommand::Plain(Command::Bad),
-        Some(Ok(question)) => PromptCommand::Travel(Movement::RunChange(question)),
-        Some(Err(missing)) => PromptCommand::Missing(missing),
+    match manner {
+        Manner::Why => PromptCommand::Why(question),
+        Manner::History => PromptCommand::History(question, ROWS_UNLESS_SAID),
+        Manner::RunChange => PromptCommand::Travel(Movement::RunChange(question)),
+        Manner::BackChange => PromptCommand::Travel(Movement::BackChange(question)),
     }
 }
 
-/// BACK CHANGE: a question.
-fn back_change(program: &Program, rest: &[u8]) -> PromptCommand
-    ensures { result ≡ question_command program.now (λ x. prompt.Travel (trace.BackChange x))
-        (command_words rest.now) }
+/// A command on what the words ask as a text.
+fn text_command(manner: Manner, rest: &[u8]) -> PromptCommand
+    ensures { result ≡ text_command manner (command_words rest.now) }
 {
-    match asked_in(program, rest) {
+    match Line::of_words(rest) {
+        Some(text) => PromptCommand::Meant(manner, text, has_number(rest)),
         None => PromptCommand::Plain(Command::Bad),
-        Some(Ok(question)) => PromptCommand::Travel(Movement::BackChange(question)),
+    }
+}
+
+/// A command on the question that the words ask, or else on what they ask as a text.
+pub(crate) fn on_question(program: &Program, manner: Manner, rest: &[u8]) -> PromptCommand
+    ensures { result ≡ manner_command program.now manner (command_words rest.now) }
+{
+    match question_in(program, rest) {
+        None => text_command(manner, rest),
+        Some(Ok(question)) => made_by(manner, question),
         Some(Err(missing)) => PromptCommand::Missing(missing),
     }
 }
@@ -113,7 +139,10 @@ pub(crate) fn run(program: &Program, rest: &[u8]) -> PromptCommand
         return PromptCommand::Plain(Command::Bad);
     };
     if word == b"CHANGE".as_slice() {
-        return run_change(program, more);
+        return on_question(program, Manner::RunChange, more);
+    }
+    if word == b"UNTIL".as_slice() {
+        return until(Until::Run, more);
     }
     PromptCommand::Plain(Command::Bad)
 }
@@ -134,12 +163,15 @@ fn sight_command(rest: &[u8]) -> PromptCommand
     }
 }
 
-/// A bare name: the entities of a class, or else a set or a variable.
+/// A bare name: the entities of a class, or else a set or a variable; another may be an attribute.
 fn bare_command(program: &Program, name: Name) -> PromptCommand
     ensures { result ≡ bare_command program.now name }
 {
-    if is_class(program, name.as_slice()) || !is_declared(program, name.as_slice()) {
+    if is_class(program, name.as_slice()) {
         return PromptCommand::See(Sight::Living(name));
+    }
+    if !is_declared(program, name.as_slice()) {
+        return PromptCommand::Plain(Command::Bad);
     }
     PromptCommand::Ask(bare(program, name))
 }
@@ -168,50 +200,64 @@ pub(crate) fn show(program: &Program, rest: &[u8]) -> PromptCommand
     }
 }
 
-/// The words after WHY: a question.
-pub(crate) fn why(program: &Program, rest: &[u8]) -> PromptCommand
-    ensures { result ≡ question_command program.now prompt.Why (command_words rest.now) }
-{
-    match asked_in(program, rest) {
-        None => PromptCommand::Plain(Command::Bad),
-        Some(Ok(question)) => PromptCommand::Why(question),
-        Some(Err(missing)) => PromptCommand::Missing(missing),
-    }
-}
-
 /// HISTORY of the longest question, if its names are there, or else of the one with a number of
-/// rows.
+/// rows, or else another command.
 fn history_by(
     longest: Option<Result<Question, Missing>>,
-    other: Option<(Result<Question, Missing>, u64)>,
+    shorter: Option<(Result<Question, Missing>, u64)>,
+    other: PromptCommand,
 ) -> PromptCommand
-    ensures { result ≡ history_by longest other }
+    ensures { result ≡ history_by longest shorter other }
 {
     match longest {
         Some(Ok(question)) => PromptCommand::History(question, ROWS_UNLESS_SAID),
-        Some(Err(missing)) => match other {
+        Some(Err(missing)) => match shorter {
             Some((asked, rows)) => match asked {
                 Ok(question) => PromptCommand::History(question, rows),
                 Err(_) => PromptCommand::Missing(missing),
             },
             None => PromptCommand::Missing(missing),
         },
-        None => match other {
+        None => match shorter {
             Some((asked, rows)) => match asked {
                 Ok(question) => PromptCommand::History(question, rows),
                 Err(missing) => PromptCommand::Missing(missing),
             },
-            None => PromptCommand::Plain(Command::Bad),
+            None => other,
         },
     }
 }
 
-/// The words after HISTORY: a question, and perhaps a number of rows.
+/// Whether a question is on an entity of no class: then its number is one of rows.
+fn is_rows_of(program: &Program, question: &Option<Question>) -> bool
+    ensures { result ≡ is_rows_of program.now question.now }
+{
+    match question {
+        Some(Question::Shown(Shown::Entity(name, _))) => !is_class(program, name.as_slice()),
+        _ => false,
+    }
+}
+
+/// The longest question after HISTORY.
+fn longest_in(program: &Program, rest: &[u8]) -> Option<Result<Question, Missing>>
+    ensures { result ≡ longest_in program.now (command_words rest.now) }
+{
+    if is_rows_of(program, &asked(rest)) {
+        return None;
+    }
+    question_in(program, rest)
+}
+
+/// The words after HISTORY: a question, and perhaps a number of rows, or else a text.
 #[tactic(auto, unfolding(crate::specs::Reading::history_command))]
 pub(crate) fn history(program: &Program, rest: &[u8]) -> PromptCommand
     ensures { result ≡ history_command program.now (command_words rest.now) }
 {
-    history_by(asked_in(program, rest), with_rows(program, rest))
+    history_by(
+        longest_in(program, rest),
+        with_rows(program, rest),
+        text_command(Manner::History, rest),
+    )
 }
 
 /// The words after BACK.
@@ -231,7 +277,13 @@ pub(crate) fn back(program: &Program, rest: &[u8]) -> PromptCommand
         return back_to(more);
     }
     if word == b"CHANGE".as_slice() {
-        return back_change(program, more);
+        return on_question(program, Manner::BackChange, more);
+    }
+    if word == b"UNTIL".as_slice() {
+        return until(Until::Back, more);
+    }
+    if word == b"CAUSE".as_slice() {
+        return alone(PromptCommand::Cause(CauseCommand::Back), more);
     }
     PromptCommand::Plain(Command::Bad)
 }

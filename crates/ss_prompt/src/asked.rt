@@ -2,7 +2,7 @@
 ghost use Rattle.std.specs.Prelude.{◌≡◌};
 ghost use Rattle.ss_debug.specs.CommandLines.{command_words};
 ghost use Rattle.ss_prompt.specs.Asked.{attribute_asked, count_asked, own_asked, asked_of};
-ghost use Rattle.ss_prompt.specs.Asked.{asked_or_bare, asked_in};
+ghost use Rattle.ss_prompt.specs.Asked.{question_in, asked_or_bare, asked_in};
 
 use crate::line::{command_behind, command_of_two, only_name};
 use crate::missing::{Missing, asked_of_program, bare};
@@ -55,6 +55,14 @@ pub(crate) fn asked(words: &[u8]) -> Option<Question>
         Command::Show(question) => Some(Question::Shown(question)),
         _ => own_asked(words),
     }
+}
+
+/// That question as a program has its names, or which of them it hasn't.
+pub(crate) fn question_in(program: &Program, words: &[u8]) -> Option<Result<Question, Missing>>
+    ensures { result ≡ question_in program.now (command_words words.now) }
+{
+    let question = asked(words)?;
+    Some(asked_of_program(program, question))
 }
 
 /// The question that the words of a line ask, a bare name too.

@@ -17,7 +17,7 @@ const FEWEST_LETTERS: usize = 3;
 /// The words that a line may begin with.
 pub(crate) const FIRST_WORDS: &[u8] =
     b"STEP RUN NEXT BACK BREAK CLEAR FORGET SHOW QUIT OVER OUT GO LIST BREAKS DISPLAY UNDISPLAY HELP \
-    WHY HISTORY NAMES WARNINGS TBREAK";
+    WHY HISTORY NAMES WARNINGS TBREAK READS";
 
 /// The words that may come after SHOW.
 pub(crate) const SHOW_WORDS: &[u8] =
@@ -80,8 +80,8 @@ impl Standing {
     {
         match self {
             Standing::First => FIRST_WORDS,
-            Standing::BehindRun => b"CHANGE",
-            Standing::BehindBack => b"EVENT BREAK CHANGE OVER OUT",
+            Standing::BehindRun => b"CHANGE UNTIL",
+            Standing::BehindBack => b"EVENT BREAK CHANGE UNTIL OVER OUT CAUSE",
             Standing::BehindShow => SHOW_WORDS,
             Standing::Asked => b"CLOCK WHERE VAR SET EVENTS TAKEN ENTRY REPORT COUNT",
             Standing::Free => b"",

@@ -15,13 +15,18 @@ ghost use Rattle.ss_prompt.specs.Names.{warnings_told};
 ghost use Rattle.ss_prompt.specs.Valued.{Suits};
 ghost use Rattle.ss_prompt.specs.Prompting.{prompt_answer, state_led, prompt_state_after, IsRefused, is_quit};
 
+mod causes;
 mod changes;
 mod cleared;
 mod displays;
 mod listed;
+mod meant;
 mod model;
 mod once;
 mod past;
+mod reads;
+mod taken;
+mod until;
 mod valued;
 
 use crate::advice::push_unread;
@@ -36,7 +41,6 @@ use crate::seeing::push_sight;
 use crate::sight::Sight;
 use crate::source::push_marked_line;
 use crate::stops::{goes_back, travels_back};
-use crate::taken::push_next;
 use ss_changes::{push_stop_changes, push_stop_changes_ahead};
 use ss_check::SymbolTable;
 use ss_console::Go;
@@ -117,6 +121,11 @@ impl<'a> PromptDesk<'a> {
             symbols,
             alloc,
         }
+    }
+
+    /// The allocator of what the prompt makes.
+    pub fn alloc(&self) -> Global {
+        self.alloc
     }
 
     /// Takes other questions that are answered at each stop, and gives its own for them.
@@ -242,26 +251,6 @@ impl<'a> PromptDesk<'a> {
         self.push_place_text(debugger, text)
     }
 
-    /// SHOW TAKEN.
-    #[tactic(auto, using(crate::proofs::TakenRefusals::after_taken, crate::proofs::StopRefusals::movements))]
-    fn show_taken<S: SetBoard>(
-        &self,
-        debugger: &mut Debugger<S>,
-        answer: &mut Vec<u8>,
-    ) -> Result<(), AllocError>
-        ensures place { OnOk result (state_at debugger.new self.now
-            ≡ plain_next (state_at debugger.old self.now) (Command.Show PlainQuestion.Taken)) }
-        ensures said { OnOk result (answer.new.items ≡ answer.old.items
-            ++ plain_said (state_at debugger.old self.now) (Command.Show PlainQuestion.Taken)) }
-        ensures memory { OnErr result (IsPlainRefused (state_at debugger.old self.now)
-            (Command.Show PlainQuestion.Taken) (state_at debugger.new self.now)) }
-    {
-        obey(debugger, Command::Show(PlainQuestion::Taken), answer)?;
-        let machine = debugger.machine();
-        machine.known();
-        push_next(answer, self.data_text, machine.taken())
-    }
-
     /// A command of docs/DEBUGGER.md.
     #[tactic(auto, using(crate::proofs::StopRefusals::movements))]
     fn obey_plain<S: SetBoard>(
@@ -351,6 +340,22 @@ impl<'a> PromptDesk<'a> {
             PromptCommand::Plain(command) => return self.obey_plain(debugger, command, answer),
             PromptCommand::Value(text, is_numbered) => {
                 self.show_value(debugger, &text, is_numbered, answer)?;
+                return Ok(Go::On);
+            }
+            PromptCommand::Until(way, text, is_numbered) => {
+                self.go_until(debugger, way, &text, is_numbered, answer)?;
+                return Ok(Go::On);
+            }
+            PromptCommand::Meant(manner, text, is_numbered) => {
+                self.follow_text(debugger, manner, &text, is_numbered, answer)?;
+                return Ok(Go::On);
+            }
+            PromptCommand::Cause(command) => {
+                self.cause(debugger, command, answer)?;
+                return Ok(Go::On);
+            }
+            PromptCommand::Reads => {
+                self.reads(debugger, answer)?;
                 return Ok(Go::On);
             }
             PromptCommand::Travel(movement) => self.travel(debugger, movement, answer),

@@ -6,7 +6,7 @@ use ss_debug::Name;
 use std::alloc::AllocError;
 
 /// A row for each form of a command: the word that it begins with; its form, and its effect.
-pub const HELP_ROWS: [(&[u8], &[u8]); 61] = [
+pub const HELP_ROWS: [(&[u8], &[u8]); 67] = [
     (b"STEP", b"STEP [n]: n steps forward, 1 if not said"),
     (
         b"RUN",
@@ -16,6 +16,10 @@ pub const HELP_ROWS: [(&[u8], &[u8]); 61] = [
     (
         b"RUN",
         b"RUN CHANGE x: forward to after a step that changes x",
+    ),
+    (
+        b"RUN",
+        b"RUN UNTIL c: forward to a state in which condition c holds",
     ),
     (b"NEXT", b"NEXT: forward to the next event start"),
     (
@@ -32,6 +36,14 @@ pub const HELP_ROWS: [(&[u8], &[u8]); 61] = [
     ),
     (
         b"BACK",
+        b"BACK UNTIL c: back to a state in which condition c holds",
+    ),
+    (
+        b"BACK",
+        b"BACK CAUSE: back to the step that brought this section about",
+    ),
+    (
+        b"BACK",
         b"BACK OVER [n]: back over n statements of this section",
     ),
     (
@@ -41,6 +53,10 @@ pub const HELP_ROWS: [(&[u8], &[u8]); 61] = [
     (b"BACK", b"BACK TO t: back to a state before time t"),
     (b"GO", b"GO p: to state p, forward or back"),
     (b"GO", b"GO END: forward to the end, without a bound"),
+    (
+        b"GO",
+        b"GO FIRST c: to the first state of all in which condition c holds",
+    ),
     (b"BREAK", b"BREAK l: stop at line l"),
     (b"BREAK", b"BREAK r: stop at the first place of section r"),
     (b"CLEAR", b"CLEAR l: no stop at line l any more"),
@@ -106,8 +122,16 @@ pub const HELP_ROWS: [(&[u8], &[u8]); 61] = [
     (b"SHOW", b"SHOW REPORT: the report so far"),
     (b"WHY", b"WHY x: the newest step that changed x"),
     (
+        b"WHY",
+        b"WHY CAUSE: the step that brought this section about",
+    ),
+    (
         b"HISTORY",
         b"HISTORY x [n]: the newest n steps that changed x, 10 if not said",
+    ),
+    (
+        b"READS",
+        b"READS: what the next statement looks at, and the steps that changed it last",
     ),
     (
         b"DISPLAY",

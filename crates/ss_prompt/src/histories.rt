@@ -3,8 +3,9 @@ ghost use Rattle.std.specs.Prelude.{◌≡◌, [], codes};
 ghost use Rattle.ss_debug.specs.CommandLines.{command_words};
 ghost use Rattle.ss_prompt.specs.Words.{line_behind, command_behind};
 ghost use Rattle.ss_prompt.specs.Histories.{all_but_last, only_last, with_rows};
+ghost use Rattle.ss_prompt.specs.Meant.{text_with_rows};
 
-use crate::asked::asked_in;
+use crate::asked::question_in;
 use crate::line::{Line, command_behind, command_of_word};
 use crate::missing::Missing;
 use crate::pieces::next_word;
@@ -50,12 +51,23 @@ fn forget_last(line: &[u8]) -> Command
     command_of_word(b"FORGET", word)
 }
 
+/// A text without its last word, if that is a number of rows.
+pub(crate) fn text_with_rows(text: &[u8]) -> Option<(Line, u64)>
+    ensures { result ≡ text_with_rows text.now }
+{
+    let front = all_but_last(text)?;
+    match forget_last(text) {
+        Command::Forget(rows) => Some((front, rows)),
+        _ => None,
+    }
+}
+
 /// A question and, as its last word, a number of rows.
 pub(crate) fn with_rows(program: &Program, words: &[u8]) -> Option<(Result<Question, Missing>, u64)>
     ensures { result ≡ with_rows program.now (command_words words.now) }
 {
     let front = all_but_last(words)?;
-    let question = asked_in(program, front.as_slice())?;
+    let question = question_in(program, front.as_slice())?;
     match forget_last(words) {
         Command::Forget(rows) => Some((question, rows)),
         _ => None,

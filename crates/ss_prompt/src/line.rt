@@ -68,6 +68,14 @@ impl Line {
         Some(line)
     }
 
+    /// The line of the words of another, if it is no longer than a line may be.
+    pub fn of_words(rest: &[u8]) -> Option<Line>
+        ensures { result ≡ line_behind [] (command_words rest.now) }
+    {
+        let line = Line::new(b"")?;
+        line.with_words(rest)
+    }
+
     /// Its bytes.
     pub fn as_slice(&self) -> &[u8]
         ensures { result.now ≡ self.now }

@@ -10,6 +10,7 @@ ghost use Rattle.ss_prompt.specs.PromptState.{prompt_state_of, greeting};
 ghost use Rattle.ss_prompt.specs.Prompting.{prompt_meaning};
 
 use crate::desk::PromptDesk;
+use crate::misread::line_misread;
 use crate::read::{plain_command, prompt_command};
 use crate::refusal::put_refusal_at;
 use ss_check::SymbolTable;
@@ -111,9 +112,13 @@ impl<'a, S: SetBoard> Answerer for Prompt<'a, S> {
         self.debugger.machine().position()
     }
 
-    #[tactic(auto, using(crate::proofs::Quits::quit_is_obeyed))]
+    #[tactic(auto, using(crate::proofs::Quits::quit_is_obeyed, crate::proofs::Misreads::lines))]
     fn answer(&mut self, line: &[u8], answer: &mut Vec<u8>) -> Result<Go, AllocError> {
         let command = prompt_command(self.debugger.machine().program(), line);
+        if let Some(misread) = line_misread(self.desk.alloc(), &command, line)? {
+            answer.extend_from_slice(&misread)?;
+            return Ok(going(line));
+        }
         self.desk.obey(&mut self.debugger, command, answer)?;
         Ok(going(line))
     }

@@ -1,21 +1,24 @@
 //! Reads the lines of the prompt.
-ghost use Rattle.std.specs.Prelude.{◌≡◌, codes};
+ghost use Rattle.std.specs.Prelude.{◌≡◌, [], codes, drop};
 ghost use Rattle.ss_debug.specs.CommandLines.{command_words};
 ghost use Rattle.ss_prompt.specs.Reading.{own_in_words, own_of_whole, own_command_of, placed, once_of};
 ghost use Rattle.ss_prompt.specs.Reading.{entity_command, plain_meant, first_whole_command_of};
-ghost use Rattle.ss_prompt.specs.Reading.{text_asked, show_value, unread_or_value, or_value};
+ghost use Rattle.ss_prompt.specs.Reading.{text_asked, show_value, unread_or_value, written_command, or_value};
+ghost use Rattle.ss_prompt.specs.Manners.{words_before};
 ghost use Rattle.ss_prompt.specs.Reading.{advised, plain_command_of, prompt_command_of};
 ghost use Rattle.ss_prompt.specs.Places.{next_line};
-ghost use Rattle.ss_prompt.specs.Words.{command_behind};
+ghost use Rattle.ss_prompt.specs.Words.{command_behind, line_behind};
 
 use crate::advice::{has_number, verb_of};
 use crate::arguments::{
     alone, back, break_section, clear, display, go, help, history, list, names, over, run, show,
-    undisplay, why,
+    undisplay,
 };
+use crate::causes::why;
 use crate::commands::PromptCommand;
 use crate::cuts::{first_whole_line, whole_line};
 use crate::line::{Line, command_behind};
+use crate::manner::Manner;
 use crate::missing::{is_class, is_set};
 use crate::pieces::next_word;
 use crate::places::next_line;
@@ -76,6 +79,9 @@ fn own_in_words(program: &Program, line: &[u8]) -> PromptCommand
     }
     if verb == b"GO".as_slice() {
         return go(rest);
+    }
+    if verb == b"READS".as_slice() {
+        return alone(PromptCommand::Reads, rest);
     }
     if verb == b"LIST".as_slice() {
         return list(rest);
@@ -171,8 +177,7 @@ fn text_asked(line: &[u8]) -> Option<Line>
         Some((_, rest)) => rest,
         None => line,
     };
-    let text = Line::new(b"")?;
-    text.with_words(rest)
+    Line::of_words(rest)
 }
 
 /// SHOW of the words of a line after the first, if they are not too long.
@@ -202,12 +207,42 @@ fn unread_or_value(line: &[u8], verb: Option<Name>, is_numbered: bool) -> Prompt
     }
 }
 
+/// The words of a line after the first two.
+fn behind_two(line: &[u8]) -> Option<Line>
+    ensures { result ≡ line_behind [] (drop 2 (command_words line.now)) }
+{
+    let Some((_, rest)) = next_word(line) else {
+        return Line::of_words(line);
+    };
+    match next_word(rest) {
+        Some((_, more)) => Line::of_words(more),
+        None => Line::of_words(rest),
+    }
+}
+
+/// A command on the words of a line after the first ones, as they are written.
+fn written_command(line: &[u8], manner: Manner, is_numbered: bool) -> PromptCommand
+    ensures { result ≡ written_command manner is_numbered
+        (line_behind [] (drop (words_before manner) (command_words line.now))) }
+{
+    let text = if manner.moves() {
+        behind_two(line)
+    } else {
+        text_asked(line)
+    };
+    match text {
+        Some(text) => PromptCommand::Meant(manner, text, is_numbered),
+        None => PromptCommand::Plain(Command::Bad),
+    }
+}
+
 /// The command of a line in upper case, if it is one; else what the line may ask for.
 fn or_value(line: &[u8], command: PromptCommand) -> PromptCommand
     ensures { result ≡ or_value line.now command }
 {
     match command {
         PromptCommand::Unread(verb, is_numbered) => unread_or_value(line, verb, is_numbered),
+        PromptCommand::Meant(manner, _, is_numbered) => written_command(line, manner, is_numbered),
         other => other,
     }
 }

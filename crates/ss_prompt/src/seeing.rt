@@ -3,19 +3,20 @@ ghost use Rattle.std.specs.Prelude.{◌≡◌, ◌++◌, codes, OnOk};
 ghost use Rattle.ss_machine.specs.Moment.{position};
 ghost use Rattle.ss_debug.specs.CommandLines.{command_words};
 ghost use Rattle.ss_prompt.specs.Words.{command_behind};
-ghost use Rattle.ss_prompt.specs.Sights.{sight_alone, places_of, by_variable, is_question_word};
+ghost use Rattle.ss_prompt.specs.Sights.{sight_alone, places_of, unless_reserved, by_variable, is_question_word};
 ghost use Rattle.ss_prompt.specs.Sights.{sight_of, sight_said};
 
 use crate::line::{command_behind, name_of_word, only_name};
 use crate::pieces::next_word;
 use crate::sight::Sight;
-use ss_debug::{Command, Question};
+use ss_debug::{Command, Name, Question};
 use ss_inspect::{
     push_by_variable, push_calls, push_classes, push_globals, push_living, push_locals,
     push_places, push_sections, push_sets,
 };
 use ss_links::SetBoard;
 use ss_machine::Machine;
+use ss_words::is_reserved_name;
 use std::alloc::{AllocError, Global};
 
 /// The sight of one word after SHOW.
@@ -54,18 +55,29 @@ fn places(rest: &[u8]) -> Option<Sight>
     }
 }
 
-/// `c v` or `c v a`.
+/// A name that is no reserved word of the language.
+fn unless_reserved(name: Option<Name>) -> Option<Name>
+    ensures { result ≡ unless_reserved name }
+{
+    let name = name?;
+    if is_reserved_name(name.as_slice()) {
+        return None;
+    }
+    Some(name)
+}
+
+/// `c v` or `c v a`, which are no reserved words.
 fn by_variable(what: &[u8], word: &[u8], rest: &[u8]) -> Option<Sight>
     ensures { result ≡ by_variable what.now word.now (command_words rest.now) }
 {
     let attribute = if next_word(rest).is_some() {
-        let name = only_name(rest)?;
+        let name = unless_reserved(only_name(rest))?;
         Some(name)
     } else {
         None
     };
-    let class = name_of_word(what)?;
-    let variable = name_of_word(word)?;
+    let class = unless_reserved(name_of_word(what))?;
+    let variable = unless_reserved(name_of_word(word))?;
     Some(Sight::ByVariable(class, variable, attribute))
 }
 

@@ -30,13 +30,13 @@ module _ {A : Type 0} (n : ℕ) (d : A → ℕ) (sp : A → List Plain) (ends : 
       let f = goal.found (λ b. d b ≤ n) sp p l.good ws r a (read_is ws r (whole p ws).0 a refl h) in
       (f.1, f.0)
 
-  again : (a : A) → d a ≤ n → ends [] → p (sp a) ≡ (Ok a, [])
+  pub again : (a : A) → d a ≤ n → ends [] → p (sp a) ≡ (Ok a, [])
   again a f e = ap p (sym (append-nil (sp a))) ∙ l.again a [] f e
 
   found : (a : A) → d a ≤ n → ends [] → read_of p (sp a) ≡ Some a
   found a f e = ap (λ (x : Read A). result_ok x.0) (goal.whole_read_back sp p a (again a f e))
 
-nothing_after : Ends []
+pub nothing_after : Ends []
 nothing_after = record { no_open = refl; no_star = refl; no_sign = refl }
 
 pub expression_is_spelled : ExpressionIsSpelled

@@ -167,7 +167,7 @@ copula Is = alone _ refl
 copula IsNot = also _ refl (alone _ refl)
 
 mutual
-  inner_condition : (c : Condition) → Inner (spell_condition c)
+  pub inner_condition : (c : Condition) → Inner (spell_condition c)
   inner_condition (condition c cs) = joined (inner_conjunction c) (inner_alternatives cs)
 
   inner_alternatives : (cs : Alternatives) → Inner (spell_alternatives cs)

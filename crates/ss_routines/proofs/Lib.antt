@@ -41,6 +41,7 @@ pub mod AlwaysAnswered
 pub mod AnswerByReading
 pub mod AskedWords
 mod AskedExamples
+pub mod Misfits
 mod BlockWrites
 mod LevelWrites
 mod SectionWrites

@@ -1,6 +1,6 @@
 -- Reading a condition from left to right.
 -- A parenthesis may open a condition or an expression: its closing one shows which.
-use Rattle.std.specs.Prelude.{◌⊎◌, ℕ, zero, suc, true, false, List, [], ◌∷◌, Option, Some, None}
+use Rattle.std.specs.Prelude.{◌⊎◌, ℕ, zero, suc, true, false, Option, Some, None}
 use mathlib.Core.Logic.{inl, inr}
 use Rattle.ss_words.specs.declared.mark.Mark.TheVariants as m
 use Rattle.ss_words.specs.declared.word.Sign.TheVariants as s
@@ -17,8 +17,8 @@ use Rattle.ss_routines.specs.Combined.{if_mark, star, by_table, if_open}
 use Rattle.ss_routines.specs.Expr.{Expr, expr, no_sums, term, no_products, named, applied, within}
 use Rattle.ss_routines.specs.Expr.{no_exprs, sums_of, products_of}
 use Rattle.ss_routines.specs.ExprReading.{rest_with, expr_at}
-use Rattle.ss_routines.specs.Condition.{Reference, Condition, condition, Alternatives, no_alternatives, alternative}
-use Rattle.ss_routines.specs.Condition.{Conjunction, conjunction, Additions, no_additions, addition}
+use Rattle.ss_routines.specs.Condition.{Reference, Condition, condition}
+use Rattle.ss_routines.specs.Condition.{Conjunction, conjunction}
 use Rattle.ss_routines.specs.Condition.{Relation, compared, is_empty, is_in, nested}
 use Rattle.ss_routines.specs.SimpleReading.{reference_at}
 use Rattle.ss_routines.specs.Condition.{alternatives_of, additions_of}

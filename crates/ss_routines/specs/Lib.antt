@@ -16,6 +16,7 @@ pub mod OrValueView
 pub mod PartView
 pub mod View
 pub mod Asked
+pub mod Misfit
 pub mod LoopReading
 pub mod BlockReading
 pub mod SectionReading

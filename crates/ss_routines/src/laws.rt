@@ -9,6 +9,8 @@ ghost use Rattle.ss_routines.specs.Examples.{OpenPhrasesAreTold};
 ghost use Rattle.ss_routines.specs.Examples.{ExpressionIsAsked, ConditionIsAsked};
 ghost use Rattle.ss_routines.specs.Asked.{ExpressionIsSpelled, SpelledIsExpression};
 ghost use Rattle.ss_routines.specs.Asked.{ConditionIsSpelled, SpelledIsCondition};
+ghost use Rattle.ss_routines.specs.Misfit.{MisfitIsRefused, FittingIsCondition, ConditionFits};
+ghost use Rattle.ss_routines.specs.Misfit.{ExpressionBegins};
 
 /// No two programs have one spelling.
 pub fn spelling_is_unique()
@@ -117,4 +119,25 @@ pub fn expression_is_asked()
 /// `X = 1 AND S IS EMPTY` is a condition, and `X` and `X = 1 Y = 1` are none.
 pub fn condition_is_asked()
     ensures { ConditionIsAsked }
+{}
+
+/// Plain words that are refused as a condition are so by the definition of the rule.
+pub fn misfit_is_refused()
+    ensures { MisfitIsRefused }
+{}
+
+/// Plain words that are not refused are a condition.
+pub fn fitting_is_condition()
+    ensures { FittingIsCondition }
+{}
+
+/// Plain words that are a condition are not refused.
+pub fn condition_fits()
+    ensures { ConditionFits }
+{}
+
+/// Some condition begins with the words of each expression: words with which no condition begins
+/// are the beginning of no expression.
+pub fn expression_begins()
+    ensures { ExpressionBegins }
 {}

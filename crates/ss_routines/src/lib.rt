@@ -3,11 +3,13 @@
 
 mod asked;
 pub mod laws;
+mod misfit;
 mod program;
 mod reading;
 mod tree;
 
 pub use asked::{condition, expression};
+pub use misfit::{Misfit, condition_misfit};
 pub use program::sections;
 pub use ss_words::{Comparison, Copula, Direction, QualifierWord, SetEnd, Statistic};
 pub use tree::condition::{Condition, Conjunction, Reference, Relation};

@@ -6,6 +6,7 @@ use Rattle.std.proofs.Common.{append_assoc, add-one}
 use borrow.Author.Tests.{ltb-true, ltb-false}
 use Rattle.std.specs.Io.KnownBytes.{Appends}
 use Rattle.ss_program.specs.Program.{ProgramTable}
+use Rattle.ss_check.specs.Symbols.{Symbols}
 use Rattle.ss_state.specs.declared.limits.TheConstants.{LAST_POSITION}
 use Rattle.ss_state.specs.declared.stepped.Stepped.TheVariants.{Moved}
 use Rattle.ss_machine.specs.Moment.{Moment, position}
@@ -17,7 +18,7 @@ use Rattle.ss_trace.specs.Value.{value_at}
 use Rattle.ss_session.specs.declared.load.LoadFault.{LoadFault}
 use Rattle.ss_session.specs.declared.load.LoadFault.TheVariants as load
 use Rattle.ss_session.specs.Load.{IsLoadFault}
-use Rattle.ss_session.specs.Model.{accepted, IsOutcome}
+use Rattle.ss_session.specs.Model.{accepted, IsOfModel, IsOutcome}
 use Rattle.ss_session.specs.Texts.{OutletState}
 use Rattle.ss_session.proofs.Pieces.{appends_then, appends_none, appends_no_more}
 use Rattle.ss_run.specs.declared.followed.Followed.{Followed}
@@ -29,7 +30,7 @@ use Rattle.ss_run.specs.declared.whole_run.RunCut.TheVariants.{Write, Memory}
 use Rattle.ss_run.specs.declared.whole_run.WholeRun.{WholeRun}
 use Rattle.ss_run.specs.Report.{IsRunEnd, SaysEnd}
 use Rattle.ss_run.specs.Advance.{HasAdvanced, MakesRun, RefusesText, RefusesBy, IsRefusal}
-use Rattle.ss_run.specs.Results.{Asked}
+use Rattle.ss_run.specs.Results.{Asked, wanted}
 use Rattle.ss_run.specs.Rows.{csv_row}
 use Rattle.ss_run.specs.Trace.{column_names, step_fields, change_row, step_rows, rows_before, trace_text}
 use Rattle.ss_run.specs.Trace.{Reaches}
@@ -38,7 +39,7 @@ use Rattle.ss_run.specs.Tracing.{IsHere, AreKept, row_of, HasTraced, TracesSoFar
 use Rattle.ss_run.specs.Tracing.{CutsText, CutsStep, CutsRows, MakesTrace}
 use Rattle.ss_run.proofs.Advances.{further, advanced_here}
 use Rattle.ss_run.proofs.Parts.{part_none, part_whole, part_behind}
-use Rattle.ss_run.proofs.Reports.{run_says, refused_says}
+use Rattle.ss_run.proofs.Reports.{outcome_of, run_says, refused_says}
 
 -- the row by the values that are known of a place
 pub row_is : (t : Input) (q : ℕ) (here : Here) (x : Question) (value : List ℕ) → IsHere t q here →
@@ -226,22 +227,25 @@ same_cut : (a b : RunCut) → let r : Result WholeRun RunCut = Err a in r ≡ Er
 same_cut a b e = cc
 
 -- the results for a run that was made and traced
-pub trace_says : (result : Result WholeRun RunCut) (program : ProgramTable) (model data_text : List ℕ)
-    (xs : List Question) (asked : Asked) (old new trace traced : OutletState) → IsOutcome model (accepted program) →
-    MakesTrace result data_text (input_with program data_text) xs asked old new trace traced →
+pub trace_says : (result : Result WholeRun RunCut) (program : ProgramTable) (symbols : Symbols)
+    (model data_text : List ℕ) (xs : List Question) (asked : Asked) (old new trace traced : OutletState) →
+    IsOfModel model program symbols →
+    MakesTrace result data_text (input_with program data_text) xs (wanted asked symbols) old new trace traced →
     TraceSays result model data_text xs asked old new trace traced
 unfolding MakesTrace TraceSays MakesRun
-trace_says (Ok whole) program model data_text xs asked old new trace traced o (inl h) = (
-  run_says (Ok whole) program model data_text asked old new o h.0,
-  ends_traced whole.end program model data_text xs h.0.0 trace traced o h.0.2 h.1,
+trace_says (Ok whole) program symbols model data_text xs asked old new trace traced o (inl h) = (
+  run_says (Ok whole) program symbols model data_text asked old new o h.0,
+  ends_traced whole.end program model data_text xs h.0.0 trace traced (outcome_of model program symbols o) h.0.2 h.1,
 )
-trace_says (Ok whole) program model data_text xs asked old new trace traced o (inr h) =
+trace_says (Ok whole) program symbols model data_text xs asked old new trace traced o (inr h) =
     absurd (ok_is_no_cut whole h.0 h.1)
-trace_says (Err cut) program model data_text xs asked old new trace traced o (inl h) =
-    inl (run_says (Err cut) program model data_text asked old new o h.0, inr (program, o, h.1))
-trace_says (Err cut) program model data_text xs asked old new trace traced o (inr h) =
+trace_says (Err cut) program symbols model data_text xs asked old new trace traced o (inl h) = inl (
+  run_says (Err cut) program symbols model data_text asked old new o h.0,
+  inr (program, outcome_of model program symbols o, h.1),
+)
+trace_says (Err cut) program symbols model data_text xs asked old new trace traced o (inr h) =
     let part = rw (← same_cut cut h.0 h.1) at h.3 in
-    inr (h.2, (program, o, part))
+    inr (h.2, (program, outcome_of model program symbols o, part))
 
 ends_refused : (end : RunEnd) (whole : WholeRun) (model data_text code : List ℕ) (number : ℕ) (xs : List Question)
     (trace : OutletState) → RefusesBy end whole model code number → EndsTraced end model data_text xs trace trace

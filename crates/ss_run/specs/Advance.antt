@@ -21,7 +21,7 @@ use Rattle.ss_run.specs.declared.whole_run.WholeRun.{WholeRun}
 use Rattle.ss_sentences.specs.Refusals.{IsSaid}
 use Rattle.ss_run.specs.Explained.{refusal_explanation}
 use Rattle.ss_run.specs.Report.{IsRunEnd, SaysEnd, RunEnds}
-use Rattle.ss_run.specs.Results.{Asked}
+use Rattle.ss_run.specs.Results.{Wanted}
 use Rattle.ss_run.specs.WholeRun.{TellsEnd}
 
 -- the position after `steps` steps were to be made: all are made, or fewer if the run has ended
@@ -43,7 +43,7 @@ pub record HasAdvanced (stepped : Stepped) (steps : ℕ) (old new : Moment) : Ty
   pub reason : EndsBy stepped steps old new
 
 -- a run over some data is made, and its report written, or the run is cut short
-unfoldable pub MakesRun : Result WholeRun RunCut → List ℕ → Input → Asked → OutletState → OutletState → Type 0
+unfoldable pub MakesRun : Result WholeRun RunCut → List ℕ → Input → Wanted → OutletState → OutletState → Type 0
 MakesRun (Ok whole) data_text input asked old new =
     (p : ℕ) × IsRunEnd input p × SaysEnd input p whole.end × TellsEnd whole data_text input asked p
     × Appends old.taken new.taken (run input p).report × (new.failures ≡ old.failures)

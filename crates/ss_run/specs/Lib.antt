@@ -4,6 +4,7 @@ pub mod Fields
 pub mod Explained
 pub mod Report
 pub mod Rows
+pub mod Measure
 pub mod Results
 pub mod WholeRun
 pub mod Advance

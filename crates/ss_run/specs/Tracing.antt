@@ -21,7 +21,7 @@ use Rattle.ss_run.specs.declared.whole_run.RunCut.TheVariants.{Write, Memory}
 use Rattle.ss_run.specs.declared.whole_run.WholeRun.{WholeRun}
 use Rattle.ss_run.specs.Advance.{MakesRun, HasAdvanced}
 use Rattle.ss_run.specs.Followed.{kept_in, kept_at}
-use Rattle.ss_run.specs.Results.{Asked}
+use Rattle.ss_run.specs.Results.{Wanted}
 use Rattle.ss_run.specs.Rows.{csv_row}
 use Rattle.ss_run.specs.Trace.{step_rows, rows_before, Reaches, cut_failures}
 use Rattle.ss_run.specs.Trace.{WritesNothing, IsTraced, IsTracedInPart}
@@ -94,7 +94,7 @@ CutsRows cut input xs old new =
 
 -- a run over some data is made and traced: the whole trace is written, and the report as without
 -- it, or the trace was cut, and nothing of the report is written
-unfoldable pub MakesTrace : Result WholeRun RunCut → List ℕ → Input → List Question → Asked → OutletState →
+unfoldable pub MakesTrace : Result WholeRun RunCut → List ℕ → Input → List Question → Wanted → OutletState →
     OutletState → OutletState → OutletState → Type 0
 MakesTrace result data_text input xs asked old new trace traced =
     (MakesRun result data_text input asked old new × IsTraced input xs trace traced)

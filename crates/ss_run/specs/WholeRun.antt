@@ -3,9 +3,10 @@ use Rattle.std.specs.Prelude.{ℕ, ◌≡◌, ◌⊎◌, List, [], Result, Ok, E
 use Rattle.ss_words.specs.declared.fault.TextRule.{TextRule}
 use Rattle.ss_check.specs.declared.fault.CheckRule.{CheckRule}
 use Rattle.ss_check.specs.CheckRules.{check_rule_code}
+use Rattle.ss_check.specs.Symbols.{Symbols}
 use Rattle.ss_program.specs.Program.{ProgramTable}
 use Rattle.ss_state.specs.Run.{Input, run, input_with}
-use Rattle.ss_session.specs.Model.{refused_text, refused_check, accepted, IsOutcome}
+use Rattle.ss_session.specs.Model.{refused_text, refused_check, IsOfModel, IsOutcome}
 use Rattle.ss_session.specs.Texts.{OutletState}
 use Rattle.ss_run.specs.declared.whole_run.RunEnd.{RunEnd}
 use Rattle.ss_run.specs.declared.whole_run.RunEnd.TheVariants.{Done, Faulted, Refused}
@@ -15,22 +16,22 @@ use Rattle.ss_sentences.specs.Refusals.{IsSaid}
 use Rattle.ss_run.specs.Explained.{end_explanation, refusal_explanation}
 use Rattle.ss_run.specs.Fields.{unfit_values}
 use Rattle.ss_run.specs.Report.{IsRunEnd, ReportSays, status_of_end}
-use Rattle.ss_run.specs.Results.{Asked, results_row}
+use Rattle.ss_run.specs.Results.{Asked, Wanted, wanted, results_row}
 
 -- the results of a run over some data that ended at position p: the explanation of that state, the
 -- number of values of its report that did not fit, and the row of its results
-abbrev pub TellsEnd : WholeRun → List ℕ → Input → Asked → ℕ → Type 0
+abbrev pub TellsEnd : WholeRun → List ℕ → Input → Wanted → ℕ → Type 0
 TellsEnd whole data_text input asked p =
     (whole.explanation.items ≡ end_explanation input.program data_text (run input p))
     × (whole.unfit ≡ unfit_values (run input p).report)
     × (whole.results.items ≡ results_row input asked (status_of_end whole.end) p)
 
--- those of the run over the data of a model that is a program
+-- those of the run over the data of a model that is a program; expressions are read by its symbol table
 abbrev pub TellsRun : WholeRun → List ℕ → List ℕ → Asked → Type 0
 TellsRun whole model data_text asked =
-    (program : ProgramTable) × IsOutcome model (accepted program)
+    (program : ProgramTable) × (symbols : Symbols) × IsOfModel model program symbols
     × (p : ℕ) × IsRunEnd (input_with program data_text) p
-    × TellsEnd whole data_text (input_with program data_text) asked p
+    × TellsEnd whole data_text (input_with program data_text) (wanted asked symbols) p
 
 -- those of a refused model: the explanation of its text, or the checker's sentence and the line
 abbrev pub TellsRefusal : WholeRun → List ℕ → Type 0

@@ -7,6 +7,7 @@ mod followed;
 mod glance;
 mod here;
 mod laws;
+mod measure;
 mod results;
 mod rows;
 mod traced;
@@ -16,6 +17,7 @@ mod whole_run;
 
 pub use fields::{unfit_values, unfit_words};
 pub use laws::{rows_are_the_history, run_has_one_end, values_that_do_not_fit_are_counted};
+pub use measure::{Formula, Measure, push_measure};
 pub use results::{Asked, results_head};
 pub use traced::trace_model;
 pub use warned::model_warnings;

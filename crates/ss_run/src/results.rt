@@ -1,17 +1,19 @@
-//! The results of a run: the values of some questions in its last state, as comma-separated values.
+//! The results of a run: the values of some measures in its last state, as comma-separated values.
 ghost use Rattle.std.specs.Prelude.{◌≡◌, ◌++◌, [], map, IfOk, OnOk};
 ghost use Rattle.csv.specs.Records.{fields_of, partial_of};
 ghost use Rattle.ss_machine.specs.Moment.{position};
-ghost use Rattle.ss_trace.specs.Question.{question_text};
-ghost use Rattle.ss_trace.specs.Value.{value_at};
+ghost use Rattle.ss_check.specs.Asked.{IsSymbolsOf};
 ghost use Rattle.ss_run.specs.Rows.{csv_row};
+ghost use Rattle.ss_run.specs.Measure.{measure_name};
 ghost use Rattle.ss_run.specs.Results.{result_names, results_row, values_at};
 
+use crate::measure::{Measure, measure_name, measure_value};
 use csv::{ByteRecord, WriterBuilder};
 use itoa::Buffer;
+use ss_check::SymbolTable;
 use ss_debug::Debugger;
 use ss_links::SetBoard;
-use ss_trace::{Question, push_answer, push_asked, push_value};
+use ss_trace::Question;
 use std::alloc::{AllocError, Global};
 
 /// The questions to a whole run, in addition to its report.
@@ -21,8 +23,33 @@ pub struct Asked<'a> {
     pub watched: &'a [Question],
     /// The name of the run's data, as the row of results has it.
     pub name: &'a [u8],
-    /// The questions whose values in the last state are the results.
-    pub results: &'a [Question],
+    /// The measures whose values in the last state are the results.
+    pub results: &'a [Measure],
+}
+
+/// The questions to a whole run, with the symbol table by which expressions and conditions are
+/// read.
+#[derive(Clone, Copy)]
+pub(crate) struct Wanted<'a> {
+    pub(crate) watched: &'a [Question],
+    pub(crate) name: &'a [u8],
+    pub(crate) results: &'a [Measure],
+    pub(crate) symbols: &'a SymbolTable,
+}
+
+/// What is asked, by a symbol table.
+pub(crate) fn with_symbols<'a>(asked: Asked<'a>, symbols: &'a SymbolTable) -> Wanted<'a>
+    ensures watched { result.watched.now ≡ asked.entry.watched.now }
+    ensures name { result.name.now ≡ asked.entry.name.now }
+    ensures results { result.results.now ≡ asked.entry.results.now }
+    ensures symbols { result.symbols.now ≡ symbols.now }
+{
+    Wanted {
+        watched: asked.watched,
+        name: asked.name,
+        results: asked.results,
+        symbols,
+    }
 }
 
 /// The row of some cells.
@@ -39,35 +66,21 @@ fn row_of_cells(alloc: Global, cells: &ByteRecord) -> Result<Vec<u8>, AllocError
     }
 }
 
-/// The value of a question in the state that a debugger shows.
-fn value_of<S: SetBoard>(
-    alloc: Global,
-    debugger: &Debugger<S>,
-    question: &Question,
-) -> Result<Vec<u8>, AllocError>
-    ensures { IfOk result (λ value. value.items
-        ≡ value_at debugger.now.machine.input question.now (position debugger.now.machine)) }
-{
-    let mut answer = Vec::new(alloc);
-    push_answer(debugger, question, &mut answer)?;
-    let mut value = Vec::new(alloc);
-    push_value(question, &answer, &mut value)?;
-    Ok(value)
-}
-
-/// Adds the values of some questions in the state that a debugger shows.
+/// Adds the values of some measures in the state that a debugger shows.
 fn push_values<S: SetBoard>(
     cells: &mut ByteRecord,
     alloc: Global,
     debugger: &Debugger<S>,
-    questions: &[Question],
+    symbols: &SymbolTable,
+    measures: &[Measure],
 ) -> Result<(), AllocError>
-    requires { partial_of cells.old ≡ [] }
-    ensures { OnOk result (fields_of cells.new ≡ fields_of cells.old
-        ++ values_at debugger.now.machine.input questions.now (position debugger.now.machine)) }
+    requires symbols { IsSymbolsOf debugger.now.machine.input.program symbols.now }
+    requires partial { partial_of cells.old ≡ [] }
+    ensures { OnOk result (fields_of cells.new ≡ fields_of cells.old ++ values_at
+        debugger.now.machine.input symbols.now measures.now (position debugger.now.machine)) }
 {
-    for question in questions {
-        let value = value_of(alloc, debugger, question)?;
+    for measure in measures {
+        let value = measure_value(alloc, debugger, symbols, measure)?;
         cells.push_field(&value)?;
     }
     Ok(())
@@ -78,48 +91,47 @@ pub(crate) fn results_row<S: SetBoard>(
     alloc: Global,
     debugger: &Debugger<S>,
     status: u8,
-    asked: Asked<'_>,
+    asked: Wanted<'_>,
 ) -> Result<Vec<u8>, AllocError>
+    requires { IsSymbolsOf debugger.now.machine.input.program asked.symbols.now }
     ensures { IfOk result (λ row. row.items ≡ results_row debugger.now.machine.input
-        (record { name = asked.entry.name.now; questions = asked.entry.results.now }) status
-        (position debugger.now.machine)) }
+        (record {
+          name = asked.entry.name.now;
+          results = asked.entry.results.now;
+          symbols = asked.entry.symbols.now;
+        }) status (position debugger.now.machine)) }
 {
     let mut cells = ByteRecord::new(alloc);
     cells.push_field(asked.name)?;
     let mut number = Buffer::new();
     cells.push_field(number.format(status).as_bytes())?;
-    push_values(&mut cells, alloc, debugger, asked.results)?;
+    push_values(&mut cells, alloc, debugger, asked.symbols, asked.results)?;
     row_of_cells(alloc, &cells)
 }
 
-/// Adds some questions, each as it is asked.
-fn push_questions(
-    cells: &mut ByteRecord,
-    alloc: Global,
-    questions: &[Question],
-) -> Result<(), AllocError>
+/// Adds some measures, each as it is asked.
+fn push_names(cells: &mut ByteRecord, alloc: Global, measures: &[Measure]) -> Result<(), AllocError>
     requires { partial_of cells.old ≡ [] }
     ensures { OnOk result (fields_of cells.new ≡ fields_of cells.old
-        ++ map question_text questions.now) }
+        ++ map measure_name measures.now) }
 {
-    for question in questions {
-        let mut text = Vec::new(alloc);
-        push_asked(question, &mut text)?;
-        cells.push_field(&text)?;
+    for measure in measures {
+        let name = measure_name(alloc, measure)?;
+        cells.push_field(&name)?;
     }
     Ok(())
 }
 
 /// The first row of a table of results: the names of its columns, which are `data`, `status`, and
-/// each question as it is asked (docs/RUNS.md).
+/// each measure as it is asked (docs/RUNS.md).
 ///
 /// `AllocError` if a growth was refused.
-pub fn results_head(alloc: Global, questions: &[Question]) -> Result<Vec<u8>, AllocError>
-    ensures { IfOk result (λ row. row.items ≡ csv_row (result_names questions.now)) }
+pub fn results_head(alloc: Global, measures: &[Measure]) -> Result<Vec<u8>, AllocError>
+    ensures { IfOk result (λ row. row.items ≡ csv_row (result_names measures.now)) }
 {
     let mut cells = ByteRecord::new(alloc);
     cells.push_field(b"data")?;
     cells.push_field(b"status")?;
-    push_questions(&mut cells, alloc, questions)?;
+    push_names(&mut cells, alloc, measures)?;
     row_of_cells(alloc, &cells)
 }

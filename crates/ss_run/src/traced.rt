@@ -1,6 +1,7 @@
 //! A whole run whose questions are traced.
 ghost use Rattle.std.specs.Prelude.{◌≡◌, ◌+◌, ◌-◌, ◌<◌, ◌^◌, IfOk, OnOk, IfErr};
 ghost use Rattle.std.specs.Io.KnownBytes.{Appends};
+ghost use Rattle.ss_check.specs.Asked.{IsSymbolsOf};
 ghost use Rattle.ss_machine.specs.Moment.{position};
 ghost use Rattle.ss_state.specs.Run.{input_with};
 ghost use Rattle.ss_run.specs.Report.{IsRunEnd};
@@ -11,7 +12,7 @@ ghost use Rattle.ss_run.specs.Tracing.{CutsRows, MakesTrace};
 
 use crate::followed::Followed;
 use crate::here::{Here, read_here};
-use crate::results::Asked;
+use crate::results::{Asked, Wanted, with_symbols};
 use crate::rows::{follow_all, head_row, push_changes};
 use crate::whole_run::{
     MOST_KEPT, Progress, RunCut, STEPS_BETWEEN, WholeRun, refusal, write_report,
@@ -19,8 +20,7 @@ use crate::whole_run::{
 use ss_debug::{Command, Debugger, obey};
 use ss_links::{LinkedSets, SetBoard};
 use ss_machine::Machine;
-use ss_program::Program;
-use ss_session::{Outlet, load_program, machine, put_all};
+use ss_session::{Loaded, Outlet, load_with_symbols, machine, put_all};
 use ss_state::Stepped;
 use ss_trace::Question;
 use std::alloc::{AllocError, Global};
@@ -186,16 +186,22 @@ fn trace_report<S: SetBoard, P: Progress, T: Outlet, W: Outlet>(
     alloc: Global,
     debugger: &mut Debugger<S>,
     data_text: &[u8],
-    asked: Asked<'_>,
+    asked: Wanted<'_>,
     progress: &mut P,
     trace: &mut T,
     out: &mut W,
 ) -> Result<WholeRun, RunCut>
+    requires symbols { IsSymbolsOf debugger.old.machine.input.program
+        asked.symbols.now }
     requires start { position debugger.old.machine ≡ 0 }
     requires trace_room { T.failures trace.old < 2 ^ 64 - 1 }
     requires room { W.failures out.old < 2 ^ 64 - 1 }
     ensures { MakesTrace result data_text.now debugger.old.machine.input asked.entry.watched.now
-        (record { name = asked.entry.name.now; questions = asked.entry.results.now })
+        (record {
+          name = asked.entry.name.now;
+          results = asked.entry.results.now;
+          symbols = asked.entry.symbols.now;
+        })
         (record { taken = W.taken out.old; failures = W.failures out.old })
         (record { taken = W.taken out.new; failures = W.failures out.new })
         (record { taken = T.taken trace.old; failures = T.failures trace.old })
@@ -210,16 +216,21 @@ fn trace_run<S: SetBoard, P: Progress, T: Outlet, W: Outlet>(
     alloc: Global,
     machine: Machine<S>,
     data_text: &[u8],
-    asked: Asked<'_>,
+    asked: Wanted<'_>,
     progress: &mut P,
     trace: &mut T,
     out: &mut W,
 ) -> Result<WholeRun, RunCut>
+    requires symbols { IsSymbolsOf machine.input.program asked.symbols.now }
     requires start { position machine ≡ 0 }
     requires trace_room { T.failures trace.old < 2 ^ 64 - 1 }
     requires room { W.failures out.old < 2 ^ 64 - 1 }
     ensures { MakesTrace result data_text.now machine.input asked.entry.watched.now
-        (record { name = asked.entry.name.now; questions = asked.entry.results.now })
+        (record {
+          name = asked.entry.name.now;
+          results = asked.entry.results.now;
+          symbols = asked.entry.symbols.now;
+        })
         (record { taken = W.taken out.old; failures = W.failures out.old })
         (record { taken = W.taken out.new; failures = W.failures out.new })
         (record { taken = T.taken trace.old; failures = T.failures trace.old })
@@ -234,26 +245,40 @@ fn trace_run<S: SetBoard, P: Progress, T: Outlet, W: Outlet>(
 /// Makes the run of a program over its data and its trace, and writes its report.
 fn trace_program<P: Progress, T: Outlet, W: Outlet>(
     alloc: Global,
-    program: Program,
+    loaded: Loaded,
     data_text: &[u8],
     asked: Asked<'_>,
     progress: &mut P,
     trace: &mut T,
     out: &mut W,
 ) -> Result<WholeRun, RunCut>
+    requires symbols { IsSymbolsOf loaded.program loaded.symbols }
     requires trace_room { T.failures trace.old < 2 ^ 64 - 1 }
     requires room { W.failures out.old < 2 ^ 64 - 1 }
-    ensures { MakesTrace result data_text.now (input_with program data_text.now)
+    ensures { MakesTrace result data_text.now (input_with loaded.program data_text.now)
         asked.entry.watched.now
-        (record { name = asked.entry.name.now; questions = asked.entry.results.now })
+        (record {
+          name = asked.entry.name.now;
+          results = asked.entry.results.now;
+          symbols = loaded.symbols;
+        })
         (record { taken = W.taken out.old; failures = W.failures out.old })
         (record { taken = W.taken out.new; failures = W.failures out.new })
         (record { taken = T.taken trace.old; failures = T.failures trace.old })
         (record { taken = T.taken trace.new; failures = T.failures trace.new }) }
 {
+    let Loaded { program, symbols } = loaded;
     let (sets, pending) = (LinkedSets::new(alloc), LinkedSets::new(alloc));
     let machine = machine(alloc, program, data_text, sets, pending)?;
-    trace_run(alloc, machine, data_text, asked, progress, trace, out)
+    trace_run(
+        alloc,
+        machine,
+        data_text,
+        with_symbols(asked, &symbols),
+        progress,
+        trace,
+        out,
+    )
 }
 
 /// As `run_model`, and writes a trace of the watched questions as the run goes.
@@ -280,14 +305,14 @@ pub fn trace_model<P: Progress, T: Outlet, W: Outlet>(
     requires trace_room { T.failures trace.old < 2 ^ 64 - 1 }
     requires room { W.failures out.old < 2 ^ 64 - 1 }
     ensures { TraceSays result model.now data_text.now asked.entry.watched.now
-        (record { name = asked.entry.name.now; questions = asked.entry.results.now })
+        (record { name = asked.entry.name.now; results = asked.entry.results.now })
         (record { taken = W.taken out.old; failures = W.failures out.old })
         (record { taken = W.taken out.new; failures = W.failures out.new })
         (record { taken = T.taken trace.old; failures = T.failures trace.old })
         (record { taken = T.taken trace.new; failures = T.failures trace.new }) }
 {
-    match load_program(alloc, model) {
-        Ok(program) => { trace_program(alloc, program, data_text, asked, progress, trace, out) }
+    match load_with_symbols(alloc, model) {
+        Ok(loaded) => { trace_program(alloc, loaded, data_text, asked, progress, trace, out) }
         Err(fault) => refusal(alloc, model, fault),
     }
 }

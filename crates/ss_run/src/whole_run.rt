@@ -1,5 +1,6 @@
 //! A whole run without a debugger: to its end, and only its report.
 ghost use Rattle.std.specs.Prelude.{◌≡◌, ◌-◌, ◌^◌, ◌<◌, OnErr, OnOk, IfOk};
+ghost use Rattle.ss_check.specs.Asked.{IsSymbolsOf};
 ghost use Rattle.ss_links.specs.Board.{empty_board};
 ghost use Rattle.ss_machine.specs.Moment.{position};
 ghost use Rattle.ss_state.specs.Run.{input_with};
@@ -9,13 +10,12 @@ ghost use Rattle.ss_run.specs.Advance.{HasAdvanced, MakesRun, RefusesText, Refus
 
 use crate::explained::{end_explanation, rule_explanation};
 use crate::fields::unfit_values;
-use crate::results::{Asked, results_row};
+use crate::results::{Asked, Wanted, results_row, with_symbols};
 use ss_debug::{Command, Debugger, Question, obey};
 use ss_links::{LinkedSets, SetBoard};
 use ss_machine::Machine;
-use ss_program::Program;
 use ss_sentences::text_refusal;
-use ss_session::{LoadFault, Outlet, load_program, machine, put_all, refusal_text};
+use ss_session::{LoadFault, Loaded, Outlet, load_with_symbols, machine, put_all, refusal_text};
 use ss_state::{Status, Stepped};
 use std::alloc::{AllocError, Global};
 use thiserror::Error;
@@ -191,14 +191,20 @@ fn tell_end<S: SetBoard>(
     alloc: Global,
     debugger: &mut Debugger<S>,
     data_text: &[u8],
-    asked: Asked<'_>,
+    asked: Wanted<'_>,
 ) -> Result<WholeRun, AllocError>
+    requires symbols { IsSymbolsOf debugger.old.machine.input.program
+        asked.symbols.now }
     ensures input { debugger.new.machine.input ≡ debugger.old.machine.input }
     ensures position { position debugger.new.machine ≡ position debugger.old.machine }
     ensures end { IfOk result (λ whole. SaysEnd debugger.old.machine.input
         (position debugger.old.machine) whole.end) }
     ensures beside { IfOk result (λ whole. TellsEnd whole data_text.now debugger.old.machine.input
-        (record { name = asked.entry.name.now; questions = asked.entry.results.now })
+        (record {
+          name = asked.entry.name.now;
+          results = asked.entry.results.now;
+          symbols = asked.entry.symbols.now;
+        })
         (position debugger.old.machine)) }
 {
     let end = end_of_run(alloc, debugger)?;
@@ -220,13 +226,19 @@ pub(crate) fn write_report<S: SetBoard, W: Outlet>(
     alloc: Global,
     debugger: &mut Debugger<S>,
     data_text: &[u8],
-    asked: Asked<'_>,
+    asked: Wanted<'_>,
     out: &mut W,
 ) -> Result<WholeRun, RunCut>
+    requires symbols { IsSymbolsOf debugger.old.machine.input.program
+        asked.symbols.now }
     requires end { IsRunEnd debugger.old.machine.input (position debugger.old.machine) }
     requires room { W.failures out.old < 2 ^ 64 - 1 }
     ensures { MakesRun result data_text.now debugger.old.machine.input
-        (record { name = asked.entry.name.now; questions = asked.entry.results.now })
+        (record {
+          name = asked.entry.name.now;
+          results = asked.entry.results.now;
+          symbols = asked.entry.symbols.now;
+        })
         (record { taken = W.taken out.old; failures = W.failures out.old })
         (record { taken = W.taken out.new; failures = W.failures out.new }) }
 {
@@ -248,14 +260,19 @@ fn write_run<S: SetBoard, P: Progress, W: Outlet>(
     alloc: Global,
     machine: Machine<S>,
     data_text: &[u8],
-    asked: Asked<'_>,
+    asked: Wanted<'_>,
     progress: &mut P,
     out: &mut W,
 ) -> Result<WholeRun, RunCut>
+    requires symbols { IsSymbolsOf machine.input.program asked.symbols.now }
     requires start { position machine ≡ 0 }
     requires room { W.failures out.old < 2 ^ 64 - 1 }
     ensures { MakesRun result data_text.now machine.input
-        (record { name = asked.entry.name.now; questions = asked.entry.results.now })
+        (record {
+          name = asked.entry.name.now;
+          results = asked.entry.results.now;
+          symbols = asked.entry.symbols.now;
+        })
         (record { taken = W.taken out.old; failures = W.failures out.old })
         (record { taken = W.taken out.new; failures = W.failures out.new }) }
 {
@@ -318,21 +335,34 @@ pub(crate) fn refusal(alloc: Global, model: &[u8], fault: LoadFault) -> Result<W
 #[tactic(auto, using(ss_session::proofs::Pieces::appends_none), unfolding(crate::proofs::Reports::runs_made))]
 fn run_program<P: Progress, W: Outlet>(
     alloc: Global,
-    program: Program,
+    loaded: Loaded,
     data_text: &[u8],
     asked: Asked<'_>,
     progress: &mut P,
     out: &mut W,
 ) -> Result<WholeRun, RunCut>
-    requires { W.failures out.old < 2 ^ 64 - 1 }
-    ensures { MakesRun result data_text.now (input_with program data_text.now)
-        (record { name = asked.entry.name.now; questions = asked.entry.results.now })
+    requires symbols { IsSymbolsOf loaded.program loaded.symbols }
+    requires room { W.failures out.old < 2 ^ 64 - 1 }
+    ensures { MakesRun result data_text.now (input_with loaded.program data_text.now)
+        (record {
+          name = asked.entry.name.now;
+          results = asked.entry.results.now;
+          symbols = loaded.symbols;
+        })
         (record { taken = W.taken out.old; failures = W.failures out.old })
         (record { taken = W.taken out.new; failures = W.failures out.new }) }
 {
+    let Loaded { program, symbols } = loaded;
     let (sets, pending) = (LinkedSets::new(alloc), LinkedSets::new(alloc));
     let machine = machine(alloc, program, data_text, sets, pending)?;
-    write_run(alloc, machine, data_text, asked, progress, out)
+    write_run(
+        alloc,
+        machine,
+        data_text,
+        with_symbols(asked, &symbols),
+        progress,
+        out,
+    )
 }
 
 /// Runs a model over its data to the end of the run, without a bound, and writes only its report.
@@ -356,12 +386,12 @@ pub fn run_model<P: Progress, W: Outlet>(
 ) -> Result<WholeRun, RunCut>
     requires { W.failures out.old < 2 ^ 64 - 1 }
     ensures { RunSays result model.now data_text.now
-        (record { name = asked.entry.name.now; questions = asked.entry.results.now })
+        (record { name = asked.entry.name.now; results = asked.entry.results.now })
         (record { taken = W.taken out.old; failures = W.failures out.old })
         (record { taken = W.taken out.new; failures = W.failures out.new }) }
 {
-    match load_program(alloc, model) {
-        Ok(program) => run_program(alloc, program, data_text, asked, progress, out),
+    match load_with_symbols(alloc, model) {
+        Ok(loaded) => run_program(alloc, loaded, data_text, asked, progress, out),
         Err(fault) => refusal(alloc, model, fault),
     }
 }

@@ -12,3 +12,6 @@ pub mod Breach
 pub mod Unread
 pub mod Refusals
 pub mod Laws
+pub mod Fitting
+pub mod Misread
+pub mod Typed

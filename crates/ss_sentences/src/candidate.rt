@@ -150,7 +150,7 @@ pub const CANDIDATES: [(&[u8], Tried); 111] = [
 ];
 
 /// The word that is tried.
-fn word_kind(alloc: Global, told: &[u8], tried: Tried) -> Result<WordKind, AllocError>
+pub fn word_kind(alloc: Global, told: &[u8], tried: Tried) -> Result<WordKind, AllocError>
     ensures { IfOk result (λ kind. kind_of kind ≡ spec.candidate_kind told.now tried) }
 {
     match tried {
@@ -180,7 +180,7 @@ pub fn keeps_article(words: &[Word]) -> bool
 }
 
 /// Whether a candidate would be dropped after these words.
-fn is_dropped(words: &Words, tried: Tried) -> bool
+pub fn is_dropped(words: &Words, tried: Tried) -> bool
     ensures { result ≡ spec.is_dropped words.now tried }
 {
     match tried {
@@ -223,7 +223,7 @@ fn judge(alloc: Global, words: &mut Words, told: &[u8], tried: Tried) -> Result<
 
 /// The table of the candidates.
 #[tactic(auto, unfolding(crate::specs::Candidates::candidates))]
-fn candidates() -> &'static [(&'static [u8], Tried)]
+pub fn candidates() -> &'static [(&'static [u8], Tried)]
     ensures { map (λ row. (row.0.now, row.1)) result.now ≡ spec.candidates }
 {
     &CANDIDATES

@@ -48,7 +48,7 @@ fn is_name(word: &Word) -> bool
 }
 
 /// Whether a word is a name that is reserved.
-fn is_reserved_word(word: &Word) -> bool
+pub fn is_reserved_word(word: &Word) -> bool
     ensures { result ≡ spec.is_reserved_word (word_at word.now).kind }
 {
     match &word.kind {
@@ -85,7 +85,12 @@ pub fn ends_in_dropped(words: &[Word]) -> bool
 }
 
 /// Appends a hint that names a word, if it is to be given.
-fn push_hint(text: &mut Vec<u8>, is_given: bool, hint: &[u8], word: &[u8]) -> Result<(), AllocError>
+pub fn push_hint(
+    text: &mut Vec<u8>,
+    is_given: bool,
+    hint: &[u8],
+    word: &[u8],
+) -> Result<(), AllocError>
     ensures { OnOk result (text.new.items
         ≡ text.old.items ++ spec.hint_text is_given hint.now word.now) }
 {

@@ -123,7 +123,7 @@ pub fn push_place(text: &mut Vec<u8>, place: Place) -> Result<(), AllocError>
 }
 
 /// Appends blanks as wide as these bytes; their tabs stay.
-fn push_blanks(text: &mut Vec<u8>, bytes: &[u8]) -> Result<(), AllocError>
+pub fn push_blanks(text: &mut Vec<u8>, bytes: &[u8]) -> Result<(), AllocError>
     ensures { OnOk result (text.new.items
         ≡ text.old.items ++ map spec.blank_of bytes.now) }
 {
@@ -188,7 +188,7 @@ pub fn push_source(
 }
 
 /// Appends a caret after blanks as wide as a mark and the bytes before it.
-fn push_caret(text: &mut Vec<u8>, mark: &[u8], before: &[u8]) -> Result<(), AllocError>
+pub fn push_caret(text: &mut Vec<u8>, mark: &[u8], before: &[u8]) -> Result<(), AllocError>
     ensures { OnOk result (text.new.items
         ≡ text.old.items ++ spec.caret_text mark.now before.now) }
 {

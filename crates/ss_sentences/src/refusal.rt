@@ -140,7 +140,7 @@ fn push_sentence(
 }
 
 /// How the last of the first `count` words is printed.
-fn told_before(alloc: Global, words: &Words, count: usize) -> Result<Vec<u8>, AllocError>
+pub fn told_before(alloc: Global, words: &Words, count: usize) -> Result<Vec<u8>, AllocError>
     ensures { IfOk result (λ told. told.items ≡ spec.told_before words.now count) }
 {
     last_text(alloc, first_words(words, count))
@@ -148,7 +148,7 @@ fn told_before(alloc: Global, words: &Words, count: usize) -> Result<Vec<u8>, Al
 
 /// How the word with a number is printed: as the last of the words up to it.
 #[tactic(auto, using(crate::proofs::WordLists::nexts))]
-fn told_at(alloc: Global, words: &Words, number: usize) -> Result<Vec<u8>, AllocError>
+pub fn told_at(alloc: Global, words: &Words, number: usize) -> Result<Vec<u8>, AllocError>
     ensures { IfOk result (λ told. told.items ≡ spec.told_before words.now (number + 1)) }
 {
     if number < words.list.len() {

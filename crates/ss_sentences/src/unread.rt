@@ -139,7 +139,7 @@ fn push_breach(
 }
 
 /// Appends the sentence of a rule that is broken at a column of a line.
-fn push_breach_sentence(
+pub fn push_breach_sentence(
     alloc: Global,
     text: &mut Vec<u8>,
     rule: TextRule,
@@ -256,7 +256,7 @@ fn behind_run(line: &[u8]) -> &[u8]
 }
 
 /// Appends the hint for the breach of a rule at a column.
-fn push_breach_hint(
+pub fn push_breach_hint(
     alloc: Global,
     text: &mut Vec<u8>,
     rule: TextRule,

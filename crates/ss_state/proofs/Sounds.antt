@@ -16,7 +16,7 @@ use Rattle.ss_program.specs.Match.{ways_of, ways_from, section_ways}
 use Rattle.ss_program.specs.Nesting.{is_nested, AreNestedPlaces}
 use Rattle.ss_program.specs.Program.{ClassTable, SectionTable, ProgramTable, class_of, event_of, event_of_kind}
 use Rattle.ss_program.specs.Program.{is_event, places_of, locals_of, no_section, section_of, spot_at, is_permanent}
-use Rattle.ss_program.specs.ProgramSound.{Scope, IsSound, IsSoundSection, AreSoundSections, IsSoundPlace}
+use Rattle.ss_program.specs.ProgramSound.{Scope, scope_in, IsSound, IsSoundSection, AreSoundSections, IsSoundPlace}
 use Rattle.ss_program.specs.ProgramSound.{AreSoundPlaces, IsEnded, LeadsOn, IsCalledBy, IsLinkedPlace, AreLinkedPlaces}
 use Rattle.ss_program.specs.ProgramSound.{AreLinkedSections, IsTimed, AreTimed, IsEventClass, IsSoundClass}
 use Rattle.ss_program.specs.ProgramSound.{IsSoundEvent, IsSoundKind}
@@ -51,7 +51,7 @@ pub ended_some : (ps : List Spot) → IsEnded ps → 0 < length ps
 ended_some [] h = absurd h
 ended_some (p ∷ ps) h = omega arith
 
--- the tables that the places of section number i may name rows of
+-- the tables that the places of a section may name rows of, if there is one
 abbrev scope_by : ProgramTable → Option SectionTable → Scope
 scope_by p o = record {
   globals = length p.globals;
@@ -59,9 +59,6 @@ scope_by p o = record {
   permanent = map (λ c. is_permanent c.kind) p.classes;
   sets = length p.sets;
 }
-
-abbrev pub scope_at : ProgramTable → ℕ → Scope
-scope_at p i = scope_by p (slice_get p.sections i)
 
 -- the places of a program are sound
 spot_sound_of : (p : ProgramTable) (i j : ℕ) (spot : Spot) (o : Option SectionTable) → IsSound p →
@@ -72,7 +69,7 @@ spot_sound_of p i j spot (Some s) h e f =
     place_sound _ s.places j spot (section_sound _ p.sections i s h.sections e).places f
 
 pub spot_sound : (p : ProgramTable) (i j : ℕ) (spot : Spot) → IsSound p → spot_at p i j ≡ Some spot →
-    IsSoundPlace (scope_at p i) spot.place
+    IsSoundPlace (scope_in p i) spot.place
 spot_sound p i j spot h e = spot_sound_of p i j spot (slice_get p.sections i) h refl e
 
 linked_section : (ss more : List SectionTable) (i : ℕ) (s : SectionTable) → AreLinkedSections ss more →

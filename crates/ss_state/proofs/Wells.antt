@@ -25,7 +25,7 @@ use Rattle.ss_program.specs.declared.place.Spot.{Spot}
 use Rattle.ss_program.specs.declared.timing.Timing.TheVariants as timings
 use Rattle.ss_program.specs.declared.ways.Ways.{Ways}
 use Rattle.ss_program.specs.Program.{SectionTable, ProgramTable, is_main, main_number, no_section, section_of, spot_at}
-use Rattle.ss_program.specs.ProgramSound.{IsSoundPlace, IsSound, IsTimed}
+use Rattle.ss_program.specs.ProgramSound.{IsSoundPlace, IsSound, IsTimed, scope_in}
 use Rattle.ss_program.proofs.Mains.{one_main}
 use Rattle.ss_state.specs.declared.status.Status.TheVariants.{Stopped}
 use Rattle.ss_state.specs.State.{State, is_ready}
@@ -38,7 +38,7 @@ use Rattle.ss_state.specs.Statements.Timing.{loads}
 use Rattle.ss_state.specs.Step.{step, step_by, step_at}
 use Rattle.ss_state.specs.Run.{Input, run}
 use Rattle.ss_state.specs.Well.{IsInBounds, IsWell, AreItemsInRange, Starts, StartsAt}
-use Rattle.ss_state.proofs.Sounds.{scope_at, spot_sound, spot_linked, spot_timed}
+use Rattle.ss_state.proofs.Sounds.{spot_sound, spot_linked, spot_timed}
 use Rattle.ss_state.proofs.Ranges.{after_got, anything, zeros_in}
 use Rattle.ss_state.proofs.Rests.{assign_rest, making_rest, filing_rest, schedule_rest, cancel_rest}
 use Rattle.ss_state.proofs.Stores.{empty_in}
@@ -89,8 +89,8 @@ well_at p s spot y (places.Control End) sound at is l w =
     section_well p s (section_of p s.frame.section).kind sound refl w
 well_at p s spot y (places.Branch b) sound at is l w = branch_well p s y b l w
 well_at p s spot y (places.Looping x) sound at is l w =
-    looping_well p s y (scope_at p s.frame.section) x
-    (subst (λ (z : Place). IsSoundPlace (scope_at p s.frame.section) z) is
+    looping_well p s y (scope_in p s.frame.section) x
+    (subst (λ (z : Place). IsSoundPlace (scope_in p s.frame.section) z) is
     (spot_sound p s.frame.section s.frame.place spot sound at)) refl l w
 well_at p s spot y (places.Call c) sound at is l w = call_well p s spot c sound at is l.leads w
 well_at p s spot y (places.Timing (timings.Schedule x)) sound at is l w =

@@ -1,12 +1,14 @@
 //! A run that is walked forwards and backwards.
 ghost use Rattle.std.specs.Prelude.{◌≡◌, ◌+◌, ◌≤◌, length, false, IfOk, OnErr, IsOk};
+ghost use Rattle.ss_program.specs.ProgramSound.{IsSoundExpr, IsSoundCondition, IsSoundSubscript};
 ghost use Rattle.ss_state.specs.declared.limits.TheConstants.{LAST_POSITION};
-ghost use Rattle.ss_state.specs.Frames.{frame_place, frame_local};
-ghost use Rattle.ss_state.specs.Readings.{variable_in, HasVariable};
+ghost use Rattle.ss_state.specs.Frames.{frame_at, frame_place, frame_local};
+ghost use Rattle.ss_state.specs.Readings.{variable_in, HasVariable, IsSoundIn, value_in, truth_in, subscript_in};
 ghost use Rattle.ss_state.specs.Well.{IsWell};
 
-use ss_program::{Program, Variable};
+use ss_program::{Condition, Expr, Index, Program, Variable};
 use ss_state::{Entry, Status, Stepped};
+use ss_words::RunFault;
 use std::alloc::AllocError;
 
 /// One run, a position in it, and the kept steps by which one can go back.
@@ -79,6 +81,30 @@ pub trait Timeline: Drop {
     /// with `depth` others above it; `None` if there is no such frame or no such local.
     fn frame_local(&self, depth: usize, number: usize) -> Option<i64>
         ensures { result ≡ frame_local (state_of (moment self.now)) depth number };
+
+    /// The value of an expression of the section of the frame with `depth` others above it, with
+    /// that frame's locals, or its first fault; `None` if there is no such frame. It takes no memory.
+    fn value_in(&self, depth: usize, e: &Expr) -> Option<Result<i64, RunFault>>
+        requires { IsSoundIn IsSoundExpr (moment self.now).input.program
+            (frame_at (state_of (moment self.now)) depth) e.now }
+        ensures { result ≡ value_in (moment self.now).input.program (state_of (moment self.now))
+            depth e.now };
+
+    /// Whether a condition of that section holds there, or its first fault; `None` if there is no
+    /// such frame. It takes no memory.
+    fn truth_in(&self, depth: usize, c: &Condition) -> Option<Result<bool, RunFault>>
+        requires { IsSoundIn IsSoundCondition (moment self.now).input.program
+            (frame_at (state_of (moment self.now)) depth) c.now }
+        ensures { result ≡ truth_in (moment self.now).input.program (state_of (moment self.now))
+            depth c.now };
+
+    /// The number that a subscript of that section means there, or its first fault; `None` if there
+    /// is no such frame. It takes no memory.
+    fn subscript_in(&self, depth: usize, index: &Index) -> Option<Result<i64, RunFault>>
+        requires { IsSoundIn IsSoundSubscript (moment self.now).input.program
+            (frame_at (state_of (moment self.now)) depth) index.now }
+        ensures { result ≡ subscript_in (moment self.now).input.program
+            (state_of (moment self.now)) depth index.now };
 
     /// One step forward. `AtEnd` if the status isn't ready, or at the last position; then
     /// nothing changes, and no memory is taken.

@@ -1,4 +1,4 @@
--- The states at which a question changes, seen from the debugger at that position.
+-- The states at which a movement stops or a question changes, seen from the debugger at that position.
 use Rattle.std.proofs.Common.{◌≡◌, ℕ, ◌+◌, ◌-◌, ◌<◌, ◌≤◌, zero, suc, List, Bool, true, false, refl, sym, ◌∙◌, arith}
 use Rattle.std.specs.Prelude.{nat_lt, not, bytes_eq, ◌&&◌}
 use Rattle.std.specs.Bool.{one_answer}
@@ -6,7 +6,8 @@ use Rattle.std.proofs.lemmas.Bool.{lt-ltb}
 use borrow.Author.Tests.{ltb-true}
 use Rattle.std.proofs.lemmas.Slice.Eq.{bytes_eq-Decides}
 use Rattle.ss_state.specs.Run.{Input}
-use Rattle.ss_debug.specs.Move.{is_stop, stops, stops_back}
+use Rattle.ss_debug.specs.Move.{is_ready_at, is_stop, stops, stops_back}
+use Rattle.ss_debug.proofs.Moves.{or_false_left}
 use Rattle.ss_trace.specs.declared.question.Question.{Question}
 use Rattle.ss_trace.specs.Question.{answer_at, changes_at}
 use Rattle.ss_trace.specs.Movements.{has_changed, ahead_condition, is_met, is_met_back}
@@ -20,11 +21,16 @@ same_turned xs ys =
 
 -- ---- forward
 
--- whether a movement forward stops at q, k positions on
-pub stops_here : (t u : Input) (bs cs : List ℕ) (x : Question) (p q k from : ℕ) → u ≡ t → cs ≡ bs → q ≡ p + k →
-    from ≡ p →
-    stops t (ahead_condition t bs (has_changed t x)) p k ≡ is_stop u (ahead_condition u cs (has_changed u x)) from q
-stops_here t u bs cs x p q k from e f h i = rw (e, f, h, i) refl
+-- whether a movement forward stops at q, k positions on, is seen there
+pub stops_here : (t u : Input) (bs cs : List ℕ) (test : ℕ → Bool) (p q k from : ℕ) (seen : Bool) → u ≡ t → cs ≡ bs →
+    q ≡ p + k → from ≡ p → seen ≡ is_stop u (ahead_condition u cs test) from q →
+    stops t (ahead_condition t bs test) p k ≡ seen
+stops_here t u bs cs test p q k from seen e f h i s = rw (s, e, f, h, i) refl
+
+-- if it does not stop there, the status is ready
+pub ready_here : (t : Input) (bs : List ℕ) (test : ℕ → Bool) (p q : ℕ) →
+    false ≡ is_stop t (ahead_condition t bs test) p q → is_ready_at t q ≡ true
+ready_here t bs test p q e = or_false_left (is_ready_at t q) _ _ (sym e)
 
 -- nothing is met at the position at which a movement begins
 pub met_nowhere : (test : ℕ → Bool) (p : ℕ) → is_met test p p ≡ false
@@ -33,6 +39,10 @@ met_nowhere test p = first (nat_lt p p) refl
     first : (b : Bool) → nat_lt p p ≡ b → (b && test p) ≡ false
     first true e = absurd (omega (arith, ltb-true p p e))
     first false e = refl
+
+-- further on it is met if its test holds
+pub met_later : (test : ℕ → Bool) (p q : ℕ) → p < q → is_met test p q ≡ test q
+met_later test p q h = let later : nat_lt p q ≡ true = lt-ltb p q h in rw later refl
 
 -- after a step it is met if the step changes the question
 pub met_behind : (t : Input) (x : Question) (p q r : ℕ) → p ≤ q → r ≡ q + 1 →

@@ -98,7 +98,7 @@ ready_on true t p q j e f g h = f j (omega (arith, ltb-true _ _ e))
 ready_on false t p q j e f g h = g j (omega (arith, ltb-false _ _ e)) h
 
 -- a position further on, before which no state has ended
-stands_on : (t : Input) (d : DebuggerState) (q : ℕ) → StandsBehindReady t d → d.position ≤ q → q ≤ LAST_POSITION →
+pub stands_on : (t : Input) (d : DebuggerState) (q : ℕ) → StandsBehindReady t d → d.position ≤ q → q ≤ LAST_POSITION →
     ((k : ℕ) → d.position ≤ k → k < q → is_ready_at t k ≡ true) → StandsBehindReady t (debugger_state_at d q)
 stands_on t d q s h l f = record {
   kept = omega (arith, s.kept, h);
@@ -136,7 +136,7 @@ stands_moved t d (back n) s = stands_back t d (back_end d.earliest d.position n)
 stands_moved t d (search_back test word) s = stands_searched t d test GREATEST_BOUND s
 
 -- each movement
-stands_shaped : (t : Input) (d : DebuggerState) (shape : Shape) → StandsBehindReady t d →
+pub stands_shaped : (t : Input) (d : DebuggerState) (shape : Shape) → StandsBehindReady t d →
     StandsBehindReady t (state_after_shape t d shape)
 stands_shaped t d (debugger_shape shape) s = stands_moved t d shape s
 stands_shaped t d (ahead test word) s = stands_ahead t d (ahead_condition t d.breaks test) GREATEST_BOUND s

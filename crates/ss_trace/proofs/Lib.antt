@@ -4,6 +4,8 @@ pub mod HistoryLaws
 pub mod Stops
 pub mod Parts
 pub mod Ends
+pub mod Aims
+pub mod Firsts
 pub mod Looking
 pub mod Refusals
 pub mod OneEntity

@@ -40,9 +40,13 @@ row state time section line value =
     to_right 8 state ++ codes " " ++ to_right 7 time ++ codes "  " ++ to_left 12 section ++ codes " "
     ++ to_right 5 line ++ codes "  " ++ value ++ 10 ∷ []
 
--- its head
+-- the head of a table of the values of something of this name
+abbrev pub head_of : List ℕ → List ℕ
+head_of name = row (codes "STATE") (codes "CLOCK") (codes "IN") (codes "LINE") name
+
+-- that of a question
 abbrev pub head_row : Question → List ℕ
-head_row question = row (codes "STATE") (codes "CLOCK") (codes "IN") (codes "LINE") (question_text question)
+head_row question = head_of (question_text question)
 
 -- the row of the step from state q
 abbrev pub step_row : Input → Question → ℕ → List ℕ

@@ -1,15 +1,18 @@
 -- Laws on OVER and BACK OVER, which are no single movements: they stay within their bounds. Laws on
--- movements, none of which passes an end, and on histories.
-use Rattle.std.specs.Prelude.{ℕ, ◌+◌, ◌≡◌, ◌<◌, ◌≤◌, ◌⊎◌, Bool, true, List, [], ◌∷◌}
+-- movements, none of which passes an end, on histories, and on movements to a state at which a test
+-- holds.
+use Rattle.std.specs.Prelude.{ℕ, ◌+◌, ◌≡◌, ◌<◌, ◌≤◌, ◌⊎◌, Bool, true, false, List, [], ◌∷◌}
 use Rattle.ss_state.specs.declared.limits.TheConstants.{LAST_POSITION}
 use Rattle.ss_state.specs.Run.{Input}
 use Rattle.ss_debug.specs.declared.commands.Command.{Command}
+use Rattle.ss_debug.specs.declared.limits.TheConstants.{GREATEST_BOUND}
 use Rattle.ss_debug.specs.Move.{is_ready_at}
-use Rattle.ss_debug.specs.Turn.{DebuggerState, initial_debugger_state, debugger_state_after}
+use Rattle.ss_debug.specs.Turn.{DebuggerState, initial_debugger_state, debugger_state_at, debugger_state_after}
 use Rattle.ss_trace.specs.declared.movement.Movement.{Movement}
 use Rattle.ss_trace.specs.Movements.{over, back_over}
 use Rattle.ss_trace.specs.History.{positions_where}
-use Rattle.ss_trace.specs.Turn.{state_after}
+use Rattle.ss_trace.specs.Turn.{state_after, state_after_shape, end_of}
+use Rattle.ss_trace.specs.Until.{run_until, back_until, first_end, state_after_first}
 
 -- q is not before p, nor over n steps on, nor past the last position or a state that isn't ready
 pub record IsAheadWithin (input : Input) (p n q : ℕ) : Type 0 where
@@ -96,3 +99,45 @@ abbrev pub HistoriesGoDown : Type 0
 HistoriesGoDown =
     (test : ℕ → Bool) (earliest p q : ℕ) (qs : List ℕ) → positions_where test earliest p ≡ q ∷ qs →
     qs ≡ positions_where test earliest q
+
+-- ---- states at which a test holds
+
+-- GO FIRST from p ends at q: the first position from p on at which the test holds, never past a
+-- state that isn't ready nor past the last position
+pub record EndsFirst (input : Input) (test : ℕ → Bool) (p q : ℕ) : Type 0 where
+  -- it is not before p
+  pub no_earlier : p ≤ q
+  -- it is not past the last position
+  pub not_past_the_last : q ≤ LAST_POSITION
+  -- no state before it has ended
+  pub not_past_an_end : (k : ℕ) → p ≤ k → k < q → is_ready_at input k ≡ true
+  -- the test holds at no position before it
+  pub not_past_a_met : (k : ℕ) → p ≤ k → k < q → test k ≡ false
+  -- it is the last position, or its state isn't ready, or the test holds there
+  pub for_a_reason : (q ≡ LAST_POSITION) ⊎ ((is_ready_at input q ≡ false) ⊎ (test q ≡ true))
+
+-- GO FIRST ends there
+abbrev pub FirstEnds : Type 0
+FirstEnds = (t : Input) (test : ℕ → Bool) (p : ℕ) → p ≤ LAST_POSITION → EndsFirst t test p (first_end t test p)
+
+-- RUN UNTIL, BACK UNTIL and GO FIRST pass no end
+pub record IsBehindReadyUntil (input : Input) (debugger : DebuggerState) (test : ℕ → Bool) : Type 0 where
+  -- after RUN UNTIL
+  pub run : StandsBehindReady input (state_after_shape input debugger (run_until test))
+  -- after BACK UNTIL
+  pub back : StandsBehindReady input (state_after_shape input debugger (back_until test))
+  -- after GO FIRST
+  pub first : StandsBehindReady input (state_after_first input debugger test)
+
+abbrev pub UntilsPassNoEnd : Type 0
+UntilsPassNoEnd =
+    (t : Input) (d : DebuggerState) (test : ℕ → Bool) → StandsBehindReady t d → IsBehindReadyUntil t d test
+
+-- BACK UNTIL from p returns to the end of a RUN UNTIL at which the test holds, if p is later within
+-- the bound, and the test holds nowhere between
+abbrev pub BackUntilReturns : Type 0
+BackUntilReturns =
+    (t : Input) (d : DebuggerState) (test : ℕ → Bool) (p : ℕ) → d.earliest ≤ d.position →
+    let q : ℕ = end_of t d (run_until test) in
+    test q ≡ true → q < p → p ≤ q + GREATEST_BOUND → ((k : ℕ) → q < k → k < p → test k ≡ false) →
+    end_of t (debugger_state_at d p) (back_until test) ≡ q

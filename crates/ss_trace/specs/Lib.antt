@@ -5,6 +5,7 @@ pub mod Value
 pub mod Movements
 pub mod Turn
 pub mod View
+pub mod Until
 pub mod Laws
 pub mod History
 pub mod Sight

@@ -15,18 +15,11 @@ use ss_state::LAST_POSITION;
 use std::alloc::{AllocError, Global};
 
 /// Whether a movement from position `from` stops at the machine's present state. `met` says whether
-/// it met the change that it looks for.
-fn is_at_stop<S: SetBoard>(
-    debugger: &Debugger<S>,
-    question: &Question,
-    from: u64,
-    met: bool,
-) -> bool
-    requires { met ≡ is_met (has_changed debugger.now.machine.input question.now) from
-        (position debugger.now.machine) }
-    ensures { result ≡ is_stop debugger.now.machine.input
-        (ahead_condition debugger.now.machine.input debugger.now.breaks
-        (has_changed debugger.now.machine.input question.now)) from
+/// it met the state that it looks for.
+pub fn is_at_stop<S: SetBoard>(debugger: &Debugger<S>, from: u64, met: bool) -> bool
+    ensures { (test : ℕ → Bool) → met ≡ is_met test from (position debugger.now.machine)
+        → result ≡ is_stop debugger.now.machine.input
+        (ahead_condition debugger.now.machine.input debugger.now.breaks test) from
         (position debugger.now.machine) }
 {
     if !is_ready_now(debugger) || met {
@@ -64,7 +57,7 @@ pub fn ahead_to_change<S: SetBoard>(
     let from = debugger.machine().position();
     let steps = bound.min(LAST_POSITION - from);
     for _k in 0..steps {
-        if is_at_stop(debugger, question, from, met) {
+        if is_at_stop(debugger, from, met) {
             return Ok(met);
         }
         let touched = reading.touched(debugger);

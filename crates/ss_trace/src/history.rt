@@ -115,7 +115,10 @@ fn push_table<S: SetBoard>(
 }
 
 /// Goes forward again to a position over steps that were made.
-fn return_to<S: SetBoard>(debugger: &mut Debugger<S>, to: u64) -> Result<(), AllocError>
+///
+/// `AllocError` if a step was refused memory: the machine is at the position to which the steps
+/// before it led.
+pub fn return_to<S: SetBoard>(debugger: &mut Debugger<S>, to: u64) -> Result<(), AllocError>
     requires later { position debugger.old.machine ≤ to }
     requires ready { (j : ℕ) → position debugger.old.machine ≤ j → j < to →
         is_ready_at debugger.old.machine.input j ≡ true }

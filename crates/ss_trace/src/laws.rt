@@ -2,6 +2,7 @@
 ghost use Rattle.ss_trace.specs.Laws.{OverEnds, BackOverEnds};
 ghost use Rattle.ss_trace.specs.Laws.{StartIsBehindReady, CommandsPassNoEnd, MovementsPassNoEnd};
 ghost use Rattle.ss_trace.specs.Laws.{HistoriesAreWhole, HistoriesAreTrue, HistoriesGoDown};
+ghost use Rattle.ss_trace.specs.Laws.{FirstEnds, UntilsPassNoEnd, BackUntilReturns};
 
 /// OVER ends within its bound, never past a state that isn't ready nor the last position.
 pub fn over_ends_within_its_bound()
@@ -35,4 +36,20 @@ pub fn histories_are_true()
 /// The steps after a step of a history are the history at that step: the newest is the first.
 pub fn histories_go_down()
     ensures { HistoriesGoDown }
+{}
+
+/// GO FIRST ends at the first state that is met, never past a state that isn't ready nor the last
+/// position.
+pub fn go_first_ends_at_the_first()
+    ensures { FirstEnds }
+{}
+
+/// RUN UNTIL, BACK UNTIL and GO FIRST lead past no state that is not ready either.
+pub fn no_aim_leads_past_an_end()
+    ensures { UntilsPassNoEnd }
+{}
+
+/// BACK UNTIL from a later position returns to the state at which RUN UNTIL met its aim.
+pub fn back_until_returns()
+    ensures { BackUntilReturns }
 {}

@@ -6,7 +6,7 @@ ghost use Rattle.ss_debug.specs.Move.{line_at};
 ghost use Rattle.ss_debug.specs.Answer.{section_at};
 ghost use Rattle.ss_trace.specs.Question.{question_text};
 ghost use Rattle.ss_trace.specs.Value.{value_in};
-ghost use Rattle.ss_trace.specs.History.{to_right, to_left, row, head_row, no_change_head, no_change_text, change_line};
+ghost use Rattle.ss_trace.specs.History.{to_right, to_left, row, head_of, head_row, no_change_head, no_change_text, change_line};
 
 use crate::answer::push_asked;
 use crate::question::Question;
@@ -89,13 +89,20 @@ fn push_row(
     bytes.extend_from_slice(b"\n")
 }
 
-/// Appends the head of the table.
+/// Appends the head of a table of the values of something of this name.
+pub fn push_head_of(bytes: &mut Vec<u8>, name: &[u8]) -> Result<(), AllocError>
+    ensures { OnOk result (bytes.new.items ≡ bytes.old.items ++ head_of name.now) }
+{
+    push_row(bytes, b"STATE", b"CLOCK", b"IN", b"LINE", name)
+}
+
+/// Appends the head of the table of a question.
 fn push_head_row(bytes: &mut Vec<u8>, question: &Question) -> Result<(), AllocError>
     ensures { OnOk result (bytes.new.items ≡ bytes.old.items ++ head_row question.now) }
 {
     let mut name = Vec::new(*bytes.allocator());
     push_asked(question, &mut name)?;
-    push_row(bytes, b"STATE", b"CLOCK", b"IN", b"LINE", &name)
+    push_head_of(bytes, &name)
 }
 
 /// Appends the head of the table, and its rows.
@@ -131,6 +138,32 @@ fn present_section<S: SetBoard>(debugger: &Debugger<S>) -> &[u8]
     &machine.program().section(section).name.bytes
 }
 
+/// Appends the row of the debugger's next step; `value` is the text of the value after the step.
+pub fn push_row_of<S: SetBoard>(
+    bytes: &mut Vec<u8>,
+    debugger: &Debugger<S>,
+    value: &[u8],
+) -> Result<(), AllocError>
+    ensures { OnOk result (bytes.new.items ≡ bytes.old.items
+        ++ row (decimal (position debugger.now.machine))
+        (signed_decimal debugger.now.machine.state.clock)
+        (section_at debugger.now.machine.input (position debugger.now.machine))
+        (decimal (line_at debugger.now.machine.input (position debugger.now.machine))) value.now) }
+{
+    let machine = debugger.machine();
+    let mut state = Buffer::new();
+    let mut clock = Buffer::new();
+    let mut line = Buffer::new();
+    push_row(
+        bytes,
+        state.format(machine.position()).as_bytes(),
+        clock.format(machine.clock()).as_bytes(),
+        present_section(debugger),
+        line.format(present_line(debugger) as u64).as_bytes(),
+        value,
+    )
+}
+
 /// Appends the row of the debugger's next step; `after` is the answer after the step.
 pub fn push_step_row<S: SetBoard>(
     bytes: &mut Vec<u8>,
@@ -147,18 +180,7 @@ pub fn push_step_row<S: SetBoard>(
 {
     let mut value = Vec::new(*bytes.allocator());
     push_value(question, after, &mut value)?;
-    let machine = debugger.machine();
-    let mut state = Buffer::new();
-    let mut clock = Buffer::new();
-    let mut line = Buffer::new();
-    push_row(
-        bytes,
-        state.format(machine.position()).as_bytes(),
-        clock.format(machine.clock()).as_bytes(),
-        present_section(debugger),
-        line.format(present_line(debugger) as u64).as_bytes(),
-        &value,
-    )
+    push_row_of(bytes, debugger, &value)
 }
 
 /// The earliest kept position.

@@ -1,3 +1,6 @@
--- The definitions of a program call: the questions that its words name, and its exit status.
+-- The definitions of a program call: the questions and measures that its words name, and its exit
+-- status.
 pub mod Questions
+pub mod Measures
+pub mod MeasuresView
 pub mod Causes

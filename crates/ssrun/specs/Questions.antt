@@ -19,9 +19,28 @@ watched_by (Why question) = Some (Ok question)
 watched_by (Missing m) = Some (Err m)
 watched_by _ = None
 
--- the question that a text asks about a program: the one that the prompt reads in it after WHY
+-- the question that the prompt reads in a text after some words
+abbrev pub watched_after : ProgramTable → List ℕ → List ℕ → Option (Result Question NoName)
+watched_after program head text = watched_by (prompt_command_of program (head ++ text))
+
+-- a set, or else a variable
+abbrev pub set_or_variable : Option (Result Question NoName) → Option (Result Question NoName) →
+    Option (Result Question NoName)
+set_or_variable (Some (Ok x)) other = Some (Ok x)
+set_or_variable (Some (Err m)) other = other
+set_or_variable None other = other
+
+-- a question, or else that of a name alone
+abbrev pub question_or_name : Option (Result Question NoName) → Option (Result Question NoName) →
+    Option (Result Question NoName)
+question_or_name (Some asked) other = Some asked
+question_or_name None other = other
+
+-- the question that a text asks about a program: the one that the prompt reads in it after WHY; of a name alone, which
+-- the prompt reads as an expression there, that of the set or the variable
 abbrev pub watched_of : ProgramTable → List ℕ → Option (Result Question NoName)
-watched_of program text = watched_by (prompt_command_of program (codes "WHY " ++ text))
+watched_of program text = question_or_name (watched_after program (codes "WHY ") text)
+    (set_or_variable (watched_after program (codes "WHY SET ") text) (watched_after program (codes "WHY VAR ") text))
 
 -- some questions, and the one that a text asks, if none of them is the same
 abbrev pub with_watched : List Question → Option (Result Question NoName) → List Question

@@ -7,9 +7,9 @@ use std::alloc::AllocError;
 pub enum Cause<'a> {
     /// A stop that stops a program before its work.
     Stop(Stop<'a>),
-    /// This text is no question.
+    /// This text is no question, no expression and no condition.
     NoQuestion(&'a str),
-    /// Some questions name nothing of the model; these lines say which.
+    /// Some texts name nothing of the model, or break a rule; these lines say which.
     Unnamed(Vec<u8>),
 }
 

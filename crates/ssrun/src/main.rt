@@ -1,4 +1,4 @@
-//! `ssrun [--watch QUESTION --trace FILE] [--result QUESTION --results FILE] MODEL [DATA]`: runs a
+//! `ssrun [--watch QUESTION --trace FILE] [--result EXPRESSION --results FILE] MODEL [DATA]`: runs a
 //! model to its end and writes its report, a trace of questions, and a row of results.
 #![tactic(auto)]
 
@@ -9,6 +9,7 @@ ghost use Rattle.ss_run.specs.WholeRun.{end_of_outcome};
 ghost use Rattle.ssrun.specs.Causes.{cause_status};
 
 mod cause;
+mod measures;
 mod meter;
 mod questions;
 mod words;
@@ -16,14 +17,15 @@ mod words;
 use cause::Cause;
 use clap::Error;
 use clap::error::ErrorKind;
+use measures::read_measures;
 use meter::Meter;
 use questions::read_questions;
 use ss_host::{Stop, Stream, explain, read_arguments, read_file, read_or, stop_by, tell};
 use ss_run::{
-    Asked, RunCut, RunEnd, WholeRun, model_warnings, results_head, run_model, run_status,
+    Asked, Measure, RunCut, RunEnd, WholeRun, model_warnings, results_head, run_model, run_status,
     trace_model, unfit_words,
 };
-use ss_session::{LoadFault, load_program};
+use ss_session::{LoadFault, Loaded, drop_symbols, load_program, load_with_symbols};
 use ss_trace::Question;
 use std::alloc::Global;
 use std::fs::{self, File};
@@ -37,7 +39,7 @@ type Ran = (Result<WholeRun, RunCut>, Vec<u8>);
 
 /// The words that the program takes.
 const USAGE: &str =
-    "ssrun [--watch QUESTION --trace FILE] [--result QUESTION --results FILE] MODEL [DATA]";
+    "ssrun [--watch QUESTION --trace FILE] [--result EXPRESSION --results FILE] MODEL [DATA]";
 
 /// The questions that some words name of a model; none if it is refused.
 fn questions_of<'a>(
@@ -53,6 +55,28 @@ fn questions_of<'a>(
             let questions = read_questions(alloc, &program, texts);
             program.end();
             questions
+        }
+        Err(LoadFault::Memory) => Err(Cause::Stop(Stop::Memory)),
+        Err(_) => Ok(Vec::new(alloc)),
+    }
+}
+
+/// The measures that some words name of a model; none if it is refused.
+fn measures_of<'a>(
+    alloc: Global,
+    model: &[u8],
+    texts: &[&'a str],
+) -> Result<Vec<Measure>, Cause<'a>> {
+    if texts.is_empty() {
+        return Ok(Vec::new(alloc));
+    }
+    match load_with_symbols(alloc, model) {
+        Ok(loaded) => {
+            let Loaded { program, symbols } = loaded;
+            let measures = read_measures(alloc, &program, &symbols, texts);
+            drop_symbols(symbols);
+            program.end();
+            measures
         }
         Err(LoadFault::Memory) => Err(Cause::Stop(Stop::Memory)),
         Err(_) => Ok(Vec::new(alloc)),
@@ -99,12 +123,12 @@ fn run_traced<'a>(
 
 /// Reads model and data, in that order, and runs the model; gives its warnings too.
 ///
-/// The model runs only if both were read and each question is one on it.
+/// The model runs only if both were read and each question and expression has a meaning in it.
 fn run<'a>(rt: &HostRuntime, words: &Words<'a>) -> Result<Ran, Cause<'a>> {
     let model = read_file(rt, words.model).map_err(Cause::Stop)?;
     let input = read_or(rt, words.input, b"").map_err(Cause::Stop)?;
     let watched = questions_of(rt.alloc(), &model, &words.watched)?;
-    let results = questions_of(rt.alloc(), &model, &words.measured)?;
+    let results = measures_of(rt.alloc(), &model, &words.measured)?;
     let asked = Asked {
         watched: &watched,
         name: data_name(words.input).as_bytes(),
@@ -138,13 +162,13 @@ fn run_measured<'a>(
 fn with_results(
     alloc: Global,
     file: &mut File,
-    questions: &[Question],
+    measures: &[Measure],
     whole: WholeRun,
 ) -> Result<WholeRun, RunCut> {
     if whole.results.is_empty() {
         return Ok(whole);
     }
-    let mut table = results_head(alloc, questions)?;
+    let mut table = results_head(alloc, measures)?;
     table.extend_from_slice(&whole.results)?;
     match file.write_all(&table) {
         Ok(()) => Ok(whole),

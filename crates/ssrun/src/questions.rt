@@ -1,6 +1,6 @@
 //! The questions that `--watch` names, as the prompt takes them (docs/PROMPT.md).
 ghost use Rattle.std.specs.Prelude.{◌≡◌, map, IfOk, IfErr};
-ghost use Rattle.ssrun.specs.Questions.{watched_by, watched_of, questions_of, IsUnasked};
+ghost use Rattle.ssrun.specs.Questions.{watched_after, watched_by, watched_of, questions_of, IsUnasked};
 
 use crate::cause::Cause;
 use ss_program::Program;
@@ -20,18 +20,38 @@ fn watched_by(command: PromptCommand) -> Option<Result<Question, Missing>>
     }
 }
 
+/// The question that a text asks about a program after these words of the prompt, or the name in it
+/// that the program hasn't; none if the text asks nothing there.
+fn watched_after(
+    alloc: Global,
+    program: &Program,
+    head: &[u8],
+    text: &[u8],
+) -> Result<Option<Result<Question, Missing>>, AllocError>
+    ensures { IfOk result (λ asked. asked ≡ watched_after program.now head.now text.now) }
+{
+    let mut line = Vec::from_slice(alloc, head)?;
+    line.extend_from_slice(text)?;
+    Ok(watched_by(prompt_command(program, &line)))
+}
+
 /// The question that a text asks about a program after WHY at the prompt, or the name in it that
-/// the program hasn't; none if the text asks nothing.
-fn watched(
+/// the program hasn't; else that of a name alone, which is a set's or a variable's; none if the
+/// text asks nothing.
+pub(crate) fn watched(
     alloc: Global,
     program: &Program,
     text: &[u8],
 ) -> Result<Option<Result<Question, Missing>>, AllocError>
     ensures { IfOk result (λ asked. asked ≡ watched_of program.now text.now) }
 {
-    let mut line = Vec::from_slice(alloc, b"WHY ")?;
-    line.extend_from_slice(text)?;
-    Ok(watched_by(prompt_command(program, &line)))
+    if let Some(asked) = watched_after(alloc, program, b"WHY ", text)? {
+        return Ok(Some(asked));
+    }
+    if let Some(Ok(set)) = watched_after(alloc, program, b"WHY SET ", text)? {
+        return Ok(Some(Ok(set)));
+    }
+    watched_after(alloc, program, b"WHY VAR ", text)
 }
 
 /// The questions that some texts ask about a program, each once.

@@ -16,7 +16,7 @@ pub struct Words<'a> {
     pub watched: Vec<&'a str>,
     /// The path of their trace, if one is named.
     pub trace: Option<&'a str>,
-    /// The questions whose values in the last state are results.
+    /// The expressions, conditions and questions whose values in the last state are results.
     pub measured: Vec<&'a str>,
     /// The path of the results, if one is named.
     pub results: Option<&'a str>,
@@ -52,10 +52,10 @@ fn with_trace<'a>(alloc: Global) -> Result<Command<'a>, Error> {
 fn with_result<'a>(alloc: Global) -> Result<Command<'a>, Error> {
     let result = Arg::new(alloc, "result")
         .long("result")
-        .value_name("QUESTION")
+        .value_name("EXPRESSION")
         .action(ArgAction::Append)
         .requires_arg("results")?
-        .help("a question whose value in the last state is a result; may be repeated");
+        .help("an expression, condition or question: its last value is a result; may be repeated");
     let command = with_trace(alloc)?.arg(result)?;
     Ok(command)
 }

@@ -1,9 +1,10 @@
 //! A machine is a run that is walked forwards and backwards.
 use crate::machine::Machine;
 use ss_links::SetBoard;
-use ss_program::{Program, Variable};
+use ss_program::{Condition, Expr, Index, Program, Variable};
 use ss_state::{Entry, Status, Stepped};
 use ss_timeline::Timeline;
+use ss_words::RunFault;
 use std::alloc::AllocError;
 
 impl<S: SetBoard> Timeline for Machine<S> {
@@ -72,6 +73,21 @@ impl<S: SetBoard> Timeline for Machine<S> {
     fn frame_local(&self, depth: usize, number: usize) -> Option<i64> {
         self.known();
         Machine::frame_local(self, depth, number)
+    }
+
+    fn value_in(&self, depth: usize, e: &Expr) -> Option<Result<i64, RunFault>> {
+        self.known();
+        Machine::value_in(self, depth, e)
+    }
+
+    fn truth_in(&self, depth: usize, c: &Condition) -> Option<Result<bool, RunFault>> {
+        self.known();
+        Machine::truth_in(self, depth, c)
+    }
+
+    fn subscript_in(&self, depth: usize, index: &Index) -> Option<Result<i64, RunFault>> {
+        self.known();
+        Machine::subscript_in(self, depth, index)
     }
 
     #[tactic(auto, using(crate::proofs::Timelines::steps_on, crate::proofs::Timelines::ends_on))]

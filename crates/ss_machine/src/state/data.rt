@@ -5,7 +5,7 @@ ghost use Rattle.ss_report.specs.Pictures.{field_count, picture_text};
 ghost use Rattle.ss_state.specs.Change.{Fits, unapply};
 ghost use Rattle.ss_values.specs.Values.{FaultIs};
 ghost use Rattle.ss_state.specs.Statements.Reading.{value_taken, values_taken};
-ghost use Rattle.ss_state.specs.Statements.Timing.{external_class, arrival_asked};
+ghost use Rattle.ss_state.specs.Statements.Timing.{external_class, arrival_asked, loads};
 ghost use Rattle.ss_state.specs.Statements.Printing.{longer_report};
 ghost use Rattle.ss_state.specs.Statements.{state_with_taken};
 ghost use Rattle.ss_machine.specs.ChangeView.{as_change};
@@ -15,12 +15,13 @@ ghost use Rattle.ss_data.specs.Entries.{place_behind_mark};
 
 use crate::state::State;
 use crate::state::change::Change;
-use crate::state::external::external_class;
+use crate::state::external::{external_class, has_external};
 use ss_data::{Feed, PieceKind};
 use ss_journal::Undo;
 use ss_links::SetBoard;
 use ss_program::{Program, Targets};
 use ss_report::{Picture, Report};
+use ss_state::Entry;
 use ss_words::characters::LINE_FEED;
 use ss_words::{RunFault, StepFault};
 
@@ -56,6 +57,16 @@ impl<S: SetBoard> State<S> {
                 self.feed.undo(old);
                 Err(e)
             }
+        }
+    }
+
+    /// Whether an entry of the data is to be loaded.
+    pub fn loads_entry(&self, program: &Program) -> bool
+        ensures { result ≡ loads program.now self.now.state }
+    {
+        match self.entry {
+            Entry::Absent => has_external(program) && self.has_piece(),
+            _ => false,
         }
     }
 

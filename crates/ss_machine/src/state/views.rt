@@ -2,10 +2,13 @@
 ghost use Rattle.std.specs.Prelude.{◌≡◌, ◌≤◌, ◌-◌, ◌<◌, length, reverse, slice_get};
 ghost use Rattle.std.specs.Option.{option_map};
 ghost use Rattle.ss_state.specs.Frames.{frame_at, frame_place, frame_local};
+ghost use Rattle.ss_state.specs.Readings.{readings_in};
+ghost use Rattle.ss_values.specs.Seen.{view_readings};
 
 use crate::state::State;
 use crate::state::frame::Frame;
 use ss_links::SetBoard;
+use ss_values::View;
 
 /// The frame at this place from the end of some frames, the last of which is at place 1.
 #[tactic(auto, using(ss_state::proofs::Frames::from_end))]
@@ -29,6 +32,21 @@ impl<S: SetBoard> State<S> {
             return Some(self.last());
         }
         from_end(&self.below, depth)
+    }
+
+    /// What an expression reads in the frame with `depth` others above it.
+    pub fn view_in(&self, depth: usize) -> Option<View<'_, S>>
+        ensures { option_map view_readings result
+            ≡ option_map (readings_in self.now.beside.tables self.now.state)
+            (frame_at self.now.state depth) }
+    {
+        let frame = self.frame_at(depth)?;
+        Some(View {
+            variables: self.variables.as_slice(),
+            locals: frame.locals.as_slice(),
+            clock: self.clock,
+            store: &self.store,
+        })
     }
 
     /// The section of the frame with `depth` others above it, and its current place.

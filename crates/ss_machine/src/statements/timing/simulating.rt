@@ -19,7 +19,6 @@ ghost use Rattle.ss_state.specs.Statements.Timing.{state_after_arrival, state_af
 ghost use Rattle.ss_state.specs.Statements.Timing as steps;
 
 use crate::executor::Executor;
-use crate::state::external::has_external;
 use crate::statements::timing::event_class;
 use ss_events::Slot;
 use ss_links::SetBoard;
@@ -180,10 +179,7 @@ impl<S: SetBoard> Executor<S> {
     fn loads(&self, program: &Program) -> bool
         ensures { result ≡ loads program.now (state self.now) }
     {
-        match self.held.entry() {
-            Entry::Absent => has_external(program) && self.held.has_piece(),
-            _ => false,
-        }
+        self.held.loads_entry(program)
     }
 
     /// START SIMULATION: loads an entry of the data, or runs the timing routine.

@@ -12,6 +12,6 @@ unfolding MakesTrace
 returns-in_err-machine g c =
     let a : OutletState =
     record { taken = g.T.Outlet.taken c.args.trace.now; failures = g.T.Outlet.failures c.args.trace.now } in
-    let t = input_with c.args.program c.args.data_text.now in
+    let t = input_with c.args.loaded.program c.args.data_text.now in
     let e : c.from_residual.result ≡ Err Memory = search rules in
     rw e (inr (Memory, refl, (appends_none _, refl), nothing_traced t c.args.asked.watched.now a a (appends_none _, refl)))

@@ -1,4 +1,4 @@
-use Rattle.std.proofs.Common.{◌≡◌, ◌+◌, ◌-◌, ℕ, min, true, false, sym, ap, ◌∙◌, arith, rules}
+use Rattle.std.proofs.Common.{◌≡◌, ◌+◌, ◌-◌, ℕ, min, Bool, true, false, sym, ap, ◌∙◌, arith, rules}
 use borrow.Author.Count.{below_more}
 use Rattle.ss_state.specs.declared.limits.TheConstants.{LAST_POSITION}
 use Rattle.ss_machine.specs.Moment.{position}
@@ -13,7 +13,7 @@ use Rattle.ss_trace.specs.Sight.{sight_of, glance_at, is_same_glance}
 use Rattle.ss_trace.specs.Touches.{touched_at, part_of}
 use Rattle.ss_trace.specs.Reading.{IsReadAt}
 use Rattle.ss_trace.proofs.Refusals.{on_err}
-use Rattle.ss_trace.proofs.Changes.{stops_here, met_behind, changes_between}
+use Rattle.ss_trace.proofs.Changes.{stops_here, ready_here, met_behind, changes_between}
 use Rattle.ss_trace.proofs.Glances.{same_is, unseen}
 use Rattle.ss_trace.proofs.SameNumbers.{numbers_left, counted_left, entity_seen}
 use Rattle.ss_trace.proofs.Telling.{told_on}
@@ -106,11 +106,12 @@ returns-then-is_at_stop-clause-ok g c =
     let held = c.loop-k.invariant in
     let from : c.position-from.result ≡ position m = rw c.machine-2.ensures at c.position-from.ensures in
     let most : ℕ = min c.args.bound (LAST_POSITION - position m) in
-    let condition : StopCondition = ahead_condition m.input d.breaks (has_changed m.input c.args.question.now) in
-    let here =
-    stops_here m.input l.machine.input d.breaks l.breaks c.args.question.now (position m) (position l.machine)
-    c.loop-k._k c.position-from.result held.input held.breaks held.stepped from in
-    let found : stops m.input condition (position m) c.loop-k._k ≡ true = rw here (sym c.if-is_at_stop.ensures) in
+    let test : ℕ → Bool = has_changed m.input c.args.question.now in
+    let condition : StopCondition = ahead_condition m.input d.breaks test in
+    let found : stops m.input condition (position m) c.loop-k._k ≡ true =
+    stops_here m.input l.machine.input d.breaks l.breaks test (position m) (position l.machine) c.loop-k._k
+    c.position-from.result true held.input held.breaks held.stepped from
+    (c.if-is_at_stop.ensures test (rw from held.met)) in
     let e =
     least_is (stops m.input condition (position m)) most c.loop-k._k (omega (arith, from)) held.went_on (λ _. found) in
     record {
@@ -119,6 +120,16 @@ returns-then-is_at_stop-clause-ok g c =
       breaks = held.breaks;
       position = rw e held.stepped;
     }
+
+pub step_once-requires-clause-ready : goal.step_once-requires-clause-ready
+step_once-requires-clause-ready g c =
+    let m = c.args.debugger.now.machine in
+    let l = c.loop-k.debugger in
+    let held = c.loop-k.invariant in
+    let from : c.position-from.result ≡ position m = rw c.machine-2.ensures at c.position-from.ensures in
+    let test : ℕ → Bool = has_changed m.input c.args.question.now in
+    ready_here l.machine.input l.breaks test c.position-from.result (position l.machine)
+    (c.if-is_at_stop.ensures test (rw from held.met))
 
 pub returns-in_err-step_once-clause-memory : goal.returns-in_err-step_once-clause-memory
 returns-in_err-step_once-clause-memory g c =
@@ -149,11 +160,12 @@ returns-in_err-follow-clause-memory g c =
     let gone = c.in_ok-step_once.ensures.ok in
     let from : c.position-from.result ≡ position m = rw c.machine-2.ensures at c.position-from.ensures in
     let most : ℕ = min c.args.bound (LAST_POSITION - position m) in
-    let condition : StopCondition = ahead_condition m.input d.breaks (has_changed m.input c.args.question.now) in
-    let here =
-    stops_here m.input l.machine.input d.breaks l.breaks c.args.question.now (position m) (position l.machine)
-    c.loop-k._k c.position-from.result held.input held.breaks held.stepped from in
-    let at_k : stops m.input condition (position m) c.loop-k._k ≡ false = rw here (sym c.if-is_at_stop.ensures) in
+    let test : ℕ → Bool = has_changed m.input c.args.question.now in
+    let condition : StopCondition = ahead_condition m.input d.breaks test in
+    let at_k : stops m.input condition (position m) c.loop-k._k ≡ false =
+    stops_here m.input l.machine.input d.breaks l.breaks test (position m) (position l.machine) c.loop-k._k
+    c.position-from.result false held.input held.breaks held.stepped from
+    (c.if-is_at_stop.ensures test (rw from held.met)) in
     let low =
     least_at_least (stops m.input condition (position m)) most (c.loop-k._k + 1) (omega (arith, from)) (λ j h.
     below_more (λ i. stops m.input condition (position m) i ≡ false) c.loop-k._k
@@ -174,12 +186,13 @@ loop-k-preserved g c =
     let held = c.loop-k.invariant in
     let x = c.args.question.now in
     let from : c.position-from.result ≡ position m = rw c.machine-2.ensures at c.position-from.ensures in
-    let condition : StopCondition = ahead_condition m.input d.breaks (has_changed m.input x) in
+    let test : ℕ → Bool = has_changed m.input x in
+    let condition : StopCondition = ahead_condition m.input d.breaks test in
     let gone = c.in_ok-step_once.ensures.ok in
-    let here =
-    stops_here m.input l.machine.input d.breaks l.breaks x (position m) (position l.machine)
-    c.loop-k._k c.position-from.result held.input held.breaks held.stepped from in
-    let at_k : stops m.input condition (position m) c.loop-k._k ≡ false = rw here (sym c.if-is_at_stop.ensures) in
+    let at_k : stops m.input condition (position m) c.loop-k._k ≡ false =
+    stops_here m.input l.machine.input d.breaks l.breaks test (position m) (position l.machine) c.loop-k._k
+    c.position-from.result false held.input held.breaks held.stepped from
+    (c.if-is_at_stop.ensures test (rw from held.met)) in
     let followed : IsReadAt m.input x (position c.step_once.new.debugger.machine) c.follow.new.self =
     rw (gone.input, held.input) at c.in_ok-follow.ensures.ok in
     let behind : c.follow.new.self.answer.items ≡ answer_at m.input x (position l.machine + 1) =

@@ -1,0 +1,4 @@
+pub mod Searching
+pub mod Arriving
+pub mod Asking
+pub mod CauseLaws

@@ -1,0 +1,32 @@
+//! SHOW TAKEN.
+ghost use Rattle.std.specs.Prelude.{◌≡◌, ◌++◌, OnOk, OnErr};
+ghost use Rattle.ss_prompt.specs.PromptState.{state_at};
+ghost use Rattle.ss_prompt.specs.Plain.{plain_next, plain_said, IsPlainRefused};
+
+use crate::desk::PromptDesk;
+use crate::taken::push_next;
+use ss_debug::{Command, Debugger, Question as PlainQuestion, obey};
+use ss_links::SetBoard;
+use std::alloc::AllocError;
+
+impl<'a> PromptDesk<'a> {
+    /// SHOW TAKEN.
+    #[tactic(auto, using(crate::proofs::TakenRefusals::after_taken, crate::proofs::StopRefusals::movements))]
+    pub(crate) fn show_taken<S: SetBoard>(
+        &self,
+        debugger: &mut Debugger<S>,
+        answer: &mut Vec<u8>,
+    ) -> Result<(), AllocError>
+        ensures place { OnOk result (state_at debugger.new self.now
+            ≡ plain_next (state_at debugger.old self.now) (Command.Show PlainQuestion.Taken)) }
+        ensures said { OnOk result (answer.new.items ≡ answer.old.items
+            ++ plain_said (state_at debugger.old self.now) (Command.Show PlainQuestion.Taken)) }
+        ensures memory { OnErr result (IsPlainRefused (state_at debugger.old self.now)
+            (Command.Show PlainQuestion.Taken) (state_at debugger.new self.now)) }
+    {
+        obey(debugger, Command::Show(PlainQuestion::Taken), answer)?;
+        let machine = debugger.machine();
+        machine.known();
+        push_next(answer, self.data_text, machine.taken())
+    }
+}

@@ -1,0 +1,19 @@
+use Rattle.std.proofs.Common.{◌≡◌, ℕ, ◌+◌, ◌<◌, false}
+use Rattle.ss_machine.specs.Moment.{position}
+use Rattle.ss_debug.specs.Move.{stops}
+use Rattle.ss_trace.specs.Movements.{ahead_condition, is_met}
+use Rattle.ss_trace.proofs.aim.ahead_to_aim.Given as goal
+
+abbrev pub invariant-loop-k : goal.invariant-loop-k
+invariant-loop-k g l = record {
+  input : l.debugger.machine.input ≡ l.initial.debugger.machine.input;
+  forgotten : l.debugger.machine.forgotten ≡ l.initial.debugger.machine.forgotten;
+  breaks : l.debugger.breaks ≡ l.initial.debugger.breaks;
+  stepped : position l.debugger.machine ≡ position l.initial.debugger.machine + l._k;
+  met : l.met ≡ is_met (g.A.Aim.test l.aim l.initial.debugger.machine.input)
+      (position l.initial.debugger.machine) (position l.debugger.machine);
+  went_on : (j : ℕ) → j < l._k →
+      stops l.initial.debugger.machine.input (ahead_condition l.initial.debugger.machine.input
+      l.initial.debugger.breaks (g.A.Aim.test l.aim l.initial.debugger.machine.input))
+      (position l.initial.debugger.machine) j ≡ false;
+}
