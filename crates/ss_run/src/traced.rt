@@ -269,16 +269,13 @@ fn trace_program<P: Progress, T: Outlet, W: Outlet>(
 {
     let Loaded { program, symbols } = loaded;
     let (sets, pending) = (LinkedSets::new(alloc), LinkedSets::new(alloc));
-    let machine = machine(alloc, program, data_text, sets, pending)?;
-    trace_run(
-        alloc,
-        machine,
-        data_text,
-        with_symbols(asked, &symbols),
-        progress,
-        trace,
-        out,
-    )
+    match machine(alloc, program, data_text, sets, pending) {
+        Ok(machine) => {
+            let wanted = with_symbols(asked, &symbols);
+            trace_run(alloc, machine, data_text, wanted, progress, trace, out)
+        }
+        Err(_) => Err(RunCut::Memory),
+    }
 }
 
 /// As `run_model`, and writes a trace of the watched questions as the run goes.

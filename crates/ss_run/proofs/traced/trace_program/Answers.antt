@@ -1,4 +1,4 @@
-use Rattle.std.proofs.Common.{◌≡◌, Err, refl, inr, rules}
+use Rattle.std.proofs.Common.{refl, inr}
 use Rattle.ss_state.specs.Run.{input_with}
 use Rattle.ss_session.specs.Texts.{OutletState}
 use Rattle.ss_session.proofs.Pieces.{appends_none}
@@ -7,11 +7,10 @@ use Rattle.ss_run.specs.Tracing.{MakesTrace}
 use Rattle.ss_run.proofs.Traces.{nothing_traced}
 use Rattle.ss_run.proofs.traced.trace_program.Goals as goal
 
-pub returns-in_err-machine : goal.returns-in_err-machine
+pub returns-in-Err : goal.returns-in-Err
 unfolding MakesTrace
-returns-in_err-machine g c =
+returns-in-Err g c =
     let a : OutletState =
     record { taken = g.T.Outlet.taken c.args.trace.now; failures = g.T.Outlet.failures c.args.trace.now } in
     let t = input_with c.args.loaded.program c.args.data_text.now in
-    let e : c.from_residual.result ≡ Err Memory = search rules in
-    rw e (inr (Memory, refl, (appends_none _, refl), nothing_traced t c.args.asked.watched.now a a (appends_none _, refl)))
+    inr (Memory, refl, (appends_none _, refl), nothing_traced t c.args.asked.watched.now a a (appends_none _, refl))
