@@ -6,7 +6,7 @@ use ss_debug::Name;
 use std::alloc::AllocError;
 
 /// A row for each form of a command: the word that it begins with; its form, and its effect.
-pub const HELP_ROWS: [(&[u8], &[u8]); 67] = [
+pub const HELP_ROWS: [(&[u8], &[u8]); 72] = [
     (b"STEP", b"STEP [n]: n steps forward, 1 if not said"),
     (
         b"RUN",
@@ -16,6 +16,10 @@ pub const HELP_ROWS: [(&[u8], &[u8]); 67] = [
     (
         b"RUN",
         b"RUN CHANGE x: forward to after a step that changes x",
+    ),
+    (
+        b"RUN",
+        b"RUN CHANGE e: forward to after a step that changes expression or condition e",
     ),
     (
         b"RUN",
@@ -33,6 +37,10 @@ pub const HELP_ROWS: [(&[u8], &[u8]); 67] = [
     (
         b"BACK",
         b"BACK CHANGE x: back to before a step that changes x",
+    ),
+    (
+        b"BACK",
+        b"BACK CHANGE e: back to before a step that changes expression or condition e",
     ),
     (
         b"BACK",
@@ -112,6 +120,10 @@ pub const HELP_ROWS: [(&[u8], &[u8]); 67] = [
         b"SHOW SECTIONS: the sections, with the lines of their heads",
     ),
     (b"SHOW", b"SHOW SET s [k]: the members of set s, of owner k"),
+    (
+        b"SHOW",
+        b"SHOW s, SHOW s(e): the members of set s, of the owner with number e",
+    ),
     (b"SHOW", b"SHOW COUNT s [k]: how many they are"),
     (b"SHOW", b"SHOW EVENTS: the pending notices, the next first"),
     (
@@ -123,11 +135,19 @@ pub const HELP_ROWS: [(&[u8], &[u8]); 67] = [
     (b"WHY", b"WHY x: the newest step that changed x"),
     (
         b"WHY",
+        b"WHY e: the newest step that changed expression or condition e",
+    ),
+    (
+        b"WHY",
         b"WHY CAUSE: the step that brought this section about",
     ),
     (
         b"HISTORY",
         b"HISTORY x [n]: the newest n steps that changed x, 10 if not said",
+    ),
+    (
+        b"HISTORY",
+        b"HISTORY e [n]: the newest n steps that changed expression or condition e",
     ),
     (
         b"READS",
