@@ -7,9 +7,9 @@ use Rattle.ss_run.specs.Tracing.{MakesTrace}
 use Rattle.ss_run.proofs.Traces.{nothing_traced}
 use Rattle.ss_run.proofs.traced.trace_program.Goals as goal
 
-pub returns-in-Err : goal.returns-in-Err
+pub returns : goal.returns
 unfolding MakesTrace
-returns-in-Err g c =
+returns g c =
     let a : OutletState =
     record { taken = g.T.Outlet.taken c.args.trace.now; failures = g.T.Outlet.failures c.args.trace.now } in
     let t = input_with c.args.loaded.program c.args.data_text.now in
