@@ -15,8 +15,11 @@ pub record Asked : Type 0 where
 
 -- the results that are asked for, and the symbol table by which expressions and conditions are read
 pub record Wanted : Type 0 where
+  -- the name of the run's data
   pub name : List ℕ
+  -- what is measured
   pub results : List Measure
+  -- the symbol table of the model
   pub symbols : Symbols
 
 -- those that are asked for, by a symbol table
