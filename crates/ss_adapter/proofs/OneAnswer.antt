@@ -8,7 +8,7 @@ use Rattle.ss_trace.specs.declared.question.Question.{Question}
 use Rattle.ss_prompt.specs.declared.commands.PromptCommand.{PromptCommand}
 use Rattle.ss_prompt.specs.declared.missing.Missing.{Missing as NoName}
 use Rattle.ss_prompt.specs.Points.{is_movement, point_of}
-use Rattle.ss_prompt.specs.Reading.{prompt_command_of}
+use Rattle.ss_prompt.specs.Prompting.{misread_in}
 use Rattle.ss_state.specs.Run.{run}
 use Rattle.ss_messages.specs.declared.request.Command.{Command}
 use Rattle.ss_messages.specs.declared.request.Command.TheVariants.{ConfigurationDone, Obey, Ask, Source}
@@ -18,14 +18,15 @@ use Rattle.ss_messages.specs.declared.counting.Counting.{Counting}
 use Rattle.ss_messages.specs.Messages.{Sent, reply, failure, event}
 use Rattle.ss_messages.specs.Bodies.{output_body, content_body, result_body, without_last}
 use Rattle.ss_adapter.specs.declared.going.Going.{Going}
-use Rattle.ss_trace.specs.Value.{value_at}
+use Rattle.ss_readings.specs.Value.{Value}
 use Rattle.ss_adapter.specs.Desk.{DeskView}
 use Rattle.ss_adapter.specs.Looking.{reason_at, hit_at, is_over, exception_by, asked_of}
 use Rattle.ss_adapter.specs.Going.{going_of, going_answer, state_behind, watched_by}
 use Rattle.ss_adapter.specs.Console.{point_told}
 use Rattle.ss_adapter.specs.Turn.{AdapterState, report_at, untold_output, stop_events, end_by, end_of}
 use Rattle.ss_adapter.specs.Turn.{behind_movement, behind_going, going_to_stop, point_behind, behind_command}
-use Rattle.ss_adapter.specs.Turn.{console_command, console_after, answer_to_question, answer_on_fault}
+use Rattle.ss_adapter.specs.Turn.{at_console, console_after, typed_command, answer_unless}
+use Rattle.ss_adapter.specs.Turn.{answer_without_value, answer_by_value, answer_to_asked, answer_on_fault}
 use Rattle.ss_adapter.specs.Turn.{answer_to_goto, going_to_state, answers_elsewhere}
 use Rattle.ss_adapter.specs.Turn.{answer_about_run, told_debugged, told_by, undebugged_count, answers_by, answer_to_configuration}
 use Rattle.ss_adapter.specs.Turn.{exit_events, stopped_event, reply_with_stop, reply_with_going, source_messages}
@@ -108,11 +109,20 @@ command_told state command false = line_told state command (point_of state.input
 
 -- ---- a request
 
-question_answered : (input : Input) (p : ℕ) (question : Option (Result Question NoName)) →
-    AreOneAnswer (answer_to_question input p question)
-question_answered input p (Some (Ok q)) = tt
-question_answered input p (Some (Err m)) = tt
-question_answered input p None = tt
+without_value_answered : (reason : List ℕ) (said : Option (List ℕ)) → AreOneAnswer (answer_without_value reason said)
+without_value_answered reason None = tt
+without_value_answered reason (Some s) = tt
+
+value_answered : (reason : List ℕ) (said : Option (List ℕ)) (value : Option Value) →
+    AreOneAnswer (answer_by_value reason said value)
+value_answered reason said None = without_value_answered reason said
+value_answered reason said (Some v) = tt
+
+question_answered : (state : AdapterState) (text : List ℕ) (question : Option (Result Question NoName)) →
+    AreOneAnswer (answer_to_asked state text question)
+question_answered state text (Some (Ok q)) = tt
+question_answered state text (Some (Err m)) = value_answered _ _ _
+question_answered state text None = value_answered _ _ _
 
 fault_answered : (body : Option (List ℕ)) → AreOneAnswer (answer_on_fault body)
 fault_answered (Some body) = tt
@@ -136,15 +146,19 @@ goto_answered state target =
     (output_told state.desk.told
     (report_at state.input (state_behind state.input state.debugger (going_to_state target)))) tt
 
+line_answered : (state : AdapterState) (command : PromptCommand) (misread : Option (List ℕ)) →
+    AreOneAnswer (answer_unless state command misread)
+line_answered state command None = command_told state command (is_movement command)
+line_answered state command (Some m) = tt
+
 standing_answered : (state : AdapterState) (command : Command) → AreOneAnswer (told_debugged state command)
 unfolding told_debugged answer_about_run
 standing_answered state ConfigurationDone = configuration_answered state
 standing_answered state (Goto target) = goto_answered state target
 standing_answered state (Obey text) =
-    command_told state (console_command state.input.program (prompt_command_of state.input.program text))
-    (is_movement (console_command state.input.program (prompt_command_of state.input.program text)))
+    line_answered state (typed_command state text) (misread_in (at_console state) text)
 standing_answered state (Ask text) =
-    question_answered state.input state.debugger.position (asked_of state.input.program text)
+    question_answered state text (asked_of state.input.program text)
 standing_answered state (Source reference) = source_answered (report_at state.input state.debugger) reference
 standing_answered state ExceptionInfo =
     fault_answered (exception_by (run state.input state.debugger.position).status)

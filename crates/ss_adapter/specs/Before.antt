@@ -4,8 +4,7 @@ use Rattle.ss_words.specs.Faults.{text_rule_code}
 use Rattle.ss_check.specs.CheckRules.{check_rule_code}
 use Rattle.ss_state.specs.Run.{input_with}
 use Rattle.ss_debug.specs.Turn.{initial_debugger_state}
-use Rattle.ss_debug.specs.View.{DebuggerView, debugger_state_of}
-use Rattle.ss_session.specs.Model.{accepted, IsOutcome}
+use Rattle.ss_session.specs.Model.{IsOfModel}
 use Rattle.ss_session.specs.Transcript.{refusal_line}
 use Rattle.ss_session.specs.declared.load.LoadFault.{LoadFault}
 use Rattle.ss_session.specs.declared.load.LoadFault.TheVariants.{Text, Check, Memory}
@@ -18,9 +17,8 @@ use Rattle.ss_messages.specs.declared.request.Request.{Request}
 use Rattle.ss_messages.specs.Messages.{Sent, PostView, posted_all, reply, failure, event}
 use Rattle.ss_messages.specs.Bodies.{output_body, without_last}
 use Rattle.ss_adapter.specs.declared.fixed.TheConstants.{CAPABILITIES}
-use Rattle.ss_adapter.specs.Desk.{DeskView}
 use Rattle.ss_adapter.specs.Refused.{IsExplained}
-use Rattle.ss_adapter.specs.Turn.{answer_to_terminate}
+use Rattle.ss_adapter.specs.Turn.{AdapterState, answer_to_terminate}
 
 -- the answer to a request before a run is launched
 unfoldable pub answers_before : Command → List Sent
@@ -46,19 +44,20 @@ abbrev pub answer_to_refused_launch : List ℕ → List ℕ → List Sent
 answer_to_refused_launch line said =
     failure (without_last line) ∷ event (codes "output") (output_body (codes "stderr") (line ++ said)) ∷ []
 
--- a debugger at the start of a model's run over its data, and a desk with nothing set or sent
-pub record IsLaunched (model text path : List ℕ) (counting : Counting) (stops : Stops) (debugger : DebuggerView)
-    (k : DeskView) : Type 0 where
-  -- the program is that of the model
-  pub program : IsOutcome model (accepted debugger.machine.input.program)
+-- the start of a model's run over its data, with nothing set or sent
+pub record IsLaunched (model text path : List ℕ) (counting : Counting) (stops : Stops) (state : AdapterState) :
+    Type 0 where
+  -- the program and the symbol table are those of the model
+  pub program : IsOfModel model state.input.program state.desk.symbols
   -- its run is the one over the data
-  pub input : debugger.machine.input ≡ input_with debugger.machine.input.program text
+  pub input : state.input ≡ input_with state.input.program text
   -- the debugger is at its start
-  pub start : debugger_state_of debugger ≡ initial_debugger_state
+  pub start : state.debugger ≡ initial_debugger_state
   -- nothing is set, and nothing of the report is sent
-  pub desk : k ≡ record {
+  pub desk : state.desk ≡ record {
     path = path;
     model = model;
+    symbols = state.desk.symbols;
     displays = [];
     set = [];
     sections = [];

@@ -3,8 +3,8 @@
 use Rattle.std.specs.Prelude.{ℕ, ◌+◌, Bool, true, false, List, [], ◌∷◌, ◌++◌, codes, nat_eq, Option, Some, None}
 use Rattle.std.specs.List.{before_first}
 use Rattle.ss_program.specs.Program.{ProgramTable}
-use Rattle.ss_trace.specs.declared.question.Question.{Question}
-use Rattle.ss_debug.specs.BreakLines.{without_line}
+use Rattle.ss_prompt.specs.declared.shown.Shown.{Shown}
+use Rattle.ss_debug.specs.LineTable.{without_line}
 use Rattle.ss_debug.specs.CommandLines.{separates, line_separators}
 use Rattle.ss_messages.specs.Messages.{Sent, event}
 use Rattle.ss_messages.specs.Shown.{new_point_body, removed_point_body}
@@ -46,6 +46,7 @@ abbrev pub desk_with : DeskView → ℕ → Bool → Bool → DeskView
 desk_with desk line new old = record {
   path = desk.path;
   model = desk.model;
+  symbols = desk.symbols;
   displays = desk.displays;
   set = lines_behind desk.set line new old;
   sections = sections_behind desk.sections line new old;
@@ -56,10 +57,11 @@ desk_with desk line new old = record {
 }
 
 -- the desk with other questions that are answered at each stop
-abbrev pub desk_showing : DeskView → List Question → DeskView
+abbrev pub desk_showing : DeskView → List Shown → DeskView
 desk_showing desk displays = record {
   path = desk.path;
   model = desk.model;
+  symbols = desk.symbols;
   displays = displays;
   set = desk.set;
   sections = desk.sections;

@@ -1,6 +1,7 @@
 -- The data that the adapter keeps in addition to the debugger.
 use Rattle.std.specs.Prelude.{ℕ, List}
-use Rattle.ss_trace.specs.declared.question.Question.{Question}
+use Rattle.ss_check.specs.Symbols.{Symbols}
+use Rattle.ss_prompt.specs.declared.shown.Shown.{Shown}
 use Rattle.ss_messages.specs.declared.counting.Counting.{Counting}
 use Rattle.ss_messages.specs.declared.request.Stops.{Stops}
 
@@ -10,8 +11,10 @@ pub record DeskView : Type 0 where
   pub path : List ℕ
   -- the bytes of the model
   pub model : List ℕ
+  -- the symbol table of the model
+  pub symbols : Symbols
   -- the questions that are answered at each stop of the console
-  pub displays : List Question
+  pub displays : List Shown
   -- the break lines that requests set by lines
   pub set : List ℕ
   -- those that they set by sections

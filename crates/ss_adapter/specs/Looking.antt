@@ -12,13 +12,17 @@ use Rattle.ss_state.specs.Run.{Input, run}
 use Rattle.ss_debug.specs.declared.commands.Command.{Command}
 use Rattle.ss_debug.specs.declared.commands.Command.TheVariants.{Show}
 use Rattle.ss_debug.specs.Answer.{status_text}
+use Rattle.ss_debug.specs.BreakLines.{BreakPoint}
 use Rattle.ss_debug.specs.Move.{is_on_break, line_at}
 use Rattle.ss_trace.specs.declared.question.Question.{Question}
 use Rattle.ss_trace.specs.declared.question.Question.TheVariants.{Shown}
 use Rattle.ss_prompt.specs.declared.commands.PromptCommand.{PromptCommand}
-use Rattle.ss_prompt.specs.declared.commands.PromptCommand.TheVariants.{Plain, Ask, Display, Missing}
+use Rattle.ss_prompt.specs.declared.commands.PromptCommand.TheVariants.{Plain, Ask, Display, Meant, Missing}
 use Rattle.ss_prompt.specs.declared.missing.Missing.{Missing as NoName}
-use Rattle.ss_prompt.specs.Missing.{asked_of_program}
+use Rattle.ss_debug.specs.CommandLines.{command_words}
+use Rattle.ss_prompt.specs.declared.manner.Manner.TheVariants as manners
+use Rattle.ss_prompt.specs.Missing.{asked_of_program, bare_question}
+use Rattle.ss_prompt.specs.Words.{only_name_of}
 use Rattle.ss_prompt.specs.Reading.{prompt_command_of}
 use Rattle.ss_messages.specs.Bodies.{exception_body}
 use Rattle.ss_adapter.specs.Places.{line_id}
@@ -26,7 +30,7 @@ use Rattle.ss_adapter.specs.Places.{line_id}
 -- ---- the position of the run
 
 -- why it stops in state p that is ready
-abbrev pub ready_reason : Input → List ℕ → ℕ → List ℕ
+abbrev pub ready_reason : Input → List BreakPoint → ℕ → List ℕ
 ready_reason input breaks p =
     if nat_eq p 0 then codes "entry" else
     if is_on_break input breaks p then codes "breakpoint" else codes "step"
@@ -39,11 +43,11 @@ reason_by Finished ready = codes "end"
 reason_by (Faulted f) ready = codes "exception"
 
 -- why it stops in state p
-abbrev pub reason_at : Input → List ℕ → ℕ → List ℕ
+abbrev pub reason_at : Input → List BreakPoint → ℕ → List ℕ
 reason_at input breaks p = reason_by (run input p).status (ready_reason input breaks p)
 
 -- the break line at which it stops, if it stops because of that
-abbrev pub hit_at : Input → List ℕ → ℕ → Option ℕ
+abbrev pub hit_at : Input → List BreakPoint → ℕ → Option ℕ
 hit_at input breaks p =
     if bytes_eq (reason_at input breaks p) (codes "breakpoint") then line_id (line_at input p) else None
 
@@ -69,12 +73,15 @@ abbrev pub named_in : ProgramTable → Command → Option (Result Question NoNam
 named_in program (Show q) = Some (asked_of_program program (Shown q))
 named_in program _ = None
 
--- the question that a line of the prompt asks, or has answered at each stop; or its unknown name
+-- the question that a line of the prompt asks, or has answered at each stop, as that of a bare name; or its unknown
+-- name
 abbrev pub named_by : ProgramTable → PromptCommand → Option (Result Question NoName)
 named_by program (Plain command) = named_in program command
 named_by program (Ask x) = Some (Ok x)
 named_by program (Display x) = Some (Ok x)
 named_by program (Missing m) = Some (Err m)
+named_by program (Meant manners.Display text numbered) =
+    bare_question program (only_name_of (command_words text))
 named_by program _ = None
 
 -- the question that an expression is: a text that may follow DISPLAY, or a line of the prompt

@@ -1,19 +1,24 @@
 -- Lines of the model that have a place, and the break lines of a request.
 use Rattle.std.specs.Prelude.{ℕ, ◌≡◌, ◌+◌, ◌^◌, Bool, ◌&&◌, List, [], ◌∷◌, ◌++◌, codes, map, flat_map, fold}
 use Rattle.std.specs.Prelude.{Option, Some, None, option_and_then, position, slice_get, zero, suc}
-use Rattle.std.specs.Prelude.{if◌then◌else◌, nat_le, nat_lt}
+use Rattle.std.specs.Prelude.{if◌then◌else◌, nat_eq, nat_le, nat_lt}
+use Rattle.std.specs.List.{list_any}
 use Rattle.std.specs.Str.{bytes_eq}
+use Rattle.ss_check.specs.Symbols.{Symbols}
 use Rattle.ss_program.specs.Program.{ProgramTable, SectionTable}
 use Rattle.ss_program.specs.declared.place.Spot.{Spot}
-use Rattle.ss_debug.specs.BreakLines.{breaks_after_set, without_line}
-use Rattle.ss_debug.specs.Answer.{break_text}
+use Rattle.ss_debug.specs.BreakCondition.{BreakCondition}
+use Rattle.ss_debug.specs.BreakLines.{BreakPoint, breaks_with, is_full, without_break}
 use Rattle.ss_debug.specs.Turn.{DebuggerState, debugger_state_with}
-use Rattle.ss_messages.specs.Bodies.{set_item, unset_item}
+use Rattle.ss_expressions.specs.Aims.{Aimed, aimed, refused, aim_asked}
+use Rattle.ss_expressions.specs.BreakAims.{break_condition}
+use Rattle.ss_messages.specs.Bodies.{set_item, unset_item, without_last}
 use Rattle.ss_messages.specs.Counting.{meant}
 use Rattle.ss_messages.specs.declared.counting.Counting.{Counting}
 use Rattle.ss_messages.specs.declared.parts.LinePoint.{LinePoint}
+use Rattle.ss_prompt.specs.BreakPlaces.{section_on}
 use Rattle.ss_adapter.specs.declared.desk.TheConstants.{MOST_WATCHED}
-use Rattle.ss_adapter.specs.declared.breaks.TheConstants.{UNHEEDED}
+use Rattle.ss_adapter.specs.declared.breaks.TheConstants.{UNCOUNTED, UNHEEDED}
 
 -- the lines of the places of a section
 abbrev pub section_lines : SectionTable → List ℕ
@@ -43,47 +48,60 @@ line_id line = if nat_lt line (2 ^ 32) then Some (line + MOST_WATCHED) else None
 -- break lines that a request sets, one by one
 pub record Setting : Type 0 where
   -- the break lines
-  pub breaks : List ℕ
+  pub breaks : List BreakPoint
   -- those of them that the request sets
   pub set : List ℕ
   -- the item of the reply for each
   pub text : List ℕ
 
--- a break line, or why it is none, to an editor that counts so
-abbrev pub with_break : Counting → Setting → ℕ → Setting
-with_break counting setting line =
-    if bytes_eq (break_text setting.breaks line) (codes "TOO MANY BREAKS\n")
-    then record {
-      breaks = breaks_after_set setting.breaks line;
-      set = setting.set;
-      text = setting.text ++ unset_item (codes "too many break points");
-    }
+-- a break point that is not set, and why
+abbrev pub with_unset : Setting → List ℕ → Setting
+with_unset setting reason =
+    record { breaks = setting.breaks; set = setting.set; text = setting.text ++ unset_item reason }
+
+-- a break line, with a condition or without, to an editor that counts so; or that there are too many
+abbrev pub with_break : Counting → Setting → ℕ → Option BreakCondition → Setting
+with_break counting setting line when =
+    if is_full setting.breaks line then with_unset setting (codes "too many break points")
     else record {
-      breaks = breaks_after_set setting.breaks line;
+      breaks = breaks_with setting.breaks line when;
       set = setting.set ++ line ∷ [];
       text = setting.text ++ set_item (line + MOST_WATCHED) line counting;
     }
 
 -- a break line, if there is one, or this reason why there is none
 abbrev pub with_next : Counting → List ℕ → Setting → Option ℕ → Setting
-with_next counting reason setting (Some line) = with_break counting setting line
-with_next counting reason setting None =
-    record { breaks = setting.breaks; set = setting.set; text = setting.text ++ unset_item reason }
+with_next counting reason setting (Some line) = with_break counting setting line None
+with_next counting reason setting None = with_unset setting reason
 
--- the break line for a line that the request names, if a place is on it or after it
-abbrev pub with_asked : ProgramTable → Counting → Setting → ℕ → Setting
-with_asked program counting setting line =
-    with_next counting (codes "no statement is here") setting
-    (next_line program (meant counting.lines_from_one line))
+-- a break line with the condition that a text is; or why it is none
+abbrev pub with_aim : Counting → Setting → ℕ → List ℕ → Option Aimed → Setting
+with_aim counting setting line text (Some (aimed aim)) =
+    with_break counting setting line (Some (break_condition aim text))
+with_aim counting setting line text (Some (refused answer)) = with_unset setting (without_last answer)
+with_aim counting setting line text None = with_unset setting (codes "no condition")
 
--- a break point that would not stop each time
-abbrev pub with_unheeded : Counting → Setting → Setting
-with_unheeded counting setting = with_next counting UNHEEDED.now setting None
+-- the same at a line, by the names of the first section with a place on it, if there is a line
+abbrev pub with_condition : ProgramTable → Symbols → Counting → Setting → List ℕ → Option ℕ → Setting
+with_condition program symbols counting setting text (Some line) =
+    with_aim counting setting line text (aim_asked symbols (section_on program line) text)
+with_condition program symbols counting setting text None = with_unset setting (codes "no statement is here")
 
--- the break line for a break point of a request, if it stops each time
-abbrev pub with_point : ProgramTable → Counting → Setting → LinePoint → Setting
-with_point program counting setting point =
-    if point.is_plain then with_asked program counting setting point.line else with_unheeded counting setting
+-- the break line at a line, if there is one, with a condition, if its text is not empty
+abbrev pub with_line : ProgramTable → Symbols → Counting → Setting → Option ℕ → List ℕ → Setting
+with_line program symbols counting setting line [] =
+    with_next counting (codes "no statement is here") setting line
+with_line program symbols counting setting line (c ∷ cs) =
+    with_condition program symbols counting setting (c ∷ cs) line
+
+-- the break line for a break point of a request, on the nearest line with a place, if it counts no hits and has no
+-- message
+abbrev pub with_point : ProgramTable → Symbols → Counting → Setting → LinePoint → Setting
+with_point program symbols counting setting point =
+    if point.is_simple
+    then with_line program symbols counting setting (next_line program (meant counting.lines_from_one point.line))
+    point.condition
+    else with_unset setting UNCOUNTED.now
 
 -- the line of a place
 abbrev pub spot_line : Option Spot → Option ℕ
@@ -103,29 +121,30 @@ named_line program name =
 
 -- the break line for a section that the request names, if it is to stop each time
 abbrev pub with_named : ProgramTable → Counting → Setting → Option (List ℕ) → Setting
-with_named program counting setting None = with_unheeded counting setting
+with_named program counting setting None = with_unset setting UNHEEDED.now
 with_named program counting setting (Some name) =
     with_next counting (codes "no section has this name") setting (named_line program name)
 
--- break lines without those that an earlier request set
-abbrev pub without_lines : List ℕ → List ℕ → List ℕ
-without_lines breaks set = fold (λ bs line. without_line line bs) breaks set
+-- the break lines without one, if no request of the other kind set it
+abbrev pub unless_kept : List ℕ → List BreakPoint → ℕ → List BreakPoint
+unless_kept kept breaks line = if list_any (λ k. nat_eq k line) kept then breaks else without_break line breaks
 
--- and with those that requests of the other kind set
-abbrev pub breaks_left : List ℕ → List ℕ → List ℕ → List ℕ
-breaks_left breaks set kept = fold breaks_after_set (without_lines breaks set) kept
+-- the break lines without those that an earlier request set, but for those that requests of the other kind set
+abbrev pub breaks_left : List BreakPoint → List ℕ → List ℕ → List BreakPoint
+breaks_left breaks set kept = fold (unless_kept kept) breaks set
 
 -- no break line of a request is set yet
-abbrev pub initial_setting : List ℕ → List ℕ → List ℕ → Setting
+abbrev pub initial_setting : List BreakPoint → List ℕ → List ℕ → Setting
 initial_setting breaks set kept = record { breaks = breaks_left breaks set kept; set = []; text = [] }
 
 -- the break lines after a request that names lines
-abbrev pub setting_of : ProgramTable → Counting → List ℕ → List ℕ → List ℕ → List LinePoint → Setting
-setting_of program counting breaks set kept points =
-    fold (with_point program counting) (initial_setting breaks set kept) points
+abbrev pub setting_of : ProgramTable → Symbols → Counting → List BreakPoint → List ℕ → List ℕ → List LinePoint → Setting
+setting_of program symbols counting breaks set kept points =
+    fold (with_point program symbols counting) (initial_setting breaks set kept) points
 
 -- the break lines after a request that names sections
-abbrev pub section_setting_of : ProgramTable → Counting → List ℕ → List ℕ → List ℕ → List (Option (List ℕ)) → Setting
+abbrev pub section_setting_of : ProgramTable → Counting → List BreakPoint → List ℕ → List ℕ →
+    List (Option (List ℕ)) → Setting
 section_setting_of program counting breaks set kept names =
     fold (with_named program counting) (initial_setting breaks set kept) names
 

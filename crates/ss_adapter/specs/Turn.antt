@@ -10,13 +10,17 @@ use Rattle.ss_debug.specs.Turn.{DebuggerState, debugger_state_with}
 use Rattle.ss_debug.specs.View.{DebuggerView, debugger_state_of}
 use Rattle.ss_trace.specs.declared.question.Question.{Question}
 use Rattle.ss_trace.specs.Value.{value_at}
+use Rattle.ss_readings.specs.Value.{Value, text_of}
+use Rattle.ss_expressions.specs.Answers.{asked_answer}
+use Rattle.ss_expressions.specs.Valued.{value_asked}
 use Rattle.ss_prompt.specs.declared.commands.PromptCommand.{PromptCommand}
 use Rattle.ss_prompt.specs.declared.commands.PromptCommand.TheVariants.{Plain, ClearAll}
 use Rattle.ss_debug.specs.declared.commands.Command.TheVariants.{Bad}
 use Rattle.ss_prompt.specs.declared.missing.Missing.{Missing as NoName}
 use Rattle.ss_prompt.specs.PromptState.{PromptState}
-use Rattle.ss_prompt.specs.Points.{is_movement, point_of, without_symbols}
-use Rattle.ss_prompt.specs.Prompting.{prompt_answer, prompt_state_after}
+use Rattle.ss_prompt.specs.Misread.{next_or}
+use Rattle.ss_prompt.specs.Points.{is_movement, point_of}
+use Rattle.ss_prompt.specs.Prompting.{misread_in, prompt_answer, prompt_state_after}
 use Rattle.ss_prompt.specs.Reading.{prompt_command_of}
 use Rattle.ss_prompt.specs.Source.{source_lines}
 use Rattle.ss_messages.specs.declared.request.Command.{Command}
@@ -75,6 +79,7 @@ abbrev pub told_with : DeskView → List ℕ → DeskView
 told_with desk report = record {
   path = desk.path;
   model = desk.model;
+  symbols = desk.symbols;
   displays = desk.displays;
   set = desk.set;
   sections = desk.sections;
@@ -171,7 +176,7 @@ at_console state = record {
   displays = state.desk.displays;
   listed = None;
   data_text = None;
-  symbols = None;
+  symbols = Some state.desk.symbols;
 }
 
 -- the answer of the prompt to a command
@@ -200,26 +205,52 @@ behind_command state command true =
     (first_line (console_answer state command)) None
 behind_command state command false = point_behind state command (point_of state.input.program command)
 
--- a command as the console takes it: CLEAR needs a line, since an editor hears of one at a time, and no symbol table is
--- kept
-abbrev pub console_command : ProgramTable → PromptCommand → PromptCommand
-console_command program ClearAll = Plain Bad
-console_command program command = without_symbols program command
+-- a command as the console takes it: CLEAR needs a line, since an editor hears of one at a time
+abbrev pub console_command : PromptCommand → PromptCommand
+console_command ClearAll = Plain Bad
+console_command command = command
+
+-- the command of a line of the console
+abbrev pub typed_command : AdapterState → List ℕ → PromptCommand
+typed_command state line = console_command (prompt_command_of state.input.program line)
 
 -- a command that the console takes: the answer of the prompt, and the messages after it
 abbrev pub answer_to_command : AdapterState → PromptCommand → List Sent
 answer_to_command state command =
     reply (result_body (console_answer state command)) ∷ behind_command state command (is_movement command)
 
--- a command of the console
-abbrev pub answer_to_line : AdapterState → PromptCommand → List Sent
-answer_to_line state command = answer_to_command state (console_command state.input.program command)
+-- that answer; or why a text in the line is not what it has to be
+abbrev pub answer_unless : AdapterState → PromptCommand → Option (List ℕ) → List Sent
+answer_unless state command None = answer_to_command state command
+answer_unless state command (Some misread) = reply (result_body misread) ∷ []
 
--- a question that is answered: by its value, if the program has its names
-abbrev pub answer_to_question : Input → ℕ → Option (Result Question NoName) → List Sent
-answer_to_question input p None = failure (codes "no question") ∷ []
-answer_to_question input p (Some (Err m)) = failure (codes "nothing has this name") ∷ []
-answer_to_question input p (Some (Ok q)) = reply (result_body (value_at input q p)) ∷ []
+-- the answer to a line of the console
+abbrev pub answer_to_line : AdapterState → List ℕ → List Sent
+answer_to_line state line = answer_unless state (typed_command state line) (misread_in (at_console state) line)
+
+-- a text that has no value: the prompt's answer to it, if it means something there, or this reason
+abbrev pub answer_without_value : List ℕ → Option (List ℕ) → List Sent
+answer_without_value reason None = failure reason ∷ []
+answer_without_value reason (Some said) = failure (without_last said) ∷ []
+
+-- a text that is no question: by its value, if it has one
+abbrev pub answer_by_value : List ℕ → Option (List ℕ) → Option Value → List Sent
+answer_by_value reason said (Some v) = reply (result_body (text_of v)) ∷ []
+answer_by_value reason said None = answer_without_value reason said
+
+-- a text that is no question, and why: its value in the present state, as that of an expression or a condition
+abbrev pub answer_to_text : AdapterState → List ℕ → List ℕ → List Sent
+answer_to_text state text reason =
+    answer_by_value reason
+    (asked_answer state.desk.symbols state.input.program (run state.input state.debugger.position) text)
+    (value_asked state.desk.symbols state.input.program (run state.input state.debugger.position)
+    (run state.input state.debugger.position).frame.section text)
+
+-- a text that is asked: by the value of the question that it is, if the program has its names
+abbrev pub answer_to_asked : AdapterState → List ℕ → Option (Result Question NoName) → List Sent
+answer_to_asked state text None = answer_to_text state text (codes "no question")
+answer_to_asked state text (Some (Err m)) = answer_to_text state text (codes "nothing has this name")
+answer_to_asked state text (Some (Ok q)) = reply (result_body (value_at state.input q state.debugger.position)) ∷ []
 
 -- the answer about a fault
 abbrev pub answer_on_fault : Option (List ℕ) → List Sent
@@ -233,8 +264,8 @@ first_points n points = take n points
 -- the break lines after a request
 abbrev pub setting_in : AdapterState → List LinePoint → Setting
 setting_in state points =
-    setting_of state.input.program state.desk.counting state.debugger.breaks state.desk.set state.desk.sections
-    (first_points MOST_POINTS points)
+    setting_of state.input.program state.desk.symbols state.desk.counting state.debugger.breaks state.desk.set
+    state.desk.sections (first_points MOST_POINTS points)
 
 -- n break points of a request that are not set, for this reason
 abbrev pub answer_unset : List ℕ → ℕ → List Sent
@@ -316,7 +347,7 @@ answer_about_run state (DataBreakpointInfo reference name) = reply (info_of stat
 answer_about_run state (Completions text column) =
     answer_with_completions state.input.program (run state.input state.debugger.position) state.desk.counting text
     column
-answer_about_run state (Ask text) = answer_to_question state.input state.debugger.position (asked_of state.input.program text)
+answer_about_run state (Ask text) = answer_to_asked state text (asked_of state.input.program text)
 answer_about_run state (Source reference) = source_messages (report_at state.input state.debugger) reference
 answer_about_run state LoadedSources = reply (sources_body state.desk.path) ∷ []
 answer_about_run state ExceptionInfo = answer_on_fault (exception_by (run state.input state.debugger.position).status)
@@ -338,7 +369,7 @@ told_debugged state ConfigurationDone = answer_to_configuration state
 told_debugged state (GotoTargets path line) =
     reply (list_body (codes "targets") (near_items state.input state.debugger state.desk.counting line)) ∷ []
 told_debugged state (Goto target) = answer_to_goto state target
-told_debugged state (Obey text) = answer_to_line state (prompt_command_of state.input.program text)
+told_debugged state (Obey text) = answer_to_line state text
 told_debugged state other = answer_about_run state other
 
 -- that answer; or that n of its break points are not set, since the run is not debugged
@@ -382,9 +413,10 @@ abbrev pub after_command : AdapterState → PromptCommand → AdapterState
 after_command state command =
     left_at state (console_after state command) (desk_after state command (is_movement command))
 
--- the state after a command of the console
-abbrev pub behind_line : AdapterState → PromptCommand → AdapterState
-behind_line state command = after_command state (console_command state.input.program command)
+-- the state after a line of the console: if a text in it is not what it has to be, nothing changes
+abbrev pub behind_line : AdapterState → List ℕ → AdapterState
+behind_line state line =
+    next_or (misread_in (at_console state) line) state (after_command state (typed_command state line))
 
 -- the state after break lines
 abbrev pub behind_setting : AdapterState → Setting → AdapterState
@@ -394,6 +426,7 @@ behind_setting state setting = record {
   desk = record {
     path = state.desk.path;
     model = state.desk.model;
+    symbols = state.desk.symbols;
     displays = state.desk.displays;
     set = setting.set;
     sections = state.desk.sections;
@@ -412,6 +445,7 @@ behind_sections state setting = record {
   desk = record {
     path = state.desk.path;
     model = state.desk.model;
+    symbols = state.desk.symbols;
     displays = state.desk.displays;
     set = state.desk.set;
     sections = setting.set;
@@ -430,6 +464,7 @@ behind_watching state watched = record {
   desk = record {
     path = state.desk.path;
     model = state.desk.model;
+    symbols = state.desk.symbols;
     displays = state.desk.displays;
     set = state.desk.set;
     sections = state.desk.sections;
@@ -448,6 +483,7 @@ once_configured state = record {
   desk = record {
     path = state.desk.path;
     model = state.desk.model;
+    symbols = state.desk.symbols;
     displays = state.desk.displays;
     set = state.desk.set;
     sections = state.desk.sections;
@@ -481,7 +517,7 @@ left_debugged state (SetFunctionBreakpoints names) = behind_sections state (sect
 left_debugged state (SetDataBreakpoints ids) = behind_watching state (watching_of state.input.program ids).watched
 left_debugged state ConfigurationDone = behind_configuring state
 left_debugged state (Goto target) = behind_goto state target
-left_debugged state (Obey text) = behind_line state (prompt_command_of state.input.program text)
+left_debugged state (Obey text) = behind_line state text
 left_debugged state other = state
 
 -- that state; nothing changes if n of its break points are not set

@@ -1,15 +1,18 @@
 //! Requests that ask about the run.
 ghost use Rattle.std.specs.Prelude.{◌≡◌, ◌+◌, ◌-◌, ◌^◌, ◌<◌, ◌∷◌, [], codes, IfOk, OnOk};
+ghost use Rattle.ss_check.specs.Asked.{IsSymbolsOf};
 ghost use Rattle.ss_machine.specs.Moment.{position};
 ghost use Rattle.ss_state.specs.Run.{run};
 ghost use Rattle.ss_debug.specs.View.{debugger_state_of};
-ghost use Rattle.ss_messages.specs.Bodies.{list_body};
+ghost use Rattle.ss_messages.specs.Bodies.{list_body, result_body};
 ghost use Rattle.ss_messages.specs.Messages.{posted_all, reply};
+ghost use Rattle.ss_trace.specs.Value.{value_at};
 ghost use Rattle.ss_scopes.specs.Variables.{scopes_text, variables_text};
 ghost use Rattle.ss_adapter.specs.Looking.{exception_by, asked_of};
 ghost use Rattle.ss_adapter.specs.Completions.{targets_before};
 ghost use Rattle.ss_adapter.specs.Watch.{info_of};
-ghost use Rattle.ss_adapter.specs.Turn.{adapter_state_of, report_at, answer_to_question, answer_on_fault};
+ghost use Rattle.ss_adapter.specs.Turn.{adapter_state_of, report_at, answer_to_text, answer_to_asked};
+ghost use Rattle.ss_adapter.specs.Turn.{answer_on_fault};
 ghost use Rattle.ss_adapter.specs.Turn.{source_messages, answer_with_frames, answer_with_completions};
 ghost use Rattle.ss_adapter.specs.Turn.{answer_about_run, answer_to_terminate};
 
@@ -21,53 +24,86 @@ use crate::pen::Pen;
 use crate::telling::{tell_here, tell_over};
 use crate::watch::info;
 use ss_debug::Debugger;
+use ss_expressions::{asked_answer, value_asked};
 use ss_links::SetBoard;
 use ss_messages::{
     Command, NOTHING, Post, Request, Source, Wanted, content_body, frames_body, list_body,
-    result_body, sources_body, units_within, within_units,
+    result_body, sources_body, units_within, within_units, without_last,
 };
 use ss_program::Program;
-use ss_prompt::Missing;
+use ss_readings::push_value;
 use ss_scopes::{push_frames, push_scopes, push_variables, question_value};
 use ss_trace::Question;
 use std::alloc::{AllocError, Global};
 
-/// Answers a question, if there is one.
+/// Answers a text that is no question, for this reason: its value in the present state, as that of an
+/// expression or a condition.
+#[tactic(auto, unfolding(ss_messages::specs::Messages::posted_all))]
+fn answer_text<S: SetBoard>(
+    debugger: &Debugger<S>,
+    desk: &Desk,
+    request: &Request,
+    post: &mut Post,
+    text: &[u8],
+    reason: &'static [u8],
+) -> Result<(), AllocError>
+    requires symbols { IsSymbolsOf debugger.now.machine.input.program desk.now.symbols }
+    requires sent { post.old.sent < 2 ^ 64 - 1 }
+    ensures { OnOk result (post.new ≡ posted_all request.now post.old
+        (answer_to_text (adapter_state_of debugger.now desk.now) text.now reason.now)) }
+{
+    let (alloc, machine) = (post.alloc(), debugger.machine());
+    machine.known();
+    let (section, _) = machine.place();
+    if let Some(value) = value_asked(alloc, machine, &desk.symbols, section, text)? {
+        let mut said = Vec::new(alloc);
+        push_value(&mut said, &Some(value))?;
+        let body = result_body(alloc, &said)?;
+        return post.reply(request, &body);
+    }
+    match asked_answer(alloc, machine, &desk.symbols, text)? {
+        Some(said) => post.fail(request, without_last(&said)),
+        None => post.fail(request, reason),
+    }
+}
+
+/// Answers a question.
 #[tactic(auto, unfolding(ss_messages::specs::Messages::posted_all))]
 fn answer_question<S: SetBoard>(
     debugger: &Debugger<S>,
     request: &Request,
     post: &mut Post,
-    question: Option<Result<Question, Missing>>,
+    question: &Question,
 ) -> Result<(), AllocError>
     requires { post.old.sent < 2 ^ 64 - 1 }
-    ensures { OnOk result (post.new ≡ posted_all request.now post.old
-        (answer_to_question debugger.now.machine.input (position debugger.now.machine) question)) }
+    ensures { OnOk result (post.new ≡ posted_all request.now post.old (reply (result_body
+        (value_at debugger.now.machine.input question.now (position debugger.now.machine))) ∷ [])) }
 {
-    let question = match question {
-        None => return post.fail(request, b"no question"),
-        Some(Err(_)) => return post.fail(request, b"nothing has this name"),
-        Some(Ok(question)) => question,
-    };
-    let value = question_value(post.alloc(), debugger, &question)?;
+    let value = question_value(post.alloc(), debugger, question)?;
     let body = result_body(post.alloc(), &value)?;
     post.reply(request, &body)
 }
 
-/// Answers the question that an expression is.
+/// Answers the question, the expression or the condition that a text is.
 fn ask<S: SetBoard>(
     debugger: &Debugger<S>,
+    desk: &Desk,
     request: &Request,
     post: &mut Post,
     text: &[u8],
 ) -> Result<(), AllocError>
-    requires { post.old.sent < 2 ^ 64 - 1 }
+    requires symbols { IsSymbolsOf debugger.now.machine.input.program desk.now.symbols }
+    requires sent { post.old.sent < 2 ^ 64 - 1 }
     ensures { OnOk result (post.new ≡ posted_all request.now post.old
-        (answer_to_question debugger.now.machine.input (position debugger.now.machine)
+        (answer_to_asked (adapter_state_of debugger.now desk.now) text.now
         (asked_of debugger.now.machine.input.program text.now))) }
 {
-    let question = asked(post.alloc(), debugger.machine().program(), text)?;
-    answer_question(debugger, request, post, question)
+    let reason: &'static [u8] = match asked(post.alloc(), debugger.machine().program(), text)? {
+        Some(Ok(question)) => return answer_question(debugger, request, post, &question),
+        Some(Err(_)) => b"nothing has this name",
+        None => b"no question",
+    };
+    answer_text(debugger, desk, request, post, text, reason)
 }
 
 /// Answers with the fault at the position of the run.
@@ -251,7 +287,8 @@ pub fn look<S: SetBoard>(
     request: &Request,
     post: &mut Post,
 ) -> Result<(), AllocError>
-    requires { post.old.sent + 2 < 2 ^ 64 - 1 }
+    requires symbols { IsSymbolsOf debugger.now.machine.input.program desk.now.symbols }
+    requires sent { post.old.sent + 2 < 2 ^ 64 - 1 }
     ensures { OnOk result (post.new ≡ posted_all request.now post.old
         (answer_about_run (adapter_state_of debugger.now desk.now) request.now.command)) }
 {
@@ -278,7 +315,7 @@ pub fn look<S: SetBoard>(
                 *column,
             )
         }
-        Command::Ask(text) => ask(debugger, request, post, text.as_slice()),
+        Command::Ask(text) => ask(debugger, desk, request, post, text.as_slice()),
         Command::Source(reference) => tell_source(debugger, request, post, *reference),
         Command::LoadedSources => {
             let body = sources_body(post.alloc(), &desk.path)?;

@@ -1,24 +1,31 @@
 //! The break lines of a request.
-ghost use Rattle.std.specs.Prelude.{◌≡◌, ◌++◌, [], fold, map, slice_get, Some, OnOk};
+ghost use Rattle.std.specs.Prelude.{◌≡◌, ◌+◌, ◌++◌, [], ◌∷◌, fold, map, slice_get, Some, OnOk};
+ghost use Rattle.ss_check.specs.Asked.{IsSymbolsOf};
+ghost use Rattle.ss_debug.specs.BreakCondition.{IsSoundOf};
 ghost use Rattle.ss_debug.specs.View.{debugger_state_of};
-ghost use Rattle.ss_debug.specs.BreakLines.{breaks_after_set};
 ghost use Rattle.ss_debug.specs.Turn.{debugger_state_with};
-ghost use Rattle.ss_messages.specs.Bodies.{unset_item};
+ghost use Rattle.ss_messages.specs.Bodies.{set_item, unset_item};
 ghost use Rattle.ss_adapter.specs.Places.{nearer_line, next_line, first_place_line, named_line};
-ghost use Rattle.ss_adapter.specs.Places.{without_lines, breaks_left};
-ghost use Rattle.ss_adapter.specs.Places.{with_next, with_asked, with_point, with_named};
+ghost use Rattle.ss_adapter.specs.Places.{breaks_left, with_break};
+ghost use Rattle.ss_adapter.specs.Places.{with_next, with_condition, with_point, with_named};
 ghost use Rattle.ss_adapter.specs.Places.{unset_items, setting_of, section_setting_of};
 ghost use Rattle.ss_adapter.specs.Places.{IsSetting};
 
 use crate::desk::MOST_WATCHED;
 use crate::pen::Pen;
-use ss_debug::{Command, Debugger, obey};
+use ss_check::SymbolTable;
+use ss_debug::{BreakCondition, Command, Debugger, obey};
+use ss_expressions::{Aimed, aim_in};
 use ss_links::SetBoard;
-use ss_messages::{LinePoint, Text, set_item, unset_item};
+use ss_messages::{LinePoint, Text, set_item, unset_item, without_last};
 use ss_program::{Program, Section, Spot};
+use ss_prompt::section_on;
 use std::alloc::{AllocError, Global};
 
-/// Why a break point is not set that would not stop each time.
+/// Why a break point on a line is not set that counts hits, or has a message.
+pub const UNCOUNTED: &[u8] = b"hit counts and messages are not supported";
+
+/// Why another break point is not set that would not stop each time.
 pub const UNHEEDED: &[u8] = b"conditions, hit counts and messages are not supported";
 
 /// The nearer of two lines, the first of which may be none, that are not before a line.
@@ -88,44 +95,9 @@ fn named_line(program: &Program, name: &[u8]) -> Option<u32>
     }
 }
 
-/// Makes some lines no break lines.
-#[tactic(auto, unfolding(ss_debug::proofs::Unfoldings::turns))]
-fn clear_lines<S: SetBoard>(
-    debugger: &mut Debugger<S>,
-    set: &[u32],
-    scrap: &mut Vec<u8>,
-) -> Result<(), AllocError>
-    ensures input { debugger.new.machine.input ≡ debugger.old.machine.input }
-    ensures state { OnOk result (debugger_state_of debugger.new
-        ≡ debugger_state_with (debugger_state_of debugger.old)
-        (without_lines debugger.old.breaks set.now)) }
-{
-    for line in set {
-        obey(debugger, Command::Clear(*line), scrap)?;
-    }
-    Ok(())
-}
-
-/// Makes some lines break lines.
-#[tactic(auto, unfolding(ss_debug::proofs::Unfoldings::turns))]
-fn keep_lines<S: SetBoard>(
-    debugger: &mut Debugger<S>,
-    kept: &[u32],
-    scrap: &mut Vec<u8>,
-) -> Result<(), AllocError>
-    ensures input { debugger.new.machine.input ≡ debugger.old.machine.input }
-    ensures state { OnOk result (debugger_state_of debugger.new
-        ≡ debugger_state_with (debugger_state_of debugger.old)
-        (fold breaks_after_set debugger.old.breaks kept.now)) }
-{
-    for line in kept {
-        obey(debugger, Command::Break(*line), scrap)?;
-    }
-    Ok(())
-}
-
 /// Makes the lines of an earlier request no break lines, unless requests of the other kind set
 /// them.
+#[tactic(auto, unfolding(ss_debug::proofs::Unfoldings::turns))]
 fn clear<S: SetBoard>(
     alloc: Global,
     debugger: &mut Debugger<S>,
@@ -138,16 +110,16 @@ fn clear<S: SetBoard>(
         (breaks_left debugger.old.breaks set.now kept.now)) }
 {
     let mut scrap = Vec::new(alloc);
-    clear_lines(debugger, set, &mut scrap)?;
-    keep_lines(debugger, kept, &mut scrap)
+    for line in set {
+        if !kept.iter().any(|k| *k == *line) {
+            obey(debugger, Command::Clear(*line), &mut scrap)?;
+        }
+    }
+    Ok(())
 }
 
 /// Appends a break point that is not set, and why.
-pub fn push_unset(
-    alloc: Global,
-    text: &mut Vec<u8>,
-    reason: &'static [u8],
-) -> Result<(), AllocError>
+pub fn push_unset(alloc: Global, text: &mut Vec<u8>, reason: &[u8]) -> Result<(), AllocError>
     ensures { OnOk result (text.new.items ≡ text.old.items ++ unset_item reason.now) }
 {
     let item = unset_item(alloc, reason)?;
@@ -167,6 +139,18 @@ pub fn push_all_unset(
         push_unset(alloc, text, reason)?;
     }
     Ok(())
+}
+
+/// Notes a line that is a break line now, and appends its item.
+fn note_set(pen: Pen, set: &mut Vec<u32>, text: &mut Vec<u8>, line: u32) -> Result<(), AllocError>
+    ensures set { OnOk result (set.new.items ≡ set.old.items ++ line ∷ []) }
+    ensures text { OnOk result (text.new.items
+        ≡ text.old.items ++ set_item (line + MOST_WATCHED) line pen.counting) }
+{
+    set.push(line)?;
+    let line = u64::from(line);
+    let item = set_item(pen.alloc, line + MOST_WATCHED as u64, line, pen.counting)?;
+    text.extend_from_slice(&item)
 }
 
 /// Sets a break line, if there is one, and appends its line, or why there is none.
@@ -189,56 +173,99 @@ fn set_next<S: SetBoard>(
     let Some(line) = next else {
         return push_unset(pen.alloc, text, reason);
     };
-    let mut said = Vec::new(pen.alloc);
-    obey(debugger, Command::Break(line), &mut said)?;
-    if said.as_slice() == b"TOO MANY BREAKS\n".as_slice() {
+    if debugger.is_full_for(line) {
         return push_unset(pen.alloc, text, b"too many break points");
     }
-    set.extend_from_slice(&[line])?;
-    let line = u64::from(line);
-    let item = set_item(pen.alloc, line + MOST_WATCHED as u64, line, pen.counting)?;
-    text.extend_from_slice(&item)
+    let mut said = Vec::new(pen.alloc);
+    obey(debugger, Command::Break(line), &mut said)?;
+    note_set(pen, set, text, line)
 }
 
-/// Sets the break line for a line that a request names.
-fn set_line<S: SetBoard>(
+/// Sets a break line with a condition, and appends its line, or that there are too many.
+fn set_when<S: SetBoard>(
     pen: Pen,
     debugger: &mut Debugger<S>,
     set: &mut Vec<u32>,
     text: &mut Vec<u8>,
-    asked: u64,
+    line: u32,
+    when: BreakCondition,
 ) -> Result<(), AllocError>
+    requires { IsSoundOf debugger.old.machine.input.program when.section when.condition }
     ensures input { debugger.new.machine.input ≡ debugger.old.machine.input }
     ensures state { OnOk result (IsSetting (debugger_state_of debugger.old)
-        (debugger_state_of debugger.new) set.new.items text.new.items (with_asked
-        debugger.old.machine.input.program pen.counting
+        (debugger_state_of debugger.new) set.new.items text.new.items (with_break pen.counting
         (record { breaks = debugger.old.breaks; set = set.old.items; text = text.old.items })
-        asked)) }
+        line (Some when))) }
 {
-    let line = pen.counting.meant_line(asked);
-    let next = next_line(debugger.machine().program(), line);
-    set_next(pen, debugger, set, text, b"no statement is here", next)
+    if debugger.is_full_for(line) {
+        return push_unset(pen.alloc, text, b"too many break points");
+    }
+    let mut said = Vec::new(pen.alloc);
+    debugger.set_break_when(line, when, &mut said)?;
+    note_set(pen, set, text, line)
 }
 
-/// Sets the break line for a break point of a request, if it stops each time.
+/// Sets a break line with the condition that a text is, and appends its line, or why it is none.
+fn set_condition<S: SetBoard>(
+    pen: Pen,
+    debugger: &mut Debugger<S>,
+    symbols: &SymbolTable,
+    set: &mut Vec<u32>,
+    text: &mut Vec<u8>,
+    line: u32,
+    condition: &[u8],
+) -> Result<(), AllocError>
+    requires { IsSymbolsOf debugger.old.machine.input.program symbols.now }
+    ensures input { debugger.new.machine.input ≡ debugger.old.machine.input }
+    ensures state { OnOk result (IsSetting (debugger_state_of debugger.old)
+        (debugger_state_of debugger.new) set.new.items text.new.items (with_condition
+        debugger.old.machine.input.program symbols.now pen.counting
+        (record { breaks = debugger.old.breaks; set = set.old.items; text = text.old.items })
+        condition.now (Some line))) }
+{
+    let program = debugger.machine().program();
+    let section = section_on(program, line as usize);
+    match aim_in(pen.alloc, program, symbols, section, condition)? {
+        None => push_unset(pen.alloc, text, b"no condition"),
+        Some(Aimed::Refused(said)) => push_unset(pen.alloc, text, without_last(&said)),
+        Some(Aimed::At(aim)) => {
+            let when = aim.into_break(Vec::from_slice(pen.alloc, condition)?);
+            set_when(pen, debugger, set, text, line, when)
+        }
+    }
+}
+
+/// Sets the break line for a break point of a request, if it counts no hits and has no message.
 fn set_point<S: SetBoard>(
     pen: Pen,
     debugger: &mut Debugger<S>,
+    symbols: &SymbolTable,
     set: &mut Vec<u32>,
     text: &mut Vec<u8>,
     point: &LinePoint,
 ) -> Result<(), AllocError>
+    requires { IsSymbolsOf debugger.old.machine.input.program symbols.now }
     ensures input { debugger.new.machine.input ≡ debugger.old.machine.input }
     ensures state { OnOk result (IsSetting (debugger_state_of debugger.old)
         (debugger_state_of debugger.new) set.new.items text.new.items (with_point
-        debugger.old.machine.input.program pen.counting
+        debugger.old.machine.input.program symbols.now pen.counting
         (record { breaks = debugger.old.breaks; set = set.old.items; text = text.old.items })
         point.now)) }
 {
-    if point.is_plain {
-        return set_line(pen, debugger, set, text, point.line);
+    if !point.is_simple {
+        return push_unset(pen.alloc, text, UNCOUNTED);
     }
-    push_unset(pen.alloc, text, UNHEEDED)
+    let next = next_line(
+        debugger.machine().program(),
+        pen.counting.meant_line(point.line),
+    );
+    let condition = point.condition.as_slice();
+    match next {
+        Some(line) if !condition.is_empty() => {
+            set_condition(pen, debugger, symbols, set, text, line, condition)
+        }
+        _ => set_next(pen, debugger, set, text, b"no statement is here", next),
+    }
 }
 
 /// Sets the break line for a section that a request names, if it is to stop each time.
@@ -268,22 +295,24 @@ fn set_section<S: SetBoard>(
 pub fn set_lines<S: SetBoard>(
     pen: Pen,
     debugger: &mut Debugger<S>,
+    symbols: &SymbolTable,
     set: &mut Vec<u32>,
     kept: &[u32],
     text: &mut Vec<u8>,
     points: &[LinePoint],
 ) -> Result<(), AllocError>
-    requires { text.old.items ≡ [] }
+    requires symbols { IsSymbolsOf debugger.old.machine.input.program symbols.now }
+    requires text { text.old.items ≡ [] }
     ensures input { debugger.new.machine.input ≡ debugger.old.machine.input }
     ensures state { OnOk result (IsSetting (debugger_state_of debugger.old)
         (debugger_state_of debugger.new) set.new.items text.new.items (setting_of
-        debugger.old.machine.input.program pen.counting debugger.old.breaks set.old.items kept.now
-        points.now)) }
+        debugger.old.machine.input.program symbols.now pen.counting debugger.old.breaks
+        set.old.items kept.now points.now)) }
 {
     clear(pen.alloc, debugger, set, kept)?;
     set.clear();
     for point in points {
-        set_point(pen, debugger, set, text, point)?;
+        set_point(pen, debugger, symbols, set, text, point)?;
     }
     Ok(())
 }

@@ -1,15 +1,15 @@
 //! The console: a line is answered as at the prompt.
 ghost use Rattle.std.specs.Prelude.{◌≡◌, ◌+◌, ◌-◌, ◌^◌, ◌<◌, ◌∷◌, [], true, false, IfOk, OnOk};
-ghost use Rattle.ss_debug.specs.BreakLines.{is_break_line, without_line};
+ghost use Rattle.ss_check.specs.Asked.{IsSymbolsOf};
+ghost use Rattle.ss_debug.specs.LineTable.{without_line};
 ghost use Rattle.ss_debug.specs.View.{debugger_state_of};
-ghost use Rattle.ss_prompt.specs.Reading.{prompt_command_of};
 ghost use Rattle.ss_messages.specs.Bodies.{result_body};
 ghost use Rattle.ss_messages.specs.Messages.{posted_all, reply};
 ghost use Rattle.ss_adapter.specs.Console.{has_place, point_told, first_line};
 ghost use Rattle.ss_adapter.specs.Console.{desk_with, desk_showing};
 ghost use Rattle.ss_adapter.specs.Turn.{adapter_state_of, console_answer, console_after};
 ghost use Rattle.ss_adapter.specs.Turn.{behind_command, left_at, desk_after, answer_to_line, behind_line};
-ghost use Rattle.ss_adapter.specs.Turn.{console_command};
+ghost use Rattle.ss_adapter.specs.Turn.{console_command, answer_to_command, after_command};
 
 use crate::breaks::next_line;
 use crate::desk::{Desk, MOST_WATCHED};
@@ -18,20 +18,8 @@ use ss_debug::{Command, Debugger, split_line};
 use ss_links::SetBoard;
 use ss_messages::{Post, Request, Source, new_point_body, removed_point_body, result_body};
 use ss_program::Program;
-use ss_prompt::{PromptCommand, answer_command, prompt_command};
+use ss_prompt::{LentModel, PromptCommand, answer_command, line_misread, prompt_command};
 use std::alloc::{AllocError, Global};
-
-/// Whether a line is a break line.
-fn is_break<S: SetBoard>(
-    alloc: Global,
-    debugger: &Debugger<S>,
-    line: u32,
-) -> Result<bool, AllocError>
-    ensures { IfOk result (λ b. b ≡ is_break_line debugger.now.breaks line) }
-{
-    let lines = debugger.break_lines(alloc)?;
-    Ok(lines.iter().any(|other| *other == line as usize))
-}
 
 /// Whether a place is on a line.
 fn has_place(program: &Program, line: u32) -> bool
@@ -53,7 +41,8 @@ fn drop_line(lines: &mut Vec<u32>, line: u32)
 /// Notes a line, which is a break line now or not, and was one or not: that it became one, as if a
 /// request for lines had set it, or is none any more.
 fn note_break(desk: &mut Desk, line: u32, is_set: bool, was_set: bool) -> Result<(), AllocError>
-    ensures { OnOk result (desk.new ≡ desk_with desk.old line is_set was_set) }
+    ensures symbols { desk.new.symbols ≡ desk.old.symbols }
+    ensures desk { OnOk result (desk.new ≡ desk_with desk.old line is_set was_set) }
 {
     if is_set && !was_set {
         desk.set.push(line)?;
@@ -113,9 +102,11 @@ fn say<S: SetBoard>(
     command: PromptCommand,
     answer: &mut Vec<u8>,
 ) -> Result<(), AllocError>
+    requires symbols { IsSymbolsOf debugger.old.machine.input.program desk.old.symbols }
     requires sent { post.old.sent < 2 ^ 64 - 1 }
     requires none { answer.old.items ≡ [] }
     ensures input { debugger.new.machine.input ≡ debugger.old.machine.input }
+    ensures symbols { desk.new.symbols ≡ desk.old.symbols }
     ensures sent { OnOk result (post.new ≡ posted_all request.now post.old (reply (result_body
         (console_answer (adapter_state_of debugger.old desk.old) command)) ∷ [])) }
     ensures count { OnOk result (post.new.sent ≡ post.old.sent + 1) }
@@ -127,14 +118,11 @@ fn say<S: SetBoard>(
         (console_after (adapter_state_of debugger.old desk.old) command).displays) }
 {
     let alloc = post.alloc();
-    answer_command(
-        alloc,
-        debugger,
-        &desk.model,
-        &mut desk.displays,
-        command,
-        answer,
-    )?;
+    let model = LentModel {
+        text: &desk.model,
+        symbols: &desk.symbols,
+    };
+    answer_command(alloc, debugger, model, &mut desk.displays, command, answer)?;
     let body = result_body(alloc, answer)?;
     post.reply(request, &body)
 }
@@ -148,8 +136,10 @@ fn obey_movement<S: SetBoard>(
     post: &mut Post,
     command: PromptCommand,
 ) -> Result<(), AllocError>
-    requires { post.old.sent + 3 < 2 ^ 64 - 1 }
+    requires symbols { IsSymbolsOf debugger.old.machine.input.program desk.old.symbols }
+    requires sent { post.old.sent + 3 < 2 ^ 64 - 1 }
     ensures input { debugger.new.machine.input ≡ debugger.old.machine.input }
+    ensures symbols { desk.new.symbols ≡ desk.old.symbols }
     ensures sent { OnOk result (post.new ≡ posted_all request.now post.old
         (reply (result_body (console_answer (adapter_state_of debugger.old desk.old) command))
         ∷ behind_command (adapter_state_of debugger.old desk.old) command true)) }
@@ -174,8 +164,10 @@ fn obey_standing<S: SetBoard>(
     post: &mut Post,
     command: PromptCommand,
 ) -> Result<(), AllocError>
-    requires { post.old.sent + 1 < 2 ^ 64 - 1 }
+    requires symbols { IsSymbolsOf debugger.old.machine.input.program desk.old.symbols }
+    requires sent { post.old.sent + 1 < 2 ^ 64 - 1 }
     ensures input { debugger.new.machine.input ≡ debugger.old.machine.input }
+    ensures symbols { desk.new.symbols ≡ desk.old.symbols }
     ensures sent { OnOk result (post.new ≡ posted_all request.now post.old
         (reply (result_body (console_answer (adapter_state_of debugger.old desk.old) command))
         ∷ behind_command (adapter_state_of debugger.old desk.old) command false)) }
@@ -189,26 +181,52 @@ fn obey_standing<S: SetBoard>(
     let Some(line) = command.point(debugger.machine().program()) else {
         return say(debugger, desk, request, post, command, &mut answer);
     };
-    let was_set = is_break(alloc, debugger, line)?;
+    let was_set = debugger.is_break_line(line as usize);
     say(debugger, desk, request, post, command, &mut answer)?;
-    let is_set = is_break(alloc, debugger, line)?;
+    let is_set = debugger.is_break_line(line as usize);
     note_break(desk, line, is_set, was_set)?;
     let program = debugger.machine().program();
     tell_point(program, desk.source(), request, post, line, is_set, was_set)
 }
 
 /// A command as the console takes it: CLEAR needs a line, since an editor hears of one line at a
-/// time, and no symbol table is kept.
-fn console_command(program: &Program, command: PromptCommand) -> PromptCommand
-    ensures { result ≡ console_command program.now command }
+/// time.
+fn console_command(command: PromptCommand) -> PromptCommand
+    ensures { result ≡ console_command command }
 {
     match command {
         PromptCommand::ClearAll => PromptCommand::Plain(Command::Bad),
-        other => other.without_symbols(program),
+        other => other,
     }
 }
 
-/// Answers a line as the prompt does, but for CLEAR without a line.
+/// Obeys a command of the console.
+fn obey_command<S: SetBoard>(
+    debugger: &mut Debugger<S>,
+    desk: &mut Desk,
+    request: &Request,
+    post: &mut Post,
+    command: PromptCommand,
+) -> Result<(), AllocError>
+    requires symbols { IsSymbolsOf debugger.old.machine.input.program desk.old.symbols }
+    requires sent { post.old.sent + 3 < 2 ^ 64 - 1 }
+    ensures input { debugger.new.machine.input ≡ debugger.old.machine.input }
+    ensures symbols { desk.new.symbols ≡ desk.old.symbols }
+    ensures sent { OnOk result (post.new ≡ posted_all request.now post.old
+        (answer_to_command (adapter_state_of debugger.old desk.old) command)) }
+    ensures state { OnOk result (adapter_state_of debugger.new desk.new
+        ≡ after_command (adapter_state_of debugger.old desk.old) command) }
+{
+    if command.is_movement() {
+        obey_movement(debugger, desk, request, post, command)
+    } else {
+        obey_standing(debugger, desk, request, post, command)
+    }
+}
+
+/// Answers a line as the prompt does, but for CLEAR without a line: if a command asks for something
+/// in a text that is not what it has to be, it says so, and nothing changes.
+#[tactic(auto, unfolding(ss_messages::specs::Messages::posted_all))]
 pub fn obey_line<S: SetBoard>(
     debugger: &mut Debugger<S>,
     desk: &mut Desk,
@@ -216,20 +234,21 @@ pub fn obey_line<S: SetBoard>(
     post: &mut Post,
     line: &[u8],
 ) -> Result<(), AllocError>
-    requires { post.old.sent + 3 < 2 ^ 64 - 1 }
+    requires symbols { IsSymbolsOf debugger.old.machine.input.program desk.old.symbols }
+    requires sent { post.old.sent + 3 < 2 ^ 64 - 1 }
     ensures input { debugger.new.machine.input ≡ debugger.old.machine.input }
+    ensures symbols { desk.new.symbols ≡ desk.old.symbols }
     ensures sent { OnOk result (post.new ≡ posted_all request.now post.old
-        (answer_to_line (adapter_state_of debugger.old desk.old)
-        (prompt_command_of debugger.old.machine.input.program line.now))) }
+        (answer_to_line (adapter_state_of debugger.old desk.old) line.now)) }
     ensures state { OnOk result (adapter_state_of debugger.new desk.new
-        ≡ behind_line (adapter_state_of debugger.old desk.old)
-        (prompt_command_of debugger.old.machine.input.program line.now)) }
+        ≡ behind_line (adapter_state_of debugger.old desk.old) line.now) }
 {
-    let program = debugger.machine().program();
-    let command = console_command(program, prompt_command(program, line));
-    if command.is_movement() {
-        obey_movement(debugger, desk, request, post, command)
-    } else {
-        obey_standing(debugger, desk, request, post, command)
+    let command = prompt_command(debugger.machine().program(), line);
+    match line_misread(post.alloc(), &command, line)? {
+        Some(misread) => {
+            let body = result_body(post.alloc(), &misread)?;
+            post.reply(request, &body)
+        }
+        None => obey_command(debugger, desk, request, post, console_command(command)),
     }
 }

@@ -2,8 +2,9 @@
 ghost use Rattle.std.specs.Prelude.{◌≡◌, []};
 
 use crate::pen::Pen;
+use ss_check::SymbolTable;
 use ss_messages::{Counting, Post, Source, Stops, Text};
-use ss_trace::Question;
+use ss_prompt::Shown;
 use std::alloc::Global;
 use std::marker::Model;
 
@@ -17,8 +18,10 @@ pub struct Desk {
     pub(crate) path: Vec<u8>,
     /// The bytes of the model.
     pub(crate) model: Vec<u8>,
+    /// The symbol table of the model.
+    pub(crate) symbols: SymbolTable,
     /// The questions that are answered at each stop of the console.
-    pub(crate) displays: Vec<Question>,
+    pub(crate) displays: Vec<Shown>,
     /// The break lines that requests set by lines.
     pub(crate) set: Vec<u32>,
     /// Those that they set by sections.
@@ -41,6 +44,7 @@ impl Model for Desk {
     ghost view = { λ k. record {
       path = k.path.items;
       model = k.model.items;
+      symbols = k.symbols;
       displays = k.displays.items;
       set = k.set.items;
       sections = k.sections.items;
@@ -85,12 +89,14 @@ impl Desk {
         alloc: Global,
         path: Vec<u8>,
         model: Vec<u8>,
+        symbols: SymbolTable,
         counting: Counting,
         stops: Stops,
     ) -> Self
         ensures { result ≡ record {
           path = path.items;
           model = model.items;
+          symbols = symbols;
           displays = [];
           set = [];
           sections = [];
@@ -103,6 +109,7 @@ impl Desk {
         Desk {
             path,
             model,
+            symbols,
             displays: Vec::new(alloc),
             set: Vec::new(alloc),
             sections: Vec::new(alloc),

@@ -2,6 +2,7 @@
 
 /// The capabilities of the adapter.
 pub const CAPABILITIES: &[u8] = b"{\"supportsConfigurationDoneRequest\":true,\
+    \"supportsConditionalBreakpoints\":true,\
     \"supportsFunctionBreakpoints\":true,\"supportsDataBreakpoints\":true,\
     \"supportsStepBack\":true,\"supportsGotoTargetsRequest\":true,\"supportsSteppingGranularity\":true,\
     \"supportsEvaluateForHovers\":true,\"supportsCompletionsRequest\":true,\

@@ -9,6 +9,7 @@ mod console;
 mod desk;
 mod fixed;
 mod going;
+mod launched;
 mod laws;
 mod looking;
 mod moving;
@@ -25,10 +26,10 @@ mod watch;
 mod words;
 
 pub use before::turn_before;
-pub use desk::Desk;
+pub use launched::Launched;
 pub use laws::{
     each_request_has_one_answer, nearest_change_is_least, nearest_change_is_one_of_them,
     searches_for_a_line_end_nearest,
 };
 pub use opening::launch;
-pub use turns::{Further, turn, turn_elsewhere};
+pub use turns::{Further, turn_elsewhere};

@@ -14,7 +14,7 @@ use ss_links::SetBoard;
 use ss_machine::Machine;
 use ss_messages::exception_body;
 use ss_program::Program;
-use ss_prompt::{Missing, PromptCommand, asked_of_program, prompt_command};
+use ss_prompt::{Manner, Missing, PromptCommand, asked_of_program, bare_question, prompt_command};
 use ss_sentences::fault_sentence;
 use ss_state::Status;
 use ss_trace::Question;
@@ -129,8 +129,8 @@ fn named_in(program: &Program, command: Command) -> Option<Result<Question, Miss
     }
 }
 
-/// The question that a line of the prompt asks, or has answered at each stop; or the name in it
-/// that the program hasn't.
+/// The question that a line of the prompt asks, or has answered at each stop, as that of a bare
+/// name; or the name in it that the program hasn't.
 fn named_by(program: &Program, command: PromptCommand) -> Option<Result<Question, Missing>>
     ensures { result ≡ named_by program.now command }
 {
@@ -138,6 +138,7 @@ fn named_by(program: &Program, command: PromptCommand) -> Option<Result<Question
         PromptCommand::Plain(command) => named_in(program, command),
         PromptCommand::Ask(question) | PromptCommand::Display(question) => Some(Ok(question)),
         PromptCommand::Missing(missing) => Some(Err(missing)),
+        PromptCommand::Meant(Manner::Display, text, _) => bare_question(program, text.as_slice()),
         _ => None,
     }
 }

@@ -27,6 +27,7 @@ pub fn go<S: SetBoard>(
 ) -> Result<(), AllocError>
     requires { post.old.sent + 3 < 2 ^ 64 - 1 }
     ensures input { debugger.new.machine.input ≡ debugger.old.machine.input }
+    ensures symbols { desk.new.symbols ≡ desk.old.symbols }
     ensures sent { OnOk result (post.new ≡ posted_all request.now post.old
         (reply_with_going (adapter_state_of debugger.old desk.old) (codes "{}") going)) }
     ensures state { OnOk result (adapter_state_of debugger.new desk.new
@@ -69,6 +70,7 @@ pub fn configure<S: SetBoard>(
 ) -> Result<(), AllocError>
     requires { post.old.sent + 3 < 2 ^ 64 - 1 }
     ensures input { debugger.new.machine.input ≡ debugger.old.machine.input }
+    ensures symbols { desk.new.symbols ≡ desk.old.symbols }
     ensures sent { OnOk result (post.new ≡ posted_all request.now post.old
         (answer_to_configuration (adapter_state_of debugger.old desk.old))) }
     ensures state { OnOk result (adapter_state_of debugger.new desk.new

@@ -9,13 +9,12 @@ ghost use Rattle.ss_adapter.specs.Before.{warning_events, answer_to_launch, answ
 ghost use Rattle.ss_adapter.specs.Before.{IsLaunched, IsRefusedLaunch, fault_line};
 
 use crate::desk::Desk;
+use crate::launched::Launched;
 use crate::refused::explanation;
-use ss_debug::Debugger;
-use ss_links::LinkedSets;
 use ss_messages::{NOTHING, Post, Request, Source, Stops, output_body, without_last};
 use ss_names::{push_program_warnings, push_warnings};
 use ss_program::Program;
-use ss_session::{LoadFault, open_debugger, refusal_text};
+use ss_session::{LoadFault, Opened, open_debugger_with_symbols, refusal_text};
 use std::alloc::{AllocError, Global};
 
 /// The line of a refused model.
@@ -111,27 +110,28 @@ pub fn launch(
     stops: Stops,
     model: &[u8],
     text: &[u8],
-) -> Result<Option<(Debugger<LinkedSets>, Desk)>, AllocError>
+) -> Result<Option<Launched>, AllocError>
     requires { post.old.sent + 2 < 2 ^ 64 - 1 }
     ensures run { IfOk result (λ opened. MatchOption opened
         ((fault : LoadFault) × (fault ≢ Memory) × IsLoadFault fault model.now
         × IsRefusedLaunch fault model.now request.now post.old post.new)
-        (λ run. IsLaunched model.now text.now source.entry.path.now
-        source.entry.counting stops run.0 run.1
+        (λ run. IsLaunched model.now text.now source.entry.path.now source.entry.counting stops run
         × (post.new ≡ posted_all request.now post.old
-        (answer_to_launch (warnings_told run.0.machine.input.program model.now))))) }
+        (answer_to_launch (warnings_told run.input.program model.now))))) }
 {
     let alloc = post.alloc();
-    let path = source.path.to_vec(alloc)?;
-    let desk = Desk::new(alloc, path, model.to_vec(alloc)?, source.counting, stops);
-    match open_debugger(alloc, model, text) {
-        Ok(debugger) => match tell_opened(request, post, debugger.machine().program(), model) {
-            Ok(()) => Ok(Some((debugger, desk))),
-            Err(error) => {
-                debugger.end();
-                Err(error)
+    let (path, bytes) = (source.path.to_vec(alloc)?, model.to_vec(alloc)?);
+    match open_debugger_with_symbols(alloc, model, text) {
+        Ok(Opened { debugger, symbols }) => {
+            let desk = Desk::new(alloc, path, bytes, symbols, source.counting, stops);
+            match tell_opened(request, post, debugger.machine().program(), model) {
+                Ok(()) => Ok(Some(Launched::new(debugger, desk))),
+                Err(error) => {
+                    debugger.end();
+                    Err(error)
+                }
             }
-        },
+        }
         Err(LoadFault::Memory) => Err(AllocError),
         Err(fault) => {
             let said = explanation(alloc, model, &fault)?;

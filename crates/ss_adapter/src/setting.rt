@@ -1,5 +1,6 @@
 //! Requests that set break points.
 ghost use Rattle.std.specs.Prelude.{◌≡◌, ◌-◌, ◌^◌, ◌<◌, ◌∷◌, [], codes, OnOk};
+ghost use Rattle.ss_check.specs.Asked.{IsSymbolsOf};
 ghost use Rattle.ss_messages.specs.Bodies.{list_body};
 ghost use Rattle.ss_messages.specs.Messages.{posted_all, reply};
 ghost use Rattle.ss_adapter.specs.Turn.{adapter_state_of, first_points, setting_in, sections_in, answer_unset};
@@ -37,8 +38,10 @@ pub fn set_breaks<S: SetBoard>(
     post: &mut Post,
     points: &[LinePoint],
 ) -> Result<(), AllocError>
-    requires { post.old.sent < 2 ^ 64 - 1 }
+    requires symbols { IsSymbolsOf debugger.old.machine.input.program desk.old.symbols }
+    requires sent { post.old.sent < 2 ^ 64 - 1 }
     ensures input { debugger.new.machine.input ≡ debugger.old.machine.input }
+    ensures symbols { desk.new.symbols ≡ desk.old.symbols }
     ensures sent { OnOk result (post.new ≡ posted_all request.now post.old (reply
         (list_body (codes "breakpoints")
         (setting_in (adapter_state_of debugger.old desk.old) points.now).text) ∷ [])) }
@@ -51,6 +54,7 @@ pub fn set_breaks<S: SetBoard>(
     set_lines(
         desk.pen(post),
         debugger,
+        &desk.symbols,
         &mut desk.set,
         &desk.sections,
         &mut text,
@@ -89,6 +93,7 @@ pub fn set_section_breaks<S: SetBoard>(
 ) -> Result<(), AllocError>
     requires { post.old.sent < 2 ^ 64 - 1 }
     ensures input { debugger.new.machine.input ≡ debugger.old.machine.input }
+    ensures symbols { desk.new.symbols ≡ desk.old.symbols }
     ensures sent { OnOk result (post.new ≡ posted_all request.now post.old (reply
         (list_body (codes "breakpoints")
         (sections_in (adapter_state_of debugger.old desk.old) names.now).text) ∷ [])) }
@@ -119,6 +124,7 @@ pub fn set_watch<S: SetBoard>(
     ids: &[Option<Text>],
 ) -> Result<(), AllocError>
     requires { post.old.sent < 2 ^ 64 - 1 }
+    ensures symbols { desk.new.symbols ≡ desk.old.symbols }
     ensures sent { OnOk result (post.new ≡ posted_all request.now post.old (reply
         (list_body (codes "breakpoints")
         (watching_of debugger.now.machine.input.program ids.now).text) ∷ [])) }

@@ -226,6 +226,7 @@ pub fn go_to<S: SetBoard>(
 ) -> Result<(), AllocError>
     requires { post.old.sent + 3 < 2 ^ 64 - 1 }
     ensures input { debugger.new.machine.input ≡ debugger.old.machine.input }
+    ensures symbols { desk.new.symbols ≡ desk.old.symbols }
     ensures sent { OnOk result (post.new ≡ posted_all request.now post.old
         (answer_to_goto (adapter_state_of debugger.old desk.old) target)) }
     ensures state { OnOk result (adapter_state_of debugger.new desk.new

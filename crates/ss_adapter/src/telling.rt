@@ -24,6 +24,7 @@ pub fn tell_report<S: SetBoard>(
     post: &mut Post,
 ) -> Result<(), AllocError>
     requires { post.old.sent < 2 ^ 64 - 1 }
+    ensures symbols { desk.new.symbols ≡ desk.old.symbols }
     ensures sent { OnOk result (post.new ≡ posted_all request.now post.old
         (untold_output desk.old.told (report_at debugger.now.machine.input
         (debugger_state_of debugger.now)))) }
@@ -177,6 +178,7 @@ pub fn tell_movement<S: SetBoard>(
     changed: Option<usize>,
 ) -> Result<(), AllocError>
     requires { post.old.sent + 2 < 2 ^ 64 - 1 }
+    ensures symbols { desk.new.symbols ≡ desk.old.symbols }
     ensures sent { OnOk result (post.new ≡ posted_all request.now post.old
         (behind_movement debugger.now.machine.input desk.old (debugger_state_of debugger.now)
         answer.now changed)) }

@@ -1,5 +1,6 @@
 //! One turn of the adapter: a request is answered.
 ghost use Rattle.std.specs.Prelude.{◌≡◌, ◌+◌, ◌-◌, ◌^◌, ◌<◌, None, if◌then◌else◌, IfOk, OnOk};
+ghost use Rattle.ss_check.specs.Asked.{IsSymbolsOf};
 ghost use Rattle.ss_messages.specs.Messages.{posted_all};
 ghost use Rattle.ss_adapter.specs.Turn.{adapter_state_of, told_debugged, left_debugged, point_count};
 ghost use Rattle.ss_adapter.specs.Turn.{told_of, left_by, answers, answers_elsewhere, state_after, further_of};
@@ -33,8 +34,10 @@ fn answer_debugged<S: SetBoard>(
     request: &Request,
     post: &mut Post,
 ) -> Result<(), AllocError>
-    requires { post.old.sent + 3 < 2 ^ 64 - 1 }
+    requires symbols { IsSymbolsOf debugger.old.machine.input.program desk.old.symbols }
+    requires sent { post.old.sent + 3 < 2 ^ 64 - 1 }
     ensures input { debugger.new.machine.input ≡ debugger.old.machine.input }
+    ensures symbols { desk.new.symbols ≡ desk.old.symbols }
     ensures sent { OnOk result (post.new ≡ posted_all request.now post.old
         (told_debugged (adapter_state_of debugger.old desk.old) request.now.command)) }
     ensures state { OnOk result (adapter_state_of debugger.new desk.new
@@ -88,8 +91,10 @@ fn answer_standing<S: SetBoard>(
     request: &Request,
     post: &mut Post,
 ) -> Result<(), AllocError>
-    requires { post.old.sent + 3 < 2 ^ 64 - 1 }
+    requires symbols { IsSymbolsOf debugger.old.machine.input.program desk.old.symbols }
+    requires sent { post.old.sent + 3 < 2 ^ 64 - 1 }
     ensures input { debugger.new.machine.input ≡ debugger.old.machine.input }
+    ensures symbols { desk.new.symbols ≡ desk.old.symbols }
     ensures sent { OnOk result (post.new ≡ posted_all request.now post.old
         (told_of (adapter_state_of debugger.old desk.old) request.now.command)) }
     ensures state { OnOk result (adapter_state_of debugger.new desk.new
@@ -142,17 +147,16 @@ pub fn turn_elsewhere(request: &Request, post: &mut Post) -> Result<Further, All
 }
 
 /// One turn: obeys a request, and posts its reply and the events that follow it.
-///
-/// `AllocError` if memory was refused: the run is the same one, and the posted messages are not
-/// known.
-pub fn turn<S: SetBoard>(
+pub(crate) fn turn<S: SetBoard>(
     debugger: &mut Debugger<S>,
     desk: &mut Desk,
     request: &Request,
     post: &mut Post,
 ) -> Result<Further, AllocError>
-    requires { post.old.sent + 3 < 2 ^ 64 - 1 }
+    requires symbols { IsSymbolsOf debugger.old.machine.input.program desk.old.symbols }
+    requires sent { post.old.sent + 3 < 2 ^ 64 - 1 }
     ensures input { debugger.new.machine.input ≡ debugger.old.machine.input }
+    ensures symbols { desk.new.symbols ≡ desk.old.symbols }
     ensures sent { OnOk result (post.new ≡ posted_all request.now post.old
         (answers (adapter_state_of debugger.old desk.old) request.now.command)) }
     ensures state { OnOk result (adapter_state_of debugger.new desk.new

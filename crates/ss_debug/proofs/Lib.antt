@@ -1,5 +1,7 @@
 pub mod Unfoldings
 pub mod LineTables
+pub mod BreakTables
+pub mod BreakLaws
 pub mod Names
 pub mod Splits
 pub mod Moves

@@ -4,7 +4,7 @@ use Rattle.std.proofs.Common.{slice_index_or, ◌||◌}
 use Rattle.std.proofs.Common.{length, refl, sym, arith, rules, subst, replicate, unwrap_or, nat_lt, nat_eq, slice_get}
 use Rattle.std.proofs.Common.{slice_set}
 use Rattle.std.specs.List.{filter}
-use Rattle.ss_debug.specs.BreakLines.{is_break_line, with_line, without_line}
+use Rattle.ss_debug.specs.LineTable.{has_line, with_line, without_line}
 use Rattle.ss_debug.specs.LineTable.{lines_from, lines_of}
 
 lt_yes : (m n : ℕ) → m < n → nat_lt m n ≡ true
@@ -23,7 +23,7 @@ eq_yes : (k m : ℕ) → m ≡ k → nat_eq k m ≡ true
 eq_yes k m h = search rules
 
 -- no line below the first
-none_below : (bs : List Bool) (k m : ℕ) → m < k → is_break_line (lines_from k bs) m ≡ false
+none_below : (bs : List Bool) (k m : ℕ) → m < k → has_line (lines_from k bs) m ≡ false
 none_below [] k m h = refl
 none_below (true ∷ bs) k m h = rw (eq_no m k h) (none_below bs (suc k) m (omega arith))
 none_below (false ∷ bs) k m h = none_below bs (suc k) m (omega arith)
@@ -45,7 +45,7 @@ none_dropped (true ∷ bs) k m h = rw (eq_no m k h, none_dropped bs (suc k) m (o
 none_dropped (false ∷ bs) k m h = none_dropped bs (suc k) m (omega arith)
 
 is_line_from : (bs : List Bool) (k l m : ℕ) → m ≡ k + l →
-    is_break_line (lines_from k bs) m ≡ unwrap_or (slice_get bs l) false
+    has_line (lines_from k bs) m ≡ unwrap_or (slice_get bs l) false
 is_line_from [] k l m e = refl
 is_line_from (true ∷ bs) k zero m e = rw (eq_yes k m (omega arith)) refl
 is_line_from (false ∷ bs) k zero m e = none_below bs (suc k) m (omega arith)
@@ -53,7 +53,7 @@ is_line_from (true ∷ bs) k (suc l) m e = rw (eq_no_up k m (omega arith)) (is_l
 is_line_from (false ∷ bs) k (suc l) m e = is_line_from bs (suc k) l m (omega arith)
 
 -- whether a line is among those of a table
-pub is_line : (bs : List Bool) (l : ℕ) → is_break_line (lines_of bs) l ≡ unwrap_or (slice_get bs l) false
+pub is_line : (bs : List Bool) (l : ℕ) → has_line (lines_of bs) l ≡ unwrap_or (slice_get bs l) false
 is_line bs l = is_line_from bs 0 l l (omega arith)
 
 set_from : (bs : List Bool) (k l m : ℕ) → m ≡ k + l → l < length bs →
@@ -173,27 +173,27 @@ set_again (false ∷ bs) zero e = absurd (cc)
 set_again (b ∷ bs) (suc l) e = rw (set_again bs l e) refl
 
 -- a line that is there has a place in the table
-pub line_within : (bs : List Bool) (l : ℕ) → is_break_line (lines_of bs) l ≡ true → l < length bs
+pub line_within : (bs : List Bool) (l : ℕ) → has_line (lines_of bs) l ≡ true → l < length bs
 line_within bs l e = value_within bs l (rw (sym (is_line bs l)) e)
 
 -- a line is there if its place holds true
 pub line_at : (bs : List Bool) (l : ℕ) (d : Bool) → l < length bs →
-    is_break_line (lines_of bs) l ≡ slice_index_or bs l d
+    has_line (lines_of bs) l ≡ slice_index_or bs l d
 line_at bs l d h = rw (is_line bs l) (value_at bs l d h)
 
 -- no line is there past the table's end
-pub line_past : (bs : List Bool) (l : ℕ) → length bs ≤ l → is_break_line (lines_of bs) l ≡ false
+pub line_past : (bs : List Bool) (l : ℕ) → length bs ≤ l → has_line (lines_of bs) l ≡ false
 line_past bs l h = rw (is_line bs l) (value_past bs l h)
 
 -- a line that is there is not set again
-pub line_set_again : (bs : List Bool) (l : ℕ) → is_break_line (lines_of bs) l ≡ true →
+pub line_set_again : (bs : List Bool) (l : ℕ) → has_line (lines_of bs) l ≡ true →
     with_line l (lines_of bs) ≡ lines_of bs
 line_set_again bs l e =
     let there = set_again bs l (rw (sym (is_line bs l)) e) in
     rw (sym (line_set bs l (line_within bs l e)), there) refl
 
 -- there is one line more, if it was not there
-pub count_set : (bs : List Bool) (l : ℕ) → l < length bs → is_break_line (lines_of bs) l ≡ false →
+pub count_set : (bs : List Bool) (l : ℕ) → l < length bs → has_line (lines_of bs) l ≡ false →
     length (lines_of (slice_set bs l true)) ≡ length (lines_of bs) + 1
 count_set bs l h e =
     let absent : unwrap_or (slice_get bs l) false ≡ false = rw (sym (is_line bs l)) e in
@@ -203,7 +203,7 @@ count_set bs l h e =
     omega (arith, f)
 
 -- there is one other line less, if the line is there
-pub count_others : (bs : List Bool) (l : ℕ) → is_break_line (lines_of bs) l ≡ true →
+pub count_others : (bs : List Bool) (l : ℕ) → has_line (lines_of bs) l ≡ true →
     length (without_line l (lines_of bs)) + 1 ≡ length (lines_of bs)
 count_others bs l e =
     let there : unwrap_or (slice_get bs l) false ≡ true = rw (sym (is_line bs l)) e in
@@ -212,7 +212,7 @@ count_others bs l e =
     omega (arith, f)
 
 -- there is one line less, if it was there
-pub count_cleared : (bs : List Bool) (l : ℕ) → is_break_line (lines_of bs) l ≡ true →
+pub count_cleared : (bs : List Bool) (l : ℕ) → has_line (lines_of bs) l ≡ true →
     length (lines_of (slice_set bs l false)) + 1 ≡ length (lines_of bs)
 count_cleared bs l e = rw (line_cleared bs l (line_within bs l e)) (count_others bs l e)
 
@@ -222,14 +222,8 @@ or_both false true e = absurd (cc)
 or_both true b e = absurd (cc)
 
 -- without a line that is not there, the lines are as they were
-pub line_absent : (ls : List ℕ) (l : ℕ) → is_break_line ls l ≡ false → without_line l ls ≡ ls
+pub line_absent : (ls : List ℕ) (l : ℕ) → has_line ls l ≡ false → without_line l ls ≡ ls
 unfolding without_line
 line_absent [] l e = refl
 line_absent (m ∷ ls) l e =
-    let both = or_both (nat_eq m l) (is_break_line ls l) e in rw (both.0, line_absent ls l both.1) refl
-
--- a line made a break line
-pub ruleset setting = (line_set, line_set_again, count_set, no_more)
-
--- a line made none
-pub ruleset clearing = (line_within, line_cleared, count_cleared, line_absent)
+    let both = or_both (nat_eq m l) (has_line ls l) e in rw (both.0, line_absent ls l both.1) refl

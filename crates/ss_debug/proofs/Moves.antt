@@ -5,6 +5,7 @@ use borrow.Author.Tests.{ltb-true, ltb-false, leb-true, leb-false}
 use Rattle.ss_state.specs.declared.limits.TheConstants.{LAST_POSITION}
 use Rattle.ss_state.specs.Run.{Input}
 use Rattle.ss_debug.specs.declared.stop_condition.StopCondition.{StopCondition as StopChoice}
+use Rattle.ss_debug.specs.BreakLines.{BreakPoint}
 use Rattle.ss_debug.specs.View.{condition_of}
 use Rattle.ss_debug.specs.Move.{StopCondition, step_condition, least, is_stop, stops, forward_end, is_ready_at, has_come}
 use Rattle.ss_debug.specs.Move.{is_on_break, EndsAt, stops_back, search_back_end, EndsBackAt}
@@ -207,7 +208,7 @@ pub one_end : (t : Input) (condition : StopCondition) (p n q r : ℕ) →
 one_end t condition p n q r a b = end_by_order t condition p n q r _ _ refl refl a b
 
 -- whether a forward movement stops at q, k positions on
-pub stops_here : (t u : Input) (breaks : List ℕ) (choice : StopChoice) (p q k from : ℕ) → u ≡ t → q ≡ p + k →
+pub stops_here : (t u : Input) (breaks : List BreakPoint) (choice : StopChoice) (p q k from : ℕ) → u ≡ t → q ≡ p + k →
     from ≡ p → stops t (condition_of t breaks choice) p k ≡ is_stop u (condition_of u breaks choice) from q
 stops_here t u breaks choice p q k from e f g = rw (e, f, g) refl
 
@@ -288,7 +289,7 @@ search_back_ends test a p n o =
     }
 
 -- whether BACK BREAK stops at q, k positions back
-pub stops_back_here : (t u : Input) (breaks : List ℕ) (p q k : ℕ) → u ≡ t → p ≡ q + k →
+pub stops_back_here : (t u : Input) (breaks : List BreakPoint) (p q k : ℕ) → u ≡ t → p ≡ q + k →
     stops_back (is_on_break t breaks) p k ≡ (nat_lt 0 k && is_on_break u breaks q)
 stops_back_here t u breaks p q k e f = let g : p - k ≡ q = omega arith in rw (e, g) refl
 

@@ -1,6 +1,6 @@
 -- Movements over a run: their positions after some steps, and their ends.
 use Rattle.std.proofs.Common.{◌≡◌, ℕ, ◌+◌, ◌-◌, ◌<◌, ◌≤◌, min, Bool, true, false, not, ◌&&◌, nat_lt, refl, sym, ap}
-use Rattle.std.proofs.Common.{◌∙◌, List, arith}
+use Rattle.std.proofs.Common.{◌∙◌, List, arith, subst}
 use borrow.Author.Count.{below_more}
 use borrow.Author.Tests.{ltb-true, ltb-false}
 use Rattle.ss_state.specs.declared.limits.TheConstants.{LAST_POSITION}
@@ -8,11 +8,12 @@ use Rattle.ss_state.specs.declared.status.Status.{Status}
 use Rattle.ss_state.specs.declared.status.Status.TheVariants.{Ready, Stopped, Finished, Faulted}
 use Rattle.ss_state.specs.declared.stepped.Stepped.TheVariants.{Moved}
 use Rattle.ss_state.specs.State.{State, is_ready}
-use Rattle.ss_state.specs.Run.{run}
+use Rattle.ss_state.specs.Run.{Input, run}
 use Rattle.ss_timeline.specs.Moment.{Moment, position, with_kept, HasMoved}
 use Rattle.ss_machine.specs.Moment as machines
 use Rattle.ss_machine.proofs.Timelines.{steps_on}
 use Rattle.ss_debug.specs.declared.stop_condition.StopCondition.{StopCondition as StopChoice}
+use Rattle.ss_debug.specs.BreakLines.{BreakPoint, AreSoundBreaks}
 use Rattle.ss_debug.specs.View.{condition_of, search_end}
 use Rattle.ss_debug.specs.Position.{IsAt, IsBetween}
 use Rattle.ss_debug.specs.Move.{StopCondition, step_condition, is_stop, is_ready_at, stops, forward_end, back_end}
@@ -55,6 +56,19 @@ back_again start here new k same moved =
     let kept : here.kept - 1 ≡ start.kept - (k + 1) = let e = kept_of start here (start.kept - k) same in omega (arith, e) in
     moved ∙ ap (λ (m : Moment). with_kept m (here.kept - 1)) same ∙ ap (λ (n : ℕ). with_kept start n) kept
 
+-- ---- the conditions of break lines
+
+-- they are sound for the run at each position
+pub sound_on : (start here : Moment) (n : ℕ) (breaks : List BreakPoint) → here ≡ with_kept start n →
+    AreSoundBreaks start.input.program breaks → AreSoundBreaks here.input.program breaks
+sound_on start here n breaks e h =
+    subst (λ (x : Input). AreSoundBreaks x.program breaks) (sym (input_of start here n e)) h
+
+-- in the same run
+pub sound_in : (t u : Input) (breaks : List BreakPoint) → u ≡ t → AreSoundBreaks t.program breaks →
+    AreSoundBreaks u.program breaks
+sound_in t u breaks e h = subst (λ (x : Input). AreSoundBreaks x.program breaks) (sym e) h
+
 -- ---- forward
 
 -- whether STEP stops, as seen from its present position
@@ -65,7 +79,7 @@ step_stops_here start here k ready same seen =
     (input_of start here (start.kept + k) same) (position_on start here k same) seen
 
 -- whether a movement stops, as seen from its present position
-pub stops_seen : (start here : Moment) (breaks : List ℕ) (choice : StopChoice) (k from : ℕ) (b : Bool) →
+pub stops_seen : (start here : Moment) (breaks : List BreakPoint) (choice : StopChoice) (k from : ℕ) (b : Bool) →
     here ≡ with_kept start (start.kept + k) → from ≡ position start →
     b ≡ is_stop here.input (condition_of here.input breaks choice) from (position here) →
     stops start.input (condition_of start.input breaks choice) (position start) k ≡ b
@@ -170,7 +184,7 @@ search_ends_here test start here n k held h found =
     }
 
 -- whether a search to a break line stops, as seen from its present position
-pub break_here : (start here : Moment) (breaks : List ℕ) (k : ℕ) (b : Bool) →
+pub break_here : (start here : Moment) (breaks : List BreakPoint) (k : ℕ) (b : Bool) →
     HasSearched (is_on_break start.input breaks) start k here →
     b ≡ (nat_lt 0 k && is_on_break here.input breaks (position here)) →
     stops_back (is_on_break start.input breaks) (position start) k ≡ b

@@ -18,7 +18,7 @@ use Rattle.ss_state.specs.declared.status.Status.{Status}
 use Rattle.ss_state.specs.declared.status.Status.TheVariants.{Ready, Stopped, Finished, Faulted}
 use Rattle.ss_state.specs.Readings.{variable_in}
 use Rattle.ss_state.specs.Run.{Input, run}
-use Rattle.ss_debug.specs.BreakLines.{is_break_line, is_full}
+use Rattle.ss_debug.specs.BreakLines.{BreakPoint, is_break_line, is_full}
 use Rattle.ss_debug.specs.Move.{StopCondition, is_ready_at, has_come, line_at}
 
 -- the word of a status
@@ -88,12 +88,18 @@ unfoldable pub kept_text : ℕ → List ℕ
 kept_text n = codes "KEPT " ++ decimal n ++ 10 ∷ []
 
 -- the answer to BREAK: with the greatest number of other lines there is no room for one more
-unfoldable pub break_text : List ℕ → ℕ → List ℕ
+unfoldable pub break_text : List BreakPoint → ℕ → List ℕ
 break_text breaks line =
     if is_full breaks line then codes "TOO MANY BREAKS\n" else codes "BREAK " ++ decimal line ++ codes " SET\n"
 
+-- the answer to BREAK with a condition, of which the text is given
+unfoldable pub break_when_text : List BreakPoint → ℕ → List ℕ → List ℕ
+break_when_text breaks line text =
+    if is_full breaks line then codes "TOO MANY BREAKS\n"
+    else codes "BREAK " ++ decimal line ++ codes " WHEN " ++ text ++ codes " SET\n"
+
 -- the answer to CLEAR
-unfoldable pub clear_text : List ℕ → ℕ → List ℕ
+unfoldable pub clear_text : List BreakPoint → ℕ → List ℕ
 clear_text breaks line =
     if is_break_line breaks line then codes "BREAK " ++ decimal line ++ codes " CLEARED\n"
     else codes "NO BREAK " ++ decimal line ++ 10 ∷ []

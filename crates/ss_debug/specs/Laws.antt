@@ -1,11 +1,13 @@
--- Laws on movements, which end at exactly one position, within their bound; and laws on the steps
--- that FORGET leaves.
-use Rattle.std.specs.Prelude.{ℕ, ◌+◌, ◌-◌, min, Bool, ◌≡◌, ◌≤◌}
+-- Laws on movements, which end at exactly one position, within their bound; on the steps that FORGET leaves; and on
+-- conditions of break lines.
+use Rattle.std.specs.Prelude.{ℕ, ◌+◌, ◌-◌, min, Bool, true, ◌≡◌, ◌≤◌, List, Some, None}
 use Rattle.ss_state.specs.declared.limits.TheConstants.{LAST_POSITION}
-use Rattle.ss_state.specs.Run.{Input}
+use Rattle.ss_state.specs.Run.{Input, run}
 use Rattle.ss_debug.specs.declared.limits.TheConstants.{GREATEST_BOUND}
+use Rattle.ss_debug.specs.BreakCondition.{BreakCondition, is_met}
+use Rattle.ss_debug.specs.BreakLines.{BreakPoint, with_break}
 use Rattle.ss_debug.specs.Move.{StopCondition, MovementShape, forward, back, search_back}
-use Rattle.ss_debug.specs.Move.{forward_end, EndsAt, back_end, search_back_end, EndsBackAt}
+use Rattle.ss_debug.specs.Move.{is_on_break, forward_end, EndsAt, back_end, search_back_end, EndsBackAt}
 use Rattle.ss_debug.specs.Turn.{DebuggerState, end_of, debugger_state_after_forget}
 
 -- the position that the definition computes is an end in the sense of the one fact
@@ -70,3 +72,11 @@ pub record IsLeftByForget (n : ℕ) (old new : DebuggerState) : Type 0 where
 abbrev pub ForgetLeavesTheNewestSteps : Type 0
 ForgetLeavesTheNewestSteps =
     (d : DebuggerState) (n : ℕ) → d.earliest ≤ d.position → IsLeftByForget n d (debugger_state_after_forget d n)
+
+-- a break line whose condition holds in each state of a run stops at the same states as one without a condition
+abbrev pub ConditionThatHoldsStopsAsNone : Type 0
+ConditionThatHoldsStopsAsNone =
+    (t : Input) (breaks : List BreakPoint) (line : ℕ) (c : BreakCondition) →
+    ((p : ℕ) → is_met t.program (run t p) c ≡ true) → (p : ℕ) →
+    is_on_break t (with_break (record { line = line; when = Some c }) breaks) p
+    ≡ is_on_break t (with_break (record { line = line; when = None }) breaks) p

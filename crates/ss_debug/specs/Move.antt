@@ -2,6 +2,7 @@
 use Rattle.std.specs.Prelude.{ℕ, zero, suc, ◌+◌, ◌-◌, min, max, pos, int_le, ◌≡◌, ◌<◌, ◌≤◌}
 use Rattle.std.specs.Prelude.{Bool, true, false, not, ◌&&◌, ◌||◌, ◌⊎◌, if◌then◌else◌, nat_lt}
 use Rattle.std.specs.Prelude.{List, length, codes, Option, Some, None}
+use Rattle.std.specs.List.{list_any}
 use Rattle.ss_program.specs.Program.{spot_at, section_of, is_event_section}
 use Rattle.ss_program.specs.declared.place.Spot.{Spot}
 use Rattle.ss_state.specs.declared.limits.TheConstants.{LAST_POSITION}
@@ -10,7 +11,7 @@ use Rattle.ss_state.specs.Run.{Input, run}
 use Rattle.ss_debug.specs.declared.commands.Movement.{Movement}
 use Rattle.ss_debug.specs.declared.commands.Movement.TheVariants.{Step, Run, RunTo, Next, Back, BackEvent, BackBreak}
 use Rattle.ss_debug.specs.declared.limits.TheConstants.{GREATEST_BOUND}
-use Rattle.ss_debug.specs.BreakLines.{is_break_line}
+use Rattle.ss_debug.specs.BreakLines.{BreakPoint, stops_on}
 
 -- the least number below n at which the test holds, or n
 unfoldable pub least : (ℕ → Bool) → ℕ → ℕ
@@ -34,9 +35,9 @@ line_of_state input state = spot_line (spot_at input.program state.frame.section
 abbrev pub line_at : Input → ℕ → ℕ
 line_at input p = line_of_state input (run input p)
 
--- whether the place of state p is on a break line
-abbrev pub is_on_break : Input → List ℕ → ℕ → Bool
-is_on_break input breaks p = is_break_line breaks (line_at input p)
+-- whether a break line stops at state p: its place is on the line, and the line's condition, if it has one, holds
+abbrev pub is_on_break : Input → List BreakPoint → ℕ → Bool
+is_on_break input breaks p = list_any (stops_on input.program (run input p) (line_at input p)) breaks
 
 -- whether the clock of state p is at or past a time, if one is named
 abbrev pub has_come : Input → Option ℕ → ℕ → Bool
@@ -71,13 +72,13 @@ pub record StopCondition : Type 0 where
 abbrev pub step_condition : StopCondition
 step_condition = record { time = None; test = λ p. false; word = codes "DONE"; bound_word = codes "DONE" }
 
--- RUN stops at a state whose place is on a break line
-abbrev pub run_condition : Input → List ℕ → StopCondition
+-- RUN stops at a state at which a break line stops
+abbrev pub run_condition : Input → List BreakPoint → StopCondition
 run_condition input breaks =
     record { time = None; test = is_on_break input breaks; word = codes "BREAK"; bound_word = codes "BOUND" }
 
 -- RUN TO stops at the states of RUN, and at a state whose clock is at or past a time
-abbrev pub run_to_condition : Input → List ℕ → ℕ → StopCondition
+abbrev pub run_to_condition : Input → List BreakPoint → ℕ → StopCondition
 run_to_condition input breaks time = record (run_condition input breaks) { time = Some time }
 
 -- NEXT stops at a state to which an event start led
@@ -93,7 +94,7 @@ pub data MovementShape : Type 0 where
   search_back : (ℕ → Bool) → List ℕ → MovementShape
 
 -- the effect of each movement
-abbrev pub shape_of : Input → List ℕ → Movement → MovementShape
+abbrev pub shape_of : Input → List BreakPoint → Movement → MovementShape
 shape_of input breaks (Step n) = forward step_condition n
 shape_of input breaks (Run n) = forward (run_condition input breaks) n
 shape_of input breaks (RunTo time) = forward (run_to_condition input breaks time) GREATEST_BOUND

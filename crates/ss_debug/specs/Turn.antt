@@ -1,5 +1,5 @@
 -- One turn of the debugger, and all turns of a session.
-use Rattle.std.specs.Prelude.{ℕ, ◌-◌, Bool, true, false, List, [], ◌∷◌, ◌++◌, codes, if◌then◌else◌}
+use Rattle.std.specs.Prelude.{ℕ, ◌-◌, Bool, true, false, List, [], ◌∷◌, ◌++◌, codes, Some, if◌then◌else◌}
 use Rattle.ss_state.specs.Run.{Input}
 use Rattle.ss_debug.specs.declared.commands.Command.{Command}
 use Rattle.ss_debug.specs.declared.commands.Command.TheVariants.{Blank, Bad, Move, Break, Clear, Forget, Show, Quit}
@@ -10,7 +10,8 @@ use Rattle.ss_debug.specs.declared.limits.TheConstants.{GREATEST_BOUND}
 use Rattle.ss_debug.specs.declared.go.Go.{Go}
 use Rattle.ss_debug.specs.declared.go.Go.TheVariants as go
 use Rattle.ss_debug.specs.Command.{command_of}
-use Rattle.ss_debug.specs.BreakLines.{breaks_after_set, without_line}
+use Rattle.ss_debug.specs.BreakCondition.{BreakCondition}
+use Rattle.ss_debug.specs.BreakLines.{BreakPoint, breaks_with, breaks_after_set, without_break}
 use Rattle.ss_debug.specs.Move.{MovementShape, forward, back, search_back, shape_of}
 use Rattle.ss_debug.specs.Move.{forward_end, back_end, search_back_end}
 use Rattle.ss_debug.specs.Answer.{movement_text, forward_word, back_word, search_back_word}
@@ -25,7 +26,7 @@ pub record DebuggerState : Type 0 where
   -- the earliest one that is kept
   pub earliest : ℕ
   -- the break lines
-  pub breaks : List ℕ
+  pub breaks : List BreakPoint
 
 -- at the start, without break lines
 abbrev pub initial_debugger_state : DebuggerState
@@ -57,7 +58,7 @@ movement_answer input debugger shape =
     let q = end_of input debugger shape in movement_text (word_of input debugger shape q) input q
 
 -- the same debugger, with other break lines
-abbrev pub debugger_state_with : DebuggerState → List ℕ → DebuggerState
+abbrev pub debugger_state_with : DebuggerState → List BreakPoint → DebuggerState
 debugger_state_with debugger breaks =
     record { position = debugger.position; earliest = debugger.earliest; breaks = breaks }
 
@@ -75,9 +76,13 @@ unfoldable pub debugger_state_after : Input → DebuggerState → Command → De
 debugger_state_after input debugger (Move m) =
     debugger_state_after_movement input debugger (shape_of input debugger.breaks m)
 debugger_state_after input debugger (Break line) = debugger_state_with debugger (breaks_after_set debugger.breaks line)
-debugger_state_after input debugger (Clear line) = debugger_state_with debugger (without_line line debugger.breaks)
+debugger_state_after input debugger (Clear line) = debugger_state_with debugger (without_break line debugger.breaks)
 debugger_state_after input debugger (Forget n) = debugger_state_after_forget debugger n
 debugger_state_after input debugger _ = debugger
+
+-- the state of the debugger after a line is made a break line with a condition
+abbrev pub debugger_state_after_when : DebuggerState → ℕ → BreakCondition → DebuggerState
+debugger_state_after_when debugger line c = debugger_state_with debugger (breaks_with debugger.breaks line (Some c))
 
 -- the answer to FORGET
 abbrev pub forget_answer : DebuggerState → ℕ → List ℕ

@@ -6,12 +6,13 @@ use Rattle.ss_state.specs.Run.{Input}
 use Rattle.ss_debug.specs.declared.stop_condition.StopCondition.{StopCondition as StopChoice}
 use Rattle.ss_debug.specs.declared.stop_condition.Target.{Target}
 use Rattle.ss_debug.specs.declared.stop_condition.Target.TheVariants.{Nothing, BreakLine, EventStart}
+use Rattle.ss_debug.specs.BreakLines.{BreakPoint}
 use Rattle.ss_debug.specs.Move.{StopCondition, step_condition, is_on_break, is_behind_start}
 use Rattle.ss_debug.specs.Move.{forward_end, search_back_end}
 use Rattle.ss_debug.specs.Turn.{DebuggerState}
 
 -- whether a state is one that a movement looks for
-abbrev pub target_test : Input → List ℕ → Target → ℕ → Bool
+abbrev pub target_test : Input → List BreakPoint → Target → ℕ → Bool
 target_test input breaks Nothing = λ p. false
 target_test input breaks BreakLine = is_on_break input breaks
 target_test input breaks EventStart = is_behind_start input
@@ -29,7 +30,7 @@ target_bound_word BreakLine = codes "BOUND"
 target_bound_word EventStart = codes "BOUND"
 
 -- the stop condition that the code names
-abbrev pub condition_of : Input → List ℕ → StopChoice → StopCondition
+abbrev pub condition_of : Input → List BreakPoint → StopChoice → StopCondition
 condition_of input breaks choice = record {
   time = choice.time;
   test = target_test input breaks choice.target;
@@ -42,7 +43,7 @@ abbrev pub step_end : timelines.Moment → ℕ → ℕ
 step_end moment bound = forward_end moment.input step_condition (timelines.position moment) bound
 
 -- the end of a movement forward from a moment
-abbrev pub stop_end : timelines.Moment → List ℕ → StopChoice → ℕ → ℕ
+abbrev pub stop_end : timelines.Moment → List BreakPoint → StopChoice → ℕ → ℕ
 stop_end moment breaks choice bound =
     forward_end moment.input (condition_of moment.input breaks choice) (timelines.position moment) bound
 
@@ -55,7 +56,7 @@ pub record DebuggerView : Type 0 where
   -- its machine
   pub machine : Moment
   -- its break lines
-  pub breaks : List ℕ
+  pub breaks : List BreakPoint
 
 -- the state of a debugger
 abbrev pub debugger_state_of : DebuggerView → DebuggerState

@@ -1,17 +1,20 @@
 //! The debugger, and the effect of each command.
 mod single;
 
-ghost use Rattle.std.specs.Prelude.{◌≡◌, ◌++◌, [], codes, true, OnOk, OnErr, IfOk, IsOk};
+ghost use Rattle.std.specs.Prelude.{◌≡◌, ◌++◌, [], codes, true, map, Some, OnOk, OnErr, IfOk, IsOk};
 ghost use Rattle.ss_machine.specs.Moment.{position};
 ghost use Rattle.ss_debug.specs.Move.{forward, back, search_back, shape_of, is_on_break, starts_event};
 ghost use Rattle.ss_debug.specs.Turn.{debugger_state_after_movement, movement_answer};
 ghost use Rattle.ss_debug.specs.Turn.{debugger_state_after_forget, forget_answer, show_answer};
 ghost use Rattle.ss_debug.specs.Turn.{debugger_state_after, answer, go_of, is_silent};
-ghost use Rattle.ss_debug.specs.Answer.{break_text, clear_text};
-ghost use Rattle.ss_debug.specs.BreakLines.{breaks_after_set, without_line};
+ghost use Rattle.ss_debug.specs.Answer.{break_text, break_when_text, clear_text};
+ghost use Rattle.ss_debug.specs.BreakCondition.{IsSoundOf, IsSoundIfAny};
+ghost use Rattle.ss_debug.specs.BreakLines.{breaks_with, breaks_after_set, without_break, is_break_line, is_full, break_lines};
+ghost use Rattle.ss_debug.specs.BreakTable.{shown_break};
 ghost use Rattle.ss_debug.specs.View.{debugger_state_of, condition_in};
 ghost use Rattle.ss_debug.specs.AfterRefusal.{IsStateAfterRefusedMovement, IsStateAfterRefusal};
 
+use crate::break_condition::BreakCondition;
 use crate::break_lines::BreakLines;
 use crate::commands::{Command, Movement, Question};
 use crate::go::Go;
@@ -20,10 +23,12 @@ use crate::movement::{back, back_break, back_event, forward};
 use crate::movement_text::{
     back_break_word, back_event_word, back_word, forward_word, movement_text,
 };
+use crate::shown_break::ShownBreak;
 use crate::stop_condition::{StopCondition, Target};
-use crate::text::{break_text, clear_text, kept_text};
+use crate::text::{break_text, break_when_text, clear_text, kept_text};
 use ss_links::SetBoard;
 use ss_machine::Machine;
+use ss_program::Boxed;
 use std::alloc::{AllocError, Global};
 use std::marker::Model;
 
@@ -37,14 +42,18 @@ pub struct Debugger<S: SetBoard> {
 
 impl<S: SetBoard> Model for Debugger<S> {
     ghost use Rattle.std.specs.Coded.{codes};
+    ghost use Rattle.ss_debug.specs.BreakLines.{AreSoundBreaks};
     ghost use Rattle.ss_debug.specs.View.{DebuggerView};
+    ghost use Rattle.ss_debug.specs.contracts.break_condition.BreakCondition as one;
     ghost use Rattle.ss_program.specs.contracts.program.Program as checked;
 
     ghost Value = { DebuggerView };
 
-    ghost coded = { Prim.hlevel (codes, checked.the_row.coded) };
+    ghost coded = { Prim.hlevel (codes, checked.the_row.coded, one.the_row.coded) };
 
     ghost view = { λ d. record { machine = d.machine; breaks = d.breaks } };
+
+    ghost invariant = { λ d. AreSoundBreaks d.machine.input.program d.breaks };
 }
 
 impl<S: SetBoard> Debugger<S> {
@@ -80,12 +89,35 @@ impl<S: SetBoard> Debugger<S> {
 
     /// The break lines, in ascending order; wants memory for them.
     pub fn break_lines(&self, alloc: Global) -> Result<Vec<usize>, AllocError>
-        ensures { IfOk result (λ lines. lines.items ≡ self.now.breaks) }
+        ensures { IfOk result (λ lines. lines.items ≡ break_lines self.now.breaks) }
     {
         self.breaks.listed(alloc)
     }
 
+    /// The break lines with the texts of their conditions, in ascending order; wants memory for
+    /// them.
+    pub fn shown_breaks(&self, alloc: Global) -> Result<Vec<ShownBreak>, AllocError>
+        ensures { IfOk result (λ shown. shown.items ≡ map shown_break self.now.breaks) }
+    {
+        self.breaks.shown(alloc)
+    }
+
+    /// Whether a line is a break line, with a condition or without.
+    pub fn is_break_line(&self, line: usize) -> bool
+        ensures { result ≡ is_break_line self.now.breaks line }
+    {
+        self.breaks.contains(line)
+    }
+
+    /// Whether there is no room for a break line: as many others are set as may be.
+    pub fn is_full_for(&self, line: u32) -> bool
+        ensures { result ≡ is_full self.now.breaks line }
+    {
+        self.breaks.is_full(line)
+    }
+
     /// A forward movement, and its answer.
+    #[tactic(auto, using(crate::proofs::Timelines::sound_in))]
     fn forward(
         &mut self,
         condition: StopCondition,
@@ -111,6 +143,7 @@ impl<S: SetBoard> Debugger<S> {
     }
 
     /// BACK, and its answer.
+    #[tactic(auto, using(crate::proofs::Timelines::sound_in))]
     fn back(&mut self, count: u64, bytes: &mut Vec<u8>) -> Result<(), AllocError>
         ensures input { self.new.machine.input ≡ self.old.machine.input }
         ensures place { debugger_state_of self.new
@@ -128,6 +161,7 @@ impl<S: SetBoard> Debugger<S> {
     }
 
     /// BACK BREAK, and its answer.
+    #[tactic(auto, using(crate::proofs::Timelines::sound_in))]
     fn back_break(&mut self, bytes: &mut Vec<u8>) -> Result<(), AllocError>
         ensures input { self.new.machine.input ≡ self.old.machine.input }
         ensures place { debugger_state_of self.new
@@ -146,6 +180,7 @@ impl<S: SetBoard> Debugger<S> {
     }
 
     /// BACK EVENT, and its answer.
+    #[tactic(auto, using(crate::proofs::Timelines::sound_in))]
     fn back_event(&mut self, bytes: &mut Vec<u8>) -> Result<(), AllocError>
         ensures input { self.new.machine.input ≡ self.old.machine.input }
         ensures place { debugger_state_of self.new
@@ -200,7 +235,37 @@ impl<S: SetBoard> Debugger<S> {
         }
     }
 
-    /// Makes a line a break line, unless there are too many, and answers.
+    /// Makes a line a break line with a condition, or without one, unless there are too many, and
+    /// appends a text.
+    #[tactic(auto, using(crate::proofs::BreakTables::sound_with))]
+    fn put_break(
+        &mut self,
+        line: u32,
+        when: Option<Boxed<BreakCondition>>,
+        text: &[u8],
+        bytes: &mut Vec<u8>,
+    ) -> Result<(), AllocError>
+        requires { IsSoundIfAny self.old.machine.input.program when }
+        ensures machine { self.new.machine ≡ self.old.machine }
+        ensures breaks { OnOk result (self.new.breaks ≡ breaks_with self.old.breaks line when) }
+        ensures said { OnOk result (bytes.new.items ≡ bytes.old.items ++ text.now) }
+        ensures memory { OnErr result ((bytes.new.items ≡ bytes.old.items)
+            × (self.new ≡ self.old)) }
+    {
+        let length = bytes.len();
+        let is_full = self.breaks.is_full(line);
+        bytes.extend_from_slice(text)?;
+        if is_full {
+            return Ok(());
+        }
+        if let Err(error) = self.breaks.set(line, when) {
+            bytes.truncate(length);
+            return Err(error);
+        }
+        Ok(())
+    }
+
+    /// Makes a line a break line without a condition, unless there are too many, and answers.
     fn set_break(&mut self, line: u32, bytes: &mut Vec<u8>) -> Result<(), AllocError>
         ensures machine { self.new.machine ≡ self.old.machine }
         ensures breaks { OnOk result (self.new.breaks ≡ breaks_after_set self.old.breaks line) }
@@ -210,23 +275,38 @@ impl<S: SetBoard> Debugger<S> {
             × (self.new ≡ self.old)) }
     {
         let text = break_text(self.alloc, &self.breaks, line)?;
-        let length = bytes.len();
-        let is_full = self.breaks.is_full(line);
-        bytes.extend_from_slice(&text)?;
-        if is_full {
-            return Ok(());
-        }
-        if let Err(error) = self.breaks.set(line) {
-            bytes.truncate(length);
-            return Err(error);
-        }
-        Ok(())
+        self.put_break(line, None, &text, bytes)
+    }
+
+    /// Makes a line a break line that stops only in states in which a condition holds, unless there
+    /// are too many, and answers. If the line is a break line, its condition is replaced.
+    ///
+    /// `AllocError` if memory was refused; then nothing has changed.
+    pub fn set_break_when(
+        &mut self,
+        line: u32,
+        when: BreakCondition,
+        bytes: &mut Vec<u8>,
+    ) -> Result<(), AllocError>
+        requires { IsSoundOf self.old.machine.input.program when.section when.condition }
+        ensures machine { self.new.machine ≡ self.old.machine }
+        ensures breaks { OnOk result
+            (self.new.breaks ≡ breaks_with self.old.breaks line (Some when)) }
+        ensures said { OnOk result (bytes.new.items ≡ bytes.old.items
+            ++ break_when_text self.old.breaks line when.text) }
+        ensures memory { OnErr result ((bytes.new.items ≡ bytes.old.items)
+            × (self.new ≡ self.old)) }
+    {
+        let text = break_when_text(self.alloc, &self.breaks, line, when.text())?;
+        let when = Boxed::new(self.alloc, when)?;
+        self.put_break(line, Some(when), &text, bytes)
     }
 
     /// Makes a line no break line, and answers.
+    #[tactic(auto, using(crate::proofs::BreakTables::sound_without))]
     fn clear_break(&mut self, line: u32, bytes: &mut Vec<u8>) -> Result<(), AllocError>
         ensures machine { self.new.machine ≡ self.old.machine }
-        ensures breaks { OnOk result (self.new.breaks ≡ without_line line self.old.breaks) }
+        ensures breaks { OnOk result (self.new.breaks ≡ without_break line self.old.breaks) }
         ensures said { OnOk result (bytes.new.items ≡ bytes.old.items
             ++ clear_text self.old.breaks line) }
         ensures memory { OnErr result ((bytes.new.items ≡ bytes.old.items)
@@ -239,7 +319,7 @@ impl<S: SetBoard> Debugger<S> {
     }
 
     /// Forgets all steps but the newest `count`, and answers.
-    #[tactic(auto, using(crate::proofs::Forgets::earliest_after, crate::proofs::Forgets::kept_after))]
+    #[tactic(auto, using(crate::proofs::Forgets::earliest_after, crate::proofs::Forgets::kept_after, crate::proofs::Timelines::sound_in))]
     fn forget(&mut self, count: u64, bytes: &mut Vec<u8>) -> Result<(), AllocError>
         ensures input { self.new.machine.input ≡ self.old.machine.input }
         ensures place { OnOk result

@@ -23,6 +23,7 @@ ghost use Rattle.ss_debug.specs.Move.{step_condition, run_condition, forward_end
 ghost use Rattle.ss_debug.specs.Answer.{pending_text, entry_line, ready_word, search_back_word};
 ghost use Rattle.ss_debug.specs.Laws.{MovementEnds, EndIsUnique, SearchBackEnds, SearchBackEndIsUnique};
 ghost use Rattle.ss_debug.specs.Laws.{MovementEndsWithinBound, ForgetLeavesTheNewestSteps};
+ghost use Rattle.ss_debug.specs.Laws.{ConditionThatHoldsStopsAsNone};
 
 /// A movement ends at exactly one position: the least later one that meets its condition, within
 /// its bound and never past the first state that is not ready.
@@ -49,6 +50,12 @@ pub fn every_movement_ends_within_its_bound()
 /// which it led, but not before those steps.
 pub fn forget_leaves_the_newest_steps()
     ensures { ForgetLeavesTheNewestSteps }
+{}
+
+/// A break line whose condition holds in each state stops at the same states as one without a
+/// condition.
+pub fn a_condition_that_holds_stops_as_none()
+    ensures { ConditionThatHoldsStopsAsNone }
 {}
 
 /// No line follows the last line feed; a carriage return stays in its line.

@@ -4,6 +4,7 @@ ghost use Rattle.ss_state.specs.declared.limits.TheConstants.{LAST_POSITION};
 ghost use Rattle.ss_state.specs.Run.{Input};
 ghost use Rattle.ss_state.specs.Well.{IsWellFrame};
 ghost use Rattle.ss_timeline.specs.Moment.{position, state_of, with_kept, HasGoneBack};
+ghost use Rattle.ss_debug.specs.BreakLines.{AreSoundBreaks};
 ghost use Rattle.ss_debug.specs.Move.{step_condition, is_ready_at, line_at, is_on_break, has_come, is_stop};
 ghost use Rattle.ss_debug.specs.Move.{is_behind_start, runs_event, starts_event, back_end};
 ghost use Rattle.ss_debug.specs.Position.{IsAt, IsBetween, frames_before};
@@ -47,13 +48,14 @@ pub fn present_line<T: Timeline>(timeline: &T) -> usize
     timeline.program().spot(section, place).line
 }
 
-/// Whether the present place is on a break line. Without break lines, no place is looked up.
+/// Whether a break line stops at the present place. Without break lines, no place is looked up.
 #[inline]
 pub fn stands_on_break<T: Timeline>(timeline: &T, breaks: &BreakLines) -> bool
+    requires sound { AreSoundBreaks (T.moment timeline.now).input.program breaks.now }
     ensures { result ≡ is_on_break (T.moment timeline.now).input breaks.now
         (position (T.moment timeline.now)) }
 {
-    !breaks.is_empty() && breaks.contains(present_line(timeline))
+    !breaks.is_empty() && breaks.stops(timeline, present_line(timeline))
 }
 
 /// Whether the clock is at or past a time, if one is named.
@@ -97,8 +99,9 @@ pub fn has_met<T: Timeline>(
     from: u64,
     before: usize,
 ) -> bool
-    requires { from < position (T.moment timeline.now)
+    requires before { from < position (T.moment timeline.now)
         → before ≡ frames_before (T.moment timeline.now) }
+    requires sound { AreSoundBreaks (T.moment timeline.now).input.program breaks.now }
     ensures { result ≡ (nat_lt from (position (T.moment timeline.now))
         && target_test (T.moment timeline.now).input breaks.now target
         (position (T.moment timeline.now))) }
@@ -118,8 +121,9 @@ fn is_at_stop<T: Timeline>(
     from: u64,
     before: usize,
 ) -> bool
-    requires { from < position (T.moment timeline.now)
+    requires before { from < position (T.moment timeline.now)
         → before ≡ frames_before (T.moment timeline.now) }
+    requires sound { AreSoundBreaks (T.moment timeline.now).input.program breaks.now }
     ensures { result ≡ is_stop (T.moment timeline.now).input
         (condition_of (T.moment timeline.now).input breaks.now condition) from
         (position (T.moment timeline.now)) }
@@ -159,6 +163,7 @@ pub fn forward<T: StepReady>(
     condition: StopCondition,
     bound: u64,
 ) -> Result<usize, AllocError>
+    requires sound { AreSoundBreaks (T.moment timeline.old).input.program breaks.now }
     ensures ok { OnOk result (IsAt (T.moment timeline.old)
         (stop_end (T.moment timeline.old) breaks.now condition bound) (T.moment timeline.new)) }
     ensures before { IfOk result (λ before.
@@ -212,13 +217,14 @@ fn forward_on<T: StepReady>(timeline: &mut T, bound: u64) -> Result<usize, Alloc
 }
 
 /// Steps as [`forward_on`] does, with a test of the condition before each step.
-#[tactic(auto, using(crate::proofs::Moves::least_steps))]
+#[tactic(auto, using(crate::proofs::Moves::least_steps, crate::proofs::Timelines::sound_on))]
 fn forward_to_stop<T: StepReady>(
     timeline: &mut T,
     breaks: &BreakLines,
     condition: StopCondition,
     bound: u64,
 ) -> Result<usize, AllocError>
+    requires sound { AreSoundBreaks (T.moment timeline.old).input.program breaks.now }
     ensures ok { OnOk result (IsAt (T.moment timeline.old)
         (stop_end (T.moment timeline.old) breaks.now condition bound) (T.moment timeline.new)) }
     ensures before { IfOk result (λ before.
@@ -253,6 +259,7 @@ pub fn back<T: Timeline>(timeline: &mut T, count: u64)
 
 /// Whether BACK BREAK stops here, after k steps.
 fn is_at_back_stop<T: Timeline>(timeline: &T, breaks: &BreakLines, k: u64) -> bool
+    requires sound { AreSoundBreaks (T.moment timeline.now).input.program breaks.now }
     ensures { result ≡ (nat_lt 0 k && is_on_break (T.moment timeline.now).input breaks.now
         (position (T.moment timeline.now))) }
 {
@@ -261,8 +268,9 @@ fn is_at_back_stop<T: Timeline>(timeline: &T, breaks: &BreakLines, k: u64) -> bo
 
 /// BACK BREAK: steps back to the greatest earlier position at a break line, or to the earliest kept
 /// position, within the bound.
-#[tactic(auto, using(crate::proofs::Moves::search_back_is))]
+#[tactic(auto, using(crate::proofs::Moves::search_back_is, crate::proofs::Timelines::sound_on))]
 pub fn back_break<T: Timeline>(timeline: &mut T, breaks: &BreakLines, bound: u64)
+    requires sound { AreSoundBreaks (T.moment timeline.old).input.program breaks.now }
     ensures { IsAt (T.moment timeline.old)
         (search_end (is_on_break (T.moment timeline.old).input breaks.now)
         (T.moment timeline.old) bound) (T.moment timeline.new) }

@@ -3,6 +3,7 @@ ghost use Rattle.std.specs.Prelude.{◌≡◌, ◌++◌, ◌<◌, ◌≤◌, ◌
 ghost use Rattle.ss_timeline.specs.Moment.{position};
 ghost use Rattle.ss_debug.specs.Answer.{status_text, moment_text, place_text, state_line, movement_text};
 ghost use Rattle.ss_debug.specs.Answer.{forward_word, back_word, search_back_word, earliest_word};
+ghost use Rattle.ss_debug.specs.BreakLines.{AreSoundBreaks};
 ghost use Rattle.ss_debug.specs.Move.{is_on_break, starts_event};
 ghost use Rattle.ss_debug.specs.Position.{frames_before};
 ghost use Rattle.ss_debug.specs.View.{condition_of, target_word, target_bound_word};
@@ -118,6 +119,7 @@ pub fn forward_word<T: Timeline>(
     requires from { from ≤ position (T.moment timeline.now) }
     requires before { from < position (T.moment timeline.now)
         → before ≡ frames_before (T.moment timeline.now) }
+    requires sound { AreSoundBreaks (T.moment timeline.now).input.program breaks.now }
     ensures { result.now ≡ forward_word (T.moment timeline.now).input
         (condition_of (T.moment timeline.now).input breaks.now condition) from bound
         (position (T.moment timeline.now)) }
@@ -173,6 +175,7 @@ fn earliest_or_bound<T: Timeline>(timeline: &T) -> &'static [u8]
 
 /// The word of BACK BREAK, which began at `from` and ended at the present position.
 pub fn back_break_word<T: Timeline>(timeline: &T, breaks: &BreakLines, from: u64) -> &'static [u8]
+    requires sound { AreSoundBreaks (T.moment timeline.now).input.program breaks.now }
     ensures { result.now
         ≡ search_back_word (is_on_break (T.moment timeline.now).input breaks.now)
         (codes "BREAK") (T.moment timeline.now).low from (position (T.moment timeline.now)) }

@@ -2,7 +2,7 @@
 ghost use Rattle.std.specs.Prelude.{◌≡◌, ◌++◌, OnOk, IfOk, decimal};
 ghost use Rattle.std.specs.Fmt.{signed_decimal};
 ghost use Rattle.ss_machine.specs.Moment.{position};
-ghost use Rattle.ss_debug.specs.Answer.{state_line, break_text, clear_text, kept_text};
+ghost use Rattle.ss_debug.specs.Answer.{state_line, break_text, break_when_text, clear_text, kept_text};
 ghost use Rattle.ss_debug.specs.Answer.{clock_text, variable_named, var_text, taken_text, report_text};
 
 use crate::break_lines::BreakLines;
@@ -49,6 +49,25 @@ pub fn break_text(alloc: Global, breaks: &BreakLines, line: u32) -> Result<Vec<u
         return Vec::from_slice(alloc, b"TOO MANY BREAKS\n");
     }
     line_text(alloc, b"BREAK ", line, b" SET\n")
+}
+
+/// The answer to BREAK with a condition of this text.
+#[tactic(auto, unfolding(crate::specs::Answer::break_when_text))]
+pub fn break_when_text(
+    alloc: Global,
+    breaks: &BreakLines,
+    line: u32,
+    when: &[u8],
+) -> Result<Vec<u8>, AllocError>
+    ensures { IfOk result (λ text. text.items ≡ break_when_text breaks.now line when.now) }
+{
+    if breaks.is_full(line) {
+        return Vec::from_slice(alloc, b"TOO MANY BREAKS\n");
+    }
+    let mut text = line_text(alloc, b"BREAK ", line, b" WHEN ")?;
+    text.extend_from_slice(when)?;
+    text.extend_from_slice(b" SET\n")?;
+    Ok(text)
 }
 
 /// The answer to CLEAR.

@@ -1,5 +1,5 @@
 -- What is asked can be read in a frame of its section, and in every one if it names no local variable.
-use Rattle.std.proofs.Common.{◌≡◌, ℕ, ◌<◌, length, Bool, true, false, ◌&&◌, nat_eq, Option, Some, None, refl, sym, subst, arith}
+use Rattle.std.proofs.Common.{◌≡◌, ℕ, ◌<◌, length, Bool, true, false, ◌&&◌, nat_eq, cond, Option, Some, None, refl, sym, subst, arith}
 use Rattle.std.proofs.lemmas.Bool.Decides.{nat_tests}
 use Rattle.std.specs.Prelude.{not, ℤ, Result}
 use Rattle.std.specs.Option.{option_map}
@@ -14,7 +14,8 @@ use Rattle.ss_state.specs.Readings.{IsSoundIn, subscript_in}
 use Rattle.ss_state.specs.Frames.{frame_at}
 use Rattle.ss_expressions.specs.Senses.{Sense, expression, condition, list, living, set_in, sense_names_local}
 use Rattle.ss_expressions.specs.Senses.{IsSoundSense}
-use Rattle.ss_expressions.specs.Meanings.{Meaning, is_read_in, IsSoundMeaning}
+use Rattle.ss_readings.specs.Value.{Value}
+use Rattle.ss_expressions.specs.Meanings.{Meaning, is_read_in, sense_value, meaning_value, IsSoundMeaning}
 use Rattle.ss_expressions.proofs.LocalNames.{elsewhere, expression_elsewhere}
 
 -- ---- where it can be read
@@ -89,3 +90,16 @@ pub set_there : (p : ProgramTable) (state : State) (depth : ℕ) (c : Condition)
     Some r ≡ set_in c → Some x ≡ subscript_in p state depth r.owner →
     IsSoundIn IsSoundCondition p (frame_at state depth) c → r.set < length p.sets
 set_there p state depth c r x e g h = set_by p (frame_at state depth) c r _ _ x e g h
+
+-- ---- what is displayed
+
+read_by : (b : Bool) (o : Option Value) (v : Value) → Some v ≡ cond b o None → true ≡ b
+read_by true o v e = refl
+read_by false o v e = absurd (cc)
+
+-- if it has a value in a state, it can be read in the section of the last frame
+pub displayed_sound : (p : ProgramTable) (m : Meaning) (state : State) (v : Value) → IsSoundMeaning p m →
+    Some v ≡ meaning_value p m state 0 → IsSoundSense (scope_in p state.frame.section) m.sense
+unfolding meaning_value
+displayed_sound p m state v h e =
+    sound_there p m state 0 h (read_by (is_read_in m (frame_at state 0)) (sense_value p state 0 m.sense) v e)

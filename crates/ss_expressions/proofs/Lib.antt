@@ -4,3 +4,4 @@ pub mod LocalNames
 pub mod Scopes
 pub mod Frames
 pub mod References
+pub mod BreakAims

@@ -10,7 +10,9 @@ pub mod SensesView
 pub mod Answers
 pub mod Meanings
 pub mod MeaningsView
+pub mod Displayed
 pub mod Aims
 pub mod AimsView
 pub mod Valued
 pub mod ValuedView
+pub mod BreakAims

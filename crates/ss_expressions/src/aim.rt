@@ -3,7 +3,11 @@ ghost use Rattle.std.specs.Prelude.{◌≡◌, IfOk, Some};
 ghost use Rattle.ss_words.specs.Reading.{option_view};
 ghost use Rattle.ss_routines.specs.View.{condition_view};
 ghost use Rattle.ss_check.specs.Asked.{IsSymbolsOf, judged_condition};
+ghost use Rattle.ss_program.specs.Program.{ProgramTable};
+ghost use Rattle.ss_state.specs.State.{State};
+ghost use Rattle.ss_debug.specs.BreakCondition.{is_met, IsSoundOf};
 ghost use Rattle.ss_expressions.specs.Aims as spec;
+ghost use Rattle.ss_expressions.specs.BreakAims.{section_of_locals, break_condition};
 ghost use Rattle.ss_expressions.specs.AimsView.{aimed_view};
 ghost use Rattle.ss_expressions.specs.AskedView.{asked_view};
 
@@ -11,10 +15,10 @@ use crate::answer::{push_refused, truth_now};
 use crate::asked::{Asked, asked_in};
 use crate::local_names::names_local;
 use ss_check::SymbolTable;
-use ss_debug::Debugger;
+use ss_debug::{BreakCondition, Debugger};
 use ss_links::SetBoard;
 use ss_machine::Machine;
-use ss_program::Condition;
+use ss_program::{Condition, Program};
 use ss_trace::Aim;
 use std::alloc::{AllocError, Global};
 use std::marker::Model;
@@ -58,6 +62,30 @@ impl ConditionAim {
         }
     }
 
+    /// The section whose local variables it names, if it names any.
+    fn section_of_locals(&self) -> Option<usize>
+        ensures { result ≡ section_of_locals self.now }
+    {
+        if self.is_local {
+            Some(self.section)
+        } else {
+            None
+        }
+    }
+
+    /// The aim as the condition of a break line with this text.
+    #[tactic(auto, using(crate::proofs::BreakAims::broken))]
+    pub fn into_break(self, text: Vec<u8>) -> BreakCondition
+        ensures condition { result ≡ break_condition self text.items }
+        ensures sound { (program : ProgramTable) → spec.IsSoundAim program self
+            → IsSoundOf program result.section result.condition }
+        ensures holds { (program : ProgramTable) → (state : State) →
+            is_met program state result ≡ spec.holds_in program state self }
+    {
+        let section = self.section_of_locals();
+        BreakCondition::new(section, self.condition, text)
+    }
+
     /// Whether it holds in a machine's present state.
     #[tactic(auto, unfolding(crate::specs::Aims::holds_in))]
     fn holds_now<S: SetBoard>(&self, machine: &Machine<S>) -> bool
@@ -97,24 +125,21 @@ pub enum Aimed {
     Refused(Vec<u8>),
 }
 
-/// The aim that a condition is in the section of the last frame, or the answer to one that has no
+/// The aim that a condition is in the section of this number, or the answer to one that has no
 /// meaning there.
 #[tactic(auto, using(crate::proofs::Scopes::condition_sound))]
-fn aim_judged<S: SetBoard>(
+fn aim_judged(
     alloc: Global,
-    machine: &Machine<S>,
+    program: &Program,
     symbols: &SymbolTable,
+    section: usize,
     condition: &ss_routines::Condition,
 ) -> Result<Aimed, AllocError>
-    requires { IsSymbolsOf machine.now.input.program symbols.now }
-    ensures aim { IfOk result (λ a. aimed_view a ≡ spec.aim_judged machine.now.state.frame.section
-        (judged_condition symbols.now machine.now.state.frame.section
-        (condition_view condition.now))) }
-    ensures sound { IfOk result
-        (λ a. spec.IsSoundAimed machine.now.input.program (aimed_view a)) }
+    requires { IsSymbolsOf program.now symbols.now }
+    ensures aim { IfOk result (λ a. aimed_view a ≡ spec.aim_judged section
+        (judged_condition symbols.now section (condition_view condition.now))) }
+    ensures sound { IfOk result (λ a. spec.IsSoundAimed program.now (aimed_view a)) }
 {
-    machine.known();
-    let (section, _) = machine.place();
     match symbols.condition(section, condition)? {
         Ok(condition) => Ok(Aimed::At(ConditionAim::new(section, condition))),
         Err(fault) => {
@@ -126,22 +151,46 @@ fn aim_judged<S: SetBoard>(
 }
 
 /// The aim of what is asked, if it is a condition.
-fn aim_of_asked<S: SetBoard>(
+fn aim_of_asked(
     alloc: Global,
-    machine: &Machine<S>,
+    program: &Program,
     symbols: &SymbolTable,
+    section: usize,
     asked: &Asked,
 ) -> Result<Option<Aimed>, AllocError>
-    requires { IsSymbolsOf machine.now.input.program symbols.now }
+    requires { IsSymbolsOf program.now symbols.now }
     ensures aim { IfOk result (λ o. option_view aimed_view o
-        ≡ spec.aim_if_asked symbols.now machine.now.state.frame.section
-        (Some (asked_view asked.now))) }
-    ensures sound { IfOk result
-        (λ o. spec.IsAimOf machine.now.input.program (option_view aimed_view o)) }
+        ≡ spec.aim_if_asked symbols.now section (Some (asked_view asked.now))) }
+    ensures sound { IfOk result (λ o. spec.IsAimOf program.now (option_view aimed_view o)) }
 {
     match asked {
         Asked::Value(_) => Ok(None),
-        Asked::Truth(c) => Ok(Some(aim_judged(alloc, machine, symbols, c)?)),
+        Asked::Truth(c) => Ok(Some(aim_judged(alloc, program, symbols, section, c)?)),
+    }
+}
+
+/// The aim of a text that is a condition of the language (docs/LANGUAGE.md, "Conditions"), asked in
+/// the section of this number of a program: the states in which it holds, or the answer that says
+/// why it has no meaning there. `None` if the text is no condition. The symbol table is that of the
+/// program's model.
+///
+/// `AllocError` if memory was refused.
+#[tactic(auto, unfolding(crate::specs::Aims::aim_asked))]
+pub fn aim_in(
+    alloc: Global,
+    program: &Program,
+    symbols: &SymbolTable,
+    section: usize,
+    text: &[u8],
+) -> Result<Option<Aimed>, AllocError>
+    requires { IsSymbolsOf program.now symbols.now }
+    ensures aim { IfOk result (λ o. option_view aimed_view o
+        ≡ spec.aim_asked symbols.now section text.now) }
+    ensures sound { IfOk result (λ o. spec.IsAimOf program.now (option_view aimed_view o)) }
+{
+    match asked_in(alloc, text)? {
+        None => Ok(None),
+        Some(asked) => aim_of_asked(alloc, program, symbols, section, &asked),
     }
 }
 
@@ -150,7 +199,6 @@ fn aim_of_asked<S: SetBoard>(
 /// no meaning there. `None` if the text is no condition.
 ///
 /// `AllocError` if memory was refused.
-#[tactic(auto, unfolding(crate::specs::Aims::aim_asked))]
 pub fn aim_of<S: SetBoard>(
     alloc: Global,
     machine: &Machine<S>,
@@ -163,8 +211,7 @@ pub fn aim_of<S: SetBoard>(
     ensures sound { IfOk result
         (λ o. spec.IsAimOf machine.now.input.program (option_view aimed_view o)) }
 {
-    match asked_in(alloc, text)? {
-        None => Ok(None),
-        Some(asked) => aim_of_asked(alloc, machine, symbols, &asked),
-    }
+    machine.known();
+    let (section, _) = machine.place();
+    aim_in(alloc, machine.program(), symbols, section, text)
 }

@@ -149,7 +149,7 @@ fn subscript_now<S: SetBoard>(machine: &Machine<S>, index: &Index) -> Result<i64
 
 /// Appends the list of which a condition says that it IS EMPTY, or why there is none.
 #[tactic(auto, using(crate::proofs::Frames::set_sound))]
-fn push_list_of<S: SetBoard>(
+pub(crate) fn push_list_of<S: SetBoard>(
     answer: &mut Vec<u8>,
     machine: &Machine<S>,
     condition: &Condition,

@@ -12,7 +12,7 @@ mod sense;
 mod valued;
 mod wanted;
 
-pub use aim::{Aimed, ConditionAim, aim_of};
+pub use aim::{Aimed, ConditionAim, aim_in, aim_of};
 pub use answer::asked_answer;
 pub use meaning::{Meaning, Meant, meaning_of};
 pub use valued::{Judgement, judged_text, value_asked};

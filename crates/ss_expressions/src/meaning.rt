@@ -1,21 +1,23 @@
 //! The meaning of a text in a section: what it reads in the states of a run.
-ghost use Rattle.std.specs.Prelude.{◌≡◌, IfOk, Some, option_and_then};
+ghost use Rattle.std.specs.Prelude.{◌≡◌, ◌++◌, OnOk, OnSome, IfOk, Some, option_and_then};
 ghost use Rattle.ss_words.specs.Reading.{option_view};
-ghost use Rattle.ss_program.specs.ProgramSound.{IsSoundCondition};
+ghost use Rattle.ss_program.specs.ProgramSound.{IsSoundCondition, scope_in};
 ghost use Rattle.ss_check.specs.Asked.{IsSymbolsOf};
 ghost use Rattle.ss_state.specs.Frames.{frame_at};
 ghost use Rattle.ss_state.specs.Readings.{IsSoundIn};
 ghost use Rattle.ss_readings.specs.ValueView.{value_if};
 ghost use Rattle.ss_expressions.specs.AskedView.{asked_view};
+ghost use Rattle.ss_expressions.specs.Displayed.{with_value, sense_displayed, displayed};
 ghost use Rattle.ss_expressions.specs.Meanings as spec;
+ghost use Rattle.ss_expressions.specs.Senses as senses;
 ghost use Rattle.ss_expressions.specs.MeaningsView.{meant_view};
 ghost use Rattle.ss_expressions.specs.Senses.{judged_sense, set_in, IsSoundSense};
 ghost use Rattle.ss_expressions.specs.SensesView.{sense_view};
 ghost use Rattle.ss_expressions.specs.Wanted.{wanted_of};
 
-use crate::answer::push_refused;
+use crate::answer::{push_list_of, push_refused};
 use crate::asked::{Asked, asked_in};
-use crate::listed::list_value;
+use crate::listed::{list_value, push_class};
 use crate::sense::{Sense, judged, set_in};
 use crate::wanted::wanted_of;
 use ss_check::SymbolTable;
@@ -23,7 +25,7 @@ use ss_inspect::living_numbers;
 use ss_links::SetBoard;
 use ss_machine::Machine;
 use ss_program::Condition;
-use ss_readings::{Reading, Value};
+use ss_readings::{Reading, Value, push_value};
 use ss_words::RunFault;
 use std::alloc::{AllocError, Global};
 use std::marker::Model;
@@ -164,6 +166,85 @@ impl Meaning {
             return Ok(None);
         }
         self.value_there(machine, depth)
+    }
+}
+
+/// Appends a text and a mark, and a value, or that there is none.
+fn push_with_value(
+    answer: &mut Vec<u8>,
+    text: &[u8],
+    mark: &[u8],
+    value: &Option<Value>,
+) -> Result<(), AllocError>
+    ensures { OnOk result (answer.new.items
+        ≡ answer.old.items ++ with_value text.now mark.now (value_if value.now)) }
+{
+    answer.extend_from_slice(text)?;
+    answer.extend_from_slice(mark)?;
+    push_value(answer, value)?;
+    answer.extend_from_slice(b"\n")
+}
+
+/// Appends a list as SHOW prints it, or that there is none.
+fn push_list_or_none<S: SetBoard>(
+    answer: &mut Vec<u8>,
+    machine: &Machine<S>,
+    text: &[u8],
+    condition: &Condition,
+    value: &Option<Value>,
+) -> Result<(), AllocError>
+    requires { OnSome value.now (IsSoundCondition (scope_in machine.now.input.program
+        machine.now.state.frame.section) condition.now) }
+    ensures { OnOk result (answer.new.items ≡ answer.old.items
+        ++ sense_displayed machine.now.input.program machine.now.state text.now
+        (senses.list condition.now) (value_if value.now)) }
+{
+    match value {
+        Some(_) => push_list_of(answer, machine, condition),
+        None => push_with_value(answer, text, b": ", &None),
+    }
+}
+
+/// Appends the entities of a class as SHOW prints them, or that there is no value.
+fn push_class_or_none<S: SetBoard>(
+    answer: &mut Vec<u8>,
+    machine: &Machine<S>,
+    text: &[u8],
+    class: usize,
+    value: &Option<Value>,
+) -> Result<(), AllocError>
+    ensures { OnOk result (answer.new.items ≡ answer.old.items
+        ++ sense_displayed machine.now.input.program machine.now.state text.now
+        (senses.living class) (value_if value.now)) }
+{
+    match value {
+        Some(_) => push_class(answer, machine, class),
+        None => push_with_value(answer, text, b": ", &None),
+    }
+}
+
+impl Meaning {
+    /// Appends the text that means this, and its value in the machine's present state, or that it
+    /// has none; a list and the entities of a class as SHOW prints them. `AllocError` if memory was
+    /// refused; then the appended bytes do not count.
+    #[tactic(auto, using(crate::proofs::Frames::displayed_sound))]
+    pub fn push_displayed<S: SetBoard>(
+        &self,
+        answer: &mut Vec<u8>,
+        machine: &Machine<S>,
+        text: &[u8],
+    ) -> Result<(), AllocError>
+        requires { spec.IsSoundMeaning machine.now.input.program self.now }
+        ensures { OnOk result (answer.new.items ≡ answer.old.items
+            ++ displayed machine.now.input.program machine.now.state text.now self.now) }
+    {
+        let value = self.value_in(machine, 0)?;
+        match &self.sense {
+            Sense::Expression(_) => push_with_value(answer, text, b" = ", &value),
+            Sense::Condition(_) => push_with_value(answer, text, b": ", &value),
+            Sense::List(c) => push_list_or_none(answer, machine, text, c, &value),
+            Sense::Living(class) => push_class_or_none(answer, machine, text, *class, &value),
+        }
     }
 }
 

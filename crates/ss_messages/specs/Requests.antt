@@ -47,15 +47,21 @@ flag_at key other d = unwrap_or (option_and_then as_bool (get key d)) other
 abbrev pub is_text_at : List ℕ → List ℕ → Data → Bool
 is_text_at key text d = bytes_eq (unwrap_or (text_at key d) []) text
 
--- whether a break point stops each time: it has no condition, no count of hits, and no message in place of a stop
-abbrev pub is_plain : Data → Bool
-is_plain d =
-    is_text_at (codes "condition") [] d && is_text_at (codes "hitCondition") [] d
-    && is_text_at (codes "logMessage") [] d
+-- whether a break point has no count of hits, and no message in place of a stop
+abbrev pub is_simple : Data → Bool
+is_simple d = is_text_at (codes "hitCondition") [] d && is_text_at (codes "logMessage") [] d
 
--- a break point on a line: its line, 0 for one that has none, and whether it stops each time
+-- whether a break point stops each time: it has no condition either
+abbrev pub is_plain : Data → Bool
+is_plain d = is_text_at (codes "condition") [] d && is_simple d
+
+-- a break point on a line: its line, 0 for one that has none, and its condition, which is empty if it has none
 abbrev pub line_point_of : Data → LinePoint
-line_point_of d = record { line = number_at (codes "line") d; is_plain = is_plain d }
+line_point_of d = record {
+  line = number_at (codes "line") d;
+  condition = unwrap_or (text_at (codes "condition") d) [];
+  is_simple = is_simple d;
+}
 
 -- some break points on lines
 abbrev pub line_points_of : Items → List LinePoint

@@ -3,7 +3,7 @@ ghost use Rattle.std.specs.Prelude.{◌≡◌, map, IfOk, option_map};
 ghost use Rattle.serde_json.specs.View.{view};
 ghost use Rattle.std.specs.Prelude.{[], unwrap_or};
 ghost use Rattle.ss_messages.specs.Requests.{number_at, number_in, text_at, flag_at, is_text_at, texts_at};
-ghost use Rattle.ss_messages.specs.Requests.{is_plain, plain_text, line_point_of, line_points_at};
+ghost use Rattle.ss_messages.specs.Requests.{is_simple, is_plain, plain_text, line_point_of, line_points_at};
 ghost use Rattle.ss_messages.specs.Requests.{is_debugged, stops_of, launch_of, evaluate_of, info_of};
 ghost use Rattle.ss_messages.specs.Requests.{completions_of, filter_of, path_at, wanted_of, targets_of, goto_of, counting_of};
 ghost use Rattle.ss_messages.specs.declared.request.Command.TheVariants.{SetBreakpoints};
@@ -190,14 +190,18 @@ fn text_or_none(alloc: Global, value: &Value, key: &'static str) -> Result<Text,
     Text::of(alloc, text_at(value, key).unwrap_or("").as_bytes())
 }
 
-/// Whether a break point stops each time: it has no condition, no count of hits, and no message in
-/// place of a stop.
+/// Whether a break point has no count of hits, and no message in place of a stop.
+fn is_simple(point: &Value) -> bool
+    ensures { result ≡ is_simple (view point.now) }
+{
+    is_text_at(point, "hitCondition", b"") && is_text_at(point, "logMessage", b"")
+}
+
+/// Whether a break point stops each time: it has no condition either.
 fn is_plain(point: &Value) -> bool
     ensures { result ≡ is_plain (view point.now) }
 {
-    is_text_at(point, "condition", b"")
-        && is_text_at(point, "hitCondition", b"")
-        && is_text_at(point, "logMessage", b"")
+    is_text_at(point, "condition", b"") && is_simple(point)
 }
 
 /// The text at a key of a break point that stops each time; it is empty if the break point has
@@ -239,13 +243,14 @@ pub fn texts_at(alloc: Global, arguments: &Value, key: &'static str) -> Result<T
 }
 
 /// A break point on a line.
-fn line_point_of(point: &Value) -> LinePoint
-    ensures { result ≡ line_point_of (view point.now) }
+fn line_point_of(alloc: Global, point: &Value) -> Result<LinePoint, AllocError>
+    ensures { IfOk result (λ found. found ≡ line_point_of (view point.now)) }
 {
-    LinePoint {
+    Ok(LinePoint {
         line: number_at(point, "line"),
-        is_plain: is_plain(point),
-    }
+        condition: text_or_none(alloc, point, "condition")?,
+        is_simple: is_simple(point),
+    })
 }
 
 /// Some break points on lines.
@@ -255,7 +260,7 @@ fn line_points_of(alloc: Global, points: &[Value]) -> Result<Vec<LinePoint>, All
 {
     let mut found = Vec::new(alloc);
     for point in points {
-        found.push(line_point_of(point))?;
+        found.push(line_point_of(alloc, point)?)?;
     }
     Ok(found)
 }

@@ -36,13 +36,14 @@ impl Text {
 }
 
 /// A break point on a line of a source.
-#[derive(Clone, Copy, Debug, PartialEq, Eq)]
+#[derive(Drop)]
 pub struct LinePoint {
     /// The line, as the editor counts.
     pub line: u64,
-    /// Whether it stops each time: it has no condition, no count of hits, and no message in place of
-    /// a stop.
-    pub is_plain: bool,
+    /// The condition on which alone it stops; empty if it has none.
+    pub condition: Text,
+    /// Whether it has no count of hits, and no message in place of a stop.
+    pub is_simple: bool,
 }
 
 /// Break points on lines of a source, in the order in which a request names them.

@@ -5,7 +5,7 @@ use Rattle.std.specs.Prelude.{nat_eq, nat_le}
 use Rattle.std.specs.List.{filter}
 use Rattle.std.proofs.lemmas.Bool.Decides.{nat_tests}
 use Rattle.ss_state.specs.Run.{Input}
-use Rattle.ss_debug.specs.BreakLines.{without_line}
+use Rattle.ss_debug.specs.BreakLines.{BreakPoint, break_lines, without_break}
 use Rattle.ss_debug.specs.Turn.{DebuggerState, debugger_state_with, debugger_state_after}
 use Rattle.ss_debug.specs.declared.commands.Command.TheVariants.{Clear}
 use Rattle.ss_debug.specs.declared.limits.TheConstants.{GREATEST_LINE}
@@ -18,12 +18,12 @@ use Rattle.ss_prompt.specs.Sections.{command_on}
 -- ---- no break line is left
 
 -- a list without some lines, one after the other
-abbrev without_all : List ℕ → List ℕ → List ℕ
+abbrev without_all : List BreakPoint → List ℕ → List BreakPoint
 without_all breaks [] = breaks
-without_all breaks (line ∷ lines) = without_all (without_line line breaks) lines
+without_all breaks (line ∷ lines) = without_all (without_break line breaks) lines
 
--- a test, if another one keeps the number or drops it
-both_by : (p q : ℕ → Bool) (n : ℕ) (ns : List ℕ) (a b : Bool) → p n ≡ a → q n ≡ b →
+-- a test, if another one keeps the break line or drops it
+both_by : (p q : BreakPoint → Bool) (n : BreakPoint) (ns : List BreakPoint) (a b : Bool) → p n ≡ a → q n ≡ b →
     filter p (filter q ns) ≡ filter q (filter p ns) → filter p (filter q (n ∷ ns)) ≡ filter q (filter p (n ∷ ns))
 both_by p q n ns true true e f h = rw (e, f, e) (ap (λ v. n ∷ v) h)
 both_by p q n ns true false e f h = rw (e, f) h
@@ -31,42 +31,42 @@ both_by p q n ns false true e f h = rw (e, f, e) h
 both_by p q n ns false false e f h = rw (e, f) h
 
 -- two tests, in either order
-both : (p q : ℕ → Bool) (ns : List ℕ) → filter p (filter q ns) ≡ filter q (filter p ns)
+both : (p q : BreakPoint → Bool) (ns : List BreakPoint) → filter p (filter q ns) ≡ filter q (filter p ns)
 both p q [] = refl
 both p q (n ∷ ns) = both_by p q n ns (p n) (q n) refl refl (both p q ns)
 
 -- two lines are dropped, in either order
-either_first : (k l : ℕ) (breaks : List ℕ) →
-    without_line k (without_line l breaks) ≡ without_line l (without_line k breaks)
-unfolding without_line
-either_first k l breaks = both (λ n. not (nat_eq n k)) (λ n. not (nat_eq n l)) breaks
+either_first : (k l : ℕ) (breaks : List BreakPoint) →
+    without_break k (without_break l breaks) ≡ without_break l (without_break k breaks)
+unfolding without_break
+either_first k l breaks = both (λ b. not (nat_eq b.line k)) (λ b. not (nat_eq b.line l)) breaks
 
 -- a line is dropped before others, or after them
-first_or_last : (lines : List ℕ) (line : ℕ) (breaks : List ℕ) →
-    without_all (without_line line breaks) lines ≡ without_line line (without_all breaks lines)
+first_or_last : (lines : List ℕ) (line : ℕ) (breaks : List BreakPoint) →
+    without_all (without_break line breaks) lines ≡ without_break line (without_all breaks lines)
 first_or_last [] line breaks = refl
 first_or_last (k ∷ ks) line breaks =
-    ap (λ v. without_all v ks) (either_first k line breaks) ∙ first_or_last ks line (without_line k breaks)
+    ap (λ v. without_all v ks) (either_first k line breaks) ∙ first_or_last ks line (without_break k breaks)
 
 same_number : (n : ℕ) (b : Bool) → nat_eq n n ≡ b → b ≡ true
 same_number n true e = refl
 same_number n false e = absurd (grind (arith, nat_tests))
 
 -- the first of some lines is dropped
-first_dropped : (line : ℕ) (lines : List ℕ) → without_line line (line ∷ lines) ≡ without_line line lines
-unfolding without_line
-first_dropped line lines = let e : nat_eq line line ≡ true = same_number line (nat_eq line line) refl in rw e refl
+first_dropped : (b : BreakPoint) (bs : List BreakPoint) → without_break b.line (b ∷ bs) ≡ without_break b.line bs
+unfolding without_break
+first_dropped b bs = let e : nat_eq b.line b.line ≡ true = same_number b.line (nat_eq b.line b.line) refl in rw e refl
 
-none_without : (line : ℕ) → without_line line [] ≡ []
-unfolding without_line
+none_without : (line : ℕ) → without_break line [] ≡ []
+unfolding without_break
 none_without line = refl
 
 -- no line is left of some without each of them
-none_of_all : (lines : List ℕ) → without_all lines lines ≡ []
+none_of_all : (bs : List BreakPoint) → without_all bs (break_lines bs) ≡ []
 none_of_all [] = refl
-none_of_all (line ∷ lines) =
-    ap (λ v. without_all v lines) (first_dropped line lines) ∙ first_or_last lines line lines
-    ∙ ap (without_line line) (none_of_all lines) ∙ none_without line
+none_of_all (b ∷ bs) =
+    ap (λ v. without_all v (break_lines bs)) (first_dropped b bs) ∙ first_or_last (break_lines bs) b.line bs
+    ∙ ap (without_break b.line) (none_of_all bs) ∙ none_without b.line
 
 taken_is : (line : ℕ) (b : Bool) → nat_le line GREATEST_LINE ≡ b → line ≤ GREATEST_LINE → b ≡ true
 taken_is line true e h = refl
@@ -74,7 +74,7 @@ taken_is line false e h = absurd (grind (arith, nat_tests))
 
 -- CLEAR of a line that it takes
 one_cleared : (t : Input) (d : DebuggerState) (line : ℕ) → line ≤ GREATEST_LINE →
-    debugger_state_after t d (command_on Clear line) ≡ debugger_state_with d (without_line line d.breaks)
+    debugger_state_after t d (command_on Clear line) ≡ debugger_state_with d (without_break line d.breaks)
 unfolding debugger_state_after
 one_cleared t d line h =
     let e : nat_le line GREATEST_LINE ≡ true = taken_is line (nat_le line GREATEST_LINE) refl h in rw e refl
@@ -85,11 +85,11 @@ all_cleared : (t : Input) (d : DebuggerState) (lines : List ℕ) → AreTaken li
 all_cleared t d [] h = refl
 all_cleared t d (line ∷ lines) h =
     ap (λ (v : DebuggerState). (after_clear t v lines).breaks) (one_cleared t d line h.0)
-    ∙ all_cleared t (debugger_state_with d (without_line line d.breaks)) lines h.1
+    ∙ all_cleared t (debugger_state_with d (without_break line d.breaks)) lines h.1
 
 pub none_left : ClearLeavesNoBreakLine
 unfolding prompt_state_after state_led
-none_left s h = all_cleared s.input s.debugger s.debugger.breaks h ∙ none_of_all s.debugger.breaks
+none_left s h = all_cleared s.input s.debugger (break_lines s.debugger.breaks) h ∙ none_of_all s.debugger.breaks
 
 -- ---- memory is refused
 
@@ -114,11 +114,11 @@ pub ruleset parts = (at_first, at_later)
 -- before CLEAR of the first break line
 pub at_start : (s after : PromptState) → IsSameBeside s after → after.debugger ≡ s.debugger → IsClearRefused s after
 unfolding IsClearRefused
-at_start s after b e = (b, at_first s.input s.debugger after.debugger s.debugger.breaks e)
+at_start s after b e = (b, at_first s.input s.debugger after.debugger (break_lines s.debugger.breaks) e)
 
 -- for CLEAR of the break lines
 pub at_lines : (s after : PromptState) (t : Input) (d : DebuggerState) (lines : List ℕ) → IsSameBeside s after →
-    t ≡ s.input → d ≡ s.debugger → lines ≡ s.debugger.breaks → IsPartCleared t d lines after.debugger →
+    t ≡ s.input → d ≡ s.debugger → lines ≡ break_lines s.debugger.breaks → IsPartCleared t d lines after.debugger →
     IsClearRefused s after
 unfolding IsClearRefused
 at_lines s after t d lines b e f g h =

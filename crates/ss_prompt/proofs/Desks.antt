@@ -1,62 +1,79 @@
 -- A desk over the lines of a model, with a debugger that is lent.
-use Rattle.std.proofs.Common.{◌≡◌, ℕ, List, [], None, Result, Ok, Err, OnOk, OnErr, refl, ap, ◌∙◌, sym}
+use Rattle.std.proofs.Common.{◌≡◌, ℕ, List, [], Some, None, Result, Ok, Err, OnOk, OnErr, refl, ap, ◌∙◌, sym}
+use Rattle.ss_check.specs.Symbols.{Symbols}
 use Rattle.ss_debug.specs.View.{DebuggerView}
-use Rattle.ss_trace.specs.declared.question.Question.{Question}
+use Rattle.ss_prompt.specs.declared.shown.Shown.{Shown}
 use Rattle.ss_prompt.specs.PromptState.{PromptState, PromptDeskView, with_questions, state_at, lent_state, unlisted}
 use Rattle.ss_prompt.specs.Prompting.{IsRefused}
 use Rattle.ss_prompt.specs.declared.commands.PromptCommand.{PromptCommand}
 use Rattle.ss_prompt.specs.Source.{source_lines}
 
 -- a desk is that of a model, with these questions
-pub record IsDeskOf (model : List ℕ) (displays : List Question) (k : PromptDeskView) : Type 0 where
+pub record IsDeskOf (model : List ℕ) (symbols : Symbols) (displays : List Shown) (k : PromptDeskView) : Type 0 where
   pub model_is : k.model ≡ model
   pub lines_are : k.lines ≡ source_lines model
   pub displays_are : k.displays ≡ displays
   pub no_data : k.data_text ≡ None
-  pub no_symbols : k.symbols ≡ None
+  pub symbols_are : k.symbols ≡ Some symbols
 
 -- a new desk that took the questions
-pub taken : (model : List ℕ) (lines : List (List ℕ)) (displays : List Question) (new k : PromptDeskView) →
-    new ≡ record { model = model; lines = lines; displays = []; listed = None; data_text = None; symbols = None } →
+pub taken : (model : List ℕ) (symbols : Symbols) (lines : List (List ℕ)) (displays : List Shown)
+    (new k : PromptDeskView) →
+    new ≡ record {
+      model = model;
+      lines = lines;
+      displays = [];
+      listed = None;
+      data_text = None;
+      symbols = Some symbols;
+    } →
     k ≡ with_questions new displays →
-    lines ≡ source_lines model → IsDeskOf model displays k
-taken model lines displays new k n t l = record {
+    lines ≡ source_lines model → IsDeskOf model symbols displays k
+taken model symbols lines displays new k n t l = record {
   model_is = ap (λ (v : PromptDeskView). v.model) t ∙ ap (λ (v : PromptDeskView). v.model) n;
   lines_are = ap (λ (v : PromptDeskView). v.lines) t ∙ ap (λ (v : PromptDeskView). v.lines) n ∙ l;
   displays_are = ap (λ (v : PromptDeskView). v.displays) t;
   no_data = ap (λ (v : PromptDeskView). v.data_text) t ∙ ap (λ (v : PromptDeskView). v.data_text) n;
-  no_symbols = ap (λ (v : PromptDeskView). v.symbols) t ∙ ap (λ (v : PromptDeskView). v.symbols) n;
+  symbols_are = ap (λ (v : PromptDeskView). v.symbols) t ∙ ap (λ (v : PromptDeskView). v.symbols) n;
 }
 
 -- it was used, and gave its questions back
-pub given : (model : List ℕ) (displays others : List Question) (k after : PromptDeskView) →
-    IsDeskOf model displays k → after.model ≡ k.model → after.lines ≡ k.lines → after.data_text ≡ k.data_text →
-    after.symbols ≡ k.symbols → others ≡ after.displays → IsDeskOf model others after
-given model displays others k after h m l t y d = record {
+pub given : (model : List ℕ) (symbols : Symbols) (displays others : List Shown) (k after : PromptDeskView) →
+    IsDeskOf model symbols displays k → after.model ≡ k.model → after.lines ≡ k.lines → after.data_text ≡ k.data_text →
+    after.symbols ≡ k.symbols → others ≡ after.displays → IsDeskOf model symbols others after
+given model symbols displays others k after h m l t y d = record {
   model_is = m ∙ h.model_is;
   lines_are = l ∙ h.lines_are;
   displays_are = sym d;
   no_data = t ∙ h.no_data;
-  no_symbols = y ∙ h.no_symbols;
+  symbols_are = y ∙ h.symbols_are;
 }
 
 -- no line is listed on it
-pub unlisted_still : (model : List ℕ) (lines : List (List ℕ)) (displays : List Question) (new k : PromptDeskView) →
-    new ≡ record { model = model; lines = lines; displays = []; listed = None; data_text = None; symbols = None } →
+pub unlisted_still : (model : List ℕ) (symbols : Symbols) (lines : List (List ℕ)) (displays : List Shown)
+    (new k : PromptDeskView) →
+    new ≡ record {
+      model = model;
+      lines = lines;
+      displays = [];
+      listed = None;
+      data_text = None;
+      symbols = Some symbols;
+    } →
     k ≡ with_questions new displays →
     k.listed ≡ None
-unlisted_still model lines displays new k n t =
+unlisted_still model symbols lines displays new k n t =
     ap (λ (v : PromptDeskView). v.listed) t ∙ ap (λ (v : PromptDeskView). v.listed) n
 
 -- the state of the prompt for a lent debugger is that of the debugger and such a desk
-pub lent_is : (d : DebuggerView) (model : List ℕ) (displays : List Question) (k : PromptDeskView) →
-    IsDeskOf model displays k → k.listed ≡ None → lent_state d model displays ≡ state_at d k
-lent_is d model displays k h l = rw (h.model_is, h.lines_are, h.displays_are, h.no_data, h.no_symbols, l) refl
+pub lent_is : (d : DebuggerView) (model : List ℕ) (symbols : Symbols) (displays : List Shown) (k : PromptDeskView) →
+    IsDeskOf model symbols displays k → k.listed ≡ None → lent_state d model symbols displays ≡ state_at d k
+lent_is d model symbols displays k h l = rw (h.model_is, h.lines_are, h.displays_are, h.no_data, h.symbols_are, l) refl
 
 -- and so it is with any such desk, but for where LIST goes on
-pub lent_unlisted : (d : DebuggerView) (model : List ℕ) (displays : List Question) (k : PromptDeskView) →
-    IsDeskOf model displays k → lent_state d model displays ≡ unlisted (state_at d k)
-lent_unlisted d model displays k h = rw (h.model_is, h.lines_are, h.displays_are, h.no_data, h.no_symbols) refl
+pub lent_unlisted : (d : DebuggerView) (model : List ℕ) (symbols : Symbols) (displays : List Shown) (k : PromptDeskView) →
+    IsDeskOf model symbols displays k → lent_state d model symbols displays ≡ unlisted (state_at d k)
+lent_unlisted d model symbols displays k h = rw (h.model_is, h.lines_are, h.displays_are, h.no_data, h.symbols_are) refl
 
 -- after a command that was obeyed
 pub obeyed_so : {T E : Type 0} (result : Result T E) (a b : PromptState) → OnOk result (a ≡ b) →
@@ -72,8 +89,8 @@ none_listed (Err error) k after e h = h ∙ e
 
 -- after a command for which memory was refused
 pub refused_so : {T E : Type 0} (result : Result T E) (s : PromptState) (command : PromptCommand) (d : DebuggerView)
-    (model : List ℕ) (displays : List Question) (k : PromptDeskView) → IsDeskOf model displays k →
-    OnErr result (k.listed ≡ None) → OnErr result (IsRefused s command (state_at d k)) →
-    OnErr result (IsRefused s command (lent_state d model displays))
-refused_so (Ok value) s command d model displays k i l h = h
-refused_so (Err error) s command d model displays k i l h = rw (lent_is d model displays k i l) h
+    (model : List ℕ) (symbols : Symbols) (displays : List Shown) (k : PromptDeskView) →
+    IsDeskOf model symbols displays k → OnErr result (k.listed ≡ None) → OnErr result (IsRefused s command (state_at d k)) →
+    OnErr result (IsRefused s command (lent_state d model symbols displays))
+refused_so (Ok value) s command d model symbols displays k i l h = h
+refused_so (Err error) s command d model symbols displays k i l h = rw (lent_is d model symbols displays k i l) h

@@ -24,3 +24,4 @@ pub mod TakenRefusals
 pub mod MissingLaws
 mod NothingAsked
 pub mod Misreads
+pub mod BreakWhens

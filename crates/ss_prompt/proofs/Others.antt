@@ -1,12 +1,14 @@
 -- The parts of the state that commands leave as they are.
 use Rattle.std.proofs.Common.{◌≡◌, ℕ, Bool, true, false, nat_le, List, [], ◌∷◌, Option, Some, None, refl, ◌∙◌}
 use Rattle.ss_state.specs.Run.{Input}
+use Rattle.ss_debug.specs.BreakLines.{break_lines}
 use Rattle.ss_debug.specs.Turn.{DebuggerState, debugger_state_after}
 use Rattle.ss_debug.specs.declared.commands.Command.{Command}
 use Rattle.ss_debug.specs.declared.commands.Command.TheVariants as plain
 use Rattle.ss_prompt.specs.declared.commands.PromptCommand.TheVariants as prompt
 use Rattle.ss_debug.specs.declared.limits.TheConstants.{GREATEST_LINE}
 use Rattle.ss_prompt.specs.declared.causes.CauseCommand.TheVariants as causes
+use Rattle.ss_prompt.specs.BreakPlaces.{point_at}
 use Rattle.ss_prompt.specs.Cleared.{after_clear}
 use Rattle.ss_prompt.specs.Laws.{OthersLeaveTheBreakLines, OthersStandStill}
 use Rattle.ss_prompt.specs.Points.{is_movement, point_of}
@@ -14,9 +16,12 @@ use Rattle.ss_prompt.specs.Prompting.{prompt_state_after, state_led}
 use Rattle.ss_prompt.specs.PromptState.{PromptState}
 use Rattle.ss_prompt.specs.Sections.{command_on, taken_line, line_of_section, on_line_next}
 use Rattle.ss_prompt.specs.Until.{aim_by}
-use Rattle.ss_prompt.specs.declared.manner.Manner.TheVariants.{Why, History, RunChange, BackChange}
+use Rattle.ss_prompt.specs.declared.manner.Manner.TheVariants.{Why, History, RunChange, BackChange, Display}
+use Rattle.ss_prompt.specs.declared.manner.Manner.TheVariants.{Undisplay}
+use Rattle.ss_prompt.specs.Meant.{meaning_in}
 use Rattle.ss_prompt.proofs.Aims.{until_breaks}
-use Rattle.ss_prompt.proofs.MeantChanges.{meant_breaks}
+use Rattle.ss_prompt.proofs.MeantChanges.{meant_breaks, displayed_position, undisplayed_position}
+use Rattle.ss_prompt.proofs.BreakWhens.{when_breaks, when_stands}
 
 -- ---- the break lines
 
@@ -54,6 +59,7 @@ breaks s (prompt.Lines line) h k = refl
 breaks s (prompt.LinesBetween from to) h k = refl
 breaks s (prompt.SectionLines name) h k = refl
 breaks s (prompt.BreakSection name) h k = on_line s plain.Break (line_of_section s.input.program name) h
+breaks s (prompt.BreakWhen place text numbered) h k = when_breaks s place text h
 breaks s (prompt.NoPlace line next) h k = refl
 breaks s (prompt.ClearSection name) h k = on_line s plain.Clear (line_of_section s.input.program name) h
 breaks s prompt.ClearAll h k = absurd (cc)
@@ -130,10 +136,12 @@ position s (prompt.LinesBetween from to) h = refl
 position s (prompt.SectionLines name) h = refl
 position s (prompt.BreakSection name) h =
     stands_on s plain.Break (line_of_section s.input.program name) (λ l. plain_position s (plain.Break l) refl)
+position s (prompt.BreakWhen place text numbered) h =
+    when_stands s text (point_at s.input.program place)
 position s (prompt.NoPlace line next) h = refl
 position s (prompt.ClearSection name) h =
     stands_on s plain.Clear (line_of_section s.input.program name) (λ l. plain_position s (plain.Clear l) refl)
-position s prompt.ClearAll h = all_stand s.input s.debugger s.debugger.breaks
+position s prompt.ClearAll h = all_stand s.input s.debugger (break_lines s.debugger.breaks)
 position s prompt.Breaks h = refl
 position s (prompt.Ask question) h = refl
 position s (prompt.See sight) h = refl
@@ -151,6 +159,8 @@ position s (prompt.Meant Why text numbered) h = refl
 position s (prompt.Meant History text numbered) h = refl
 position s (prompt.Meant RunChange text numbered) h = absurd (cc)
 position s (prompt.Meant BackChange text numbered) h = absurd (cc)
+position s (prompt.Meant Display text numbered) h = displayed_position s text (meaning_in s text)
+position s (prompt.Meant Undisplay text numbered) h = undisplayed_position s text (meaning_in s text)
 position s (prompt.Unread word numbered) h = refl
 position s (prompt.Missing missing) h = refl
 position s (prompt.Names name) h = refl

@@ -1,16 +1,12 @@
 -- Commands of docs/DEBUGGER.md at the prompt.
-use Rattle.std.proofs.Common.{◌≡◌, ◌⊎◌, inl, inr, ℕ, ℤ, Bool, true, false, List, Option, Some, None, refl, ap, sym}
+use Rattle.std.proofs.Common.{◌≡◌, ◌⊎◌, inl, inr, ℕ, Bool, true, false, List, Option, Some, None, refl, ap, sym}
 use Rattle.std.proofs.Common.{◌∙◌, arith}
-use Rattle.std.specs.Prelude.{nat_eq, is_some}
+use Rattle.std.specs.Prelude.{nat_eq}
 use Rattle.std.proofs.lemmas.Bool.Decides.{nat_tests}
 use Rattle.ss_program.specs.Program.{ProgramTable}
 use Rattle.ss_debug.specs.declared.commands.Command.{Command}
 use Rattle.ss_debug.specs.declared.commands.Command.TheVariants.{Blank, Bad, Move, Break, Clear, Forget, Show, Quit}
-use Rattle.ss_debug.specs.declared.commands.Question.{Question}
-use Rattle.ss_debug.specs.declared.commands.Question.TheVariants.{Clock, Where, Variable, Entity, Set}
-use Rattle.ss_debug.specs.declared.commands.Question.TheVariants.{Events, Taken, Entry, Report}
 use Rattle.ss_debug.specs.Command.{command_of}
-use Rattle.ss_debug.specs.Entities.{class_named, set_named}
 use Rattle.ss_prompt.specs.declared.commands.PromptCommand.{PromptCommand}
 use Rattle.ss_prompt.specs.declared.commands.PromptCommand.TheVariants.{Plain}
 use Rattle.ss_prompt.specs.Places.{next_line}
@@ -74,33 +70,7 @@ break_few : (program : ProgramTable) (line : ℕ) →
     IsMeant program (Break line)
 unfolding plain_meant
 break_few program line (inl e) = inl e
-break_few program line (inr h) = inr (inl (line, refl, h))
-
--- an entity of a class, or of a set
-none : (o : Option ℕ) → is_some o ≡ false → o ≡ None
-none None e = refl
-none (Some n) e = absurd (cc)
-
-entity_few : (program : ProgramTable) (name : List ℕ) (x : ℤ) (class set : Bool) →
-    is_some (class_named program name) ≡ class → is_some (set_named program name) ≡ set →
-    IsMeant program (Show (Entity name x))
-unfolding plain_meant
-entity_few program name x true set c s = inl (rw c refl)
-entity_few program name x false true c s = inr (inr (name, x, refl, none (class_named program name) c, s))
-entity_few program name x false false c s = inl (rw (c, s) refl)
-
-show_few : (program : ProgramTable) (q : Question) → IsMeant program (Show q)
-unfolding plain_meant
-show_few program (Entity name x) =
-    entity_few program name x (is_some (class_named program name)) (is_some (set_named program name)) refl refl
-show_few program Clock = inl refl
-show_few program Where = inl refl
-show_few program (Variable name) = inl refl
-show_few program (Set name owner) = inl refl
-show_few program Events = inl refl
-show_few program Taken = inl refl
-show_few program Entry = inl refl
-show_few program Report = inl refl
+break_few program line (inr h) = inr (line, refl, h)
 
 pub few_others : FewAreMeantOtherwise
 unfolding plain_meant
@@ -111,7 +81,7 @@ few_others program (Break line) =
     break_few program line (break_meant program line (next_line program line) refl)
 few_others program (Clear line) = inl refl
 few_others program (Forget n) = inl refl
-few_others program (Show q) = show_few program q
+few_others program (Show q) = inl refl
 few_others program Quit = inl refl
 
 pub plain_answers : PlainAnswersComeFirst

@@ -17,12 +17,13 @@ use Rattle.ss_prompt.specs.Cleared.{IsClearRefused}
 use Rattle.ss_prompt.specs.Sections.{on_line_next, line_of_section}
 use Rattle.ss_prompt.specs.Prompting.{prompt_state_after, state_led, IsRefused}
 use Rattle.ss_prompt.specs.Until.{aim_by, until_led, until_next, IsSeekRefused, IsAimRefused, IsUntilRefused}
-use Rattle.ss_prompt.specs.Meant.{meaning_in, change_led, meant_next, IsChangeRefused, IsChangeLedRefused}
+use Rattle.ss_prompt.specs.Meant.{meaning_in, change_led, display_led, undisplay_led, meant_next, IsChangeRefused, IsChangeLedRefused}
 use Rattle.ss_prompt.specs.Meant.{IsMannerRefused, IsMeantRefused}
 use Rattle.ss_expressions.specs.Meanings.{Meant, meant}
 use Rattle.ss_expressions.specs.Meanings as meanings
 use Rattle.ss_prompt.specs.declared.manner.Manner.{Manner}
-use Rattle.ss_prompt.specs.declared.manner.Manner.TheVariants.{Why, History, RunChange, BackChange}
+use Rattle.ss_prompt.specs.declared.manner.Manner.TheVariants.{Why, History, RunChange, BackChange, Display}
+use Rattle.ss_prompt.specs.declared.manner.Manner.TheVariants.{Undisplay}
 use Rattle.ss_prompt.specs.declared.until.Until.{Until}
 use Rattle.ss_expressions.specs.Aims.{Aimed, aimed}
 use Rattle.ss_expressions.specs.Aims as aims
@@ -71,12 +72,25 @@ changed s back None = same s
 changed s back (Some (meant meaning)) = record { input = refl; model = refl; lines = refl; data_text = refl; symbols = refl }
 changed s back (Some (meanings.refused answer)) = same s
 
+-- after DISPLAY and UNDISPLAY of a text
+displayed : (s : PromptState) (text : List ℕ) (o : Option Meant) → IsSameRun s (display_led s text o)
+displayed s text None = same s
+displayed s text (Some (meant meaning)) = record { input = refl; model = refl; lines = refl; data_text = refl; symbols = refl }
+displayed s text (Some (meanings.refused answer)) = same s
+
+undisplayed : (s : PromptState) (text : List ℕ) (o : Option Meant) → IsSameRun s (undisplay_led s text o)
+undisplayed s text None = same s
+undisplayed s text (Some (meant meaning)) = record { input = refl; model = refl; lines = refl; data_text = refl; symbols = refl }
+undisplayed s text (Some (meanings.refused answer)) = same s
+
 -- after a command on what a text asks
 asked : (s : PromptState) (manner : Manner) (text : List ℕ) → IsSameRun s (meant_next s manner text)
 asked s Why text = same s
 asked s History text = same s
 asked s RunChange text = changed s false (meaning_in s text)
 asked s BackChange text = changed s true (meaning_in s text)
+asked s Display text = displayed s text (meaning_in s text)
+asked s Undisplay text = undisplayed s text (meaning_in s text)
 
 -- after a command
 obeyed : (s : PromptState) (command : PromptCommand) → IsSameRun s (prompt_state_after s command)
@@ -90,6 +104,7 @@ obeyed s (prompt.SectionLines name) = record { input = refl; model = refl; lines
 obeyed s (prompt.BreakSection name) =
     noted s (on_line_next s plain.Break (line_of_section s.input.program name)) s.listed
     (on_line s plain.Break (line_of_section s.input.program name))
+obeyed s (prompt.BreakWhen place text numbered) = record { input = refl; model = refl; lines = refl; data_text = refl; symbols = refl }
 obeyed s (prompt.NoPlace line next) = record { input = refl; model = refl; lines = refl; data_text = refl; symbols = refl }
 obeyed s (prompt.ClearSection name) =
     noted s (on_line_next s plain.Clear (line_of_section s.input.program name)) s.listed
@@ -111,6 +126,8 @@ obeyed s (prompt.Meant Why text numbered) = noted s (meant_next s Why text) s.li
 obeyed s (prompt.Meant History text numbered) = noted s (meant_next s History text) s.listed (asked s History text)
 obeyed s (prompt.Meant RunChange text numbered) = noted s (meant_next s RunChange text) None (asked s RunChange text)
 obeyed s (prompt.Meant BackChange text numbered) = noted s (meant_next s BackChange text) None (asked s BackChange text)
+obeyed s (prompt.Meant Display text numbered) = noted s (meant_next s Display text) s.listed (asked s Display text)
+obeyed s (prompt.Meant Undisplay text numbered) = noted s (meant_next s Undisplay text) s.listed (asked s Undisplay text)
 obeyed s (prompt.Value text numbered) = record { input = refl; model = refl; lines = refl; data_text = refl; symbols = refl }
 obeyed s (prompt.Unread word numbered) = record { input = refl; model = refl; lines = refl; data_text = refl; symbols = refl }
 obeyed s (prompt.Missing missing) = record { input = refl; model = refl; lines = refl; data_text = refl; symbols = refl }
@@ -155,6 +172,8 @@ refused_manner s after Why text h = beside s after h.0
 refused_manner s after History text h = beside s after h.0
 refused_manner s after RunChange text h = refused_change s after false (meaning_in s text) h
 refused_manner s after BackChange text h = refused_change s after true (meaning_in s text) h
+refused_manner s after Display text h = unchanged s after h
+refused_manner s after Undisplay text h = unchanged s after h
 
 refused_meant : (s after : PromptState) (manner : Manner) (text : List ℕ) → IsMeantRefused s manner text after →
     IsSameRun s after
@@ -178,6 +197,7 @@ refused s after (prompt.Lines line) h = unchanged s after h
 refused s after (prompt.LinesBetween from to) h = unchanged s after h
 refused s after (prompt.SectionLines name) h = unchanged s after h
 refused s after (prompt.BreakSection name) h = unchanged s after h
+refused s after (prompt.BreakWhen place text numbered) h = unchanged s after h
 refused s after (prompt.NoPlace line next) h = unchanged s after h
 refused s after (prompt.ClearSection name) h = unchanged s after h
 refused s after prompt.ClearAll h = beside s after h.0
@@ -242,6 +262,8 @@ listed_manner s after Why text h = h.0.4
 listed_manner s after History text h = h.0.4
 listed_manner s after RunChange text h = listed_change s after false (meaning_in s text) h
 listed_manner s after BackChange text h = listed_change s after true (meaning_in s text) h
+listed_manner s after Display text h = ap (λ (v : PromptState). v.listed) h
+listed_manner s after Undisplay text h = ap (λ (v : PromptState). v.listed) h
 
 listed_meant : (s after : PromptState) (manner : Manner) (text : List ℕ) → IsMeantRefused s manner text after →
     after.listed ≡ s.listed
@@ -259,6 +281,7 @@ listed_still s after (prompt.Lines line) h = ap (λ (v : PromptState). v.listed)
 listed_still s after (prompt.LinesBetween from to) h = ap (λ (v : PromptState). v.listed) h
 listed_still s after (prompt.SectionLines name) h = ap (λ (v : PromptState). v.listed) h
 listed_still s after (prompt.BreakSection name) h = ap (λ (v : PromptState). v.listed) h
+listed_still s after (prompt.BreakWhen place text numbered) h = ap (λ (v : PromptState). v.listed) h
 listed_still s after (prompt.NoPlace line next) h = ap (λ (v : PromptState). v.listed) h
 listed_still s after (prompt.ClearSection name) h = ap (λ (v : PromptState). v.listed) h
 listed_still s after prompt.ClearAll h = h.0.4

@@ -9,7 +9,7 @@ use Rattle.ss_trace.specs.declared.question.Question.{Question}
 use Rattle.ss_trace.specs.declared.question.Question.TheVariants.{Shown, Attribute, Count}
 use Rattle.ss_program.specs.Program.{ProgramTable}
 use Rattle.ss_prompt.specs.declared.missing.Missing.{Missing}
-use Rattle.ss_prompt.specs.Missing.{asked_of_program, bare_asked}
+use Rattle.ss_prompt.specs.Missing.{asked_of_program}
 use Rattle.ss_prompt.specs.Words.{command_behind, question_of, only_name_of}
 
 -- the first that is there
@@ -55,16 +55,3 @@ asked_of words = shown_or (question_of (command_behind (codes "SHOW") words)) (o
 -- that question as a program has its names, or which of them it hasn't
 abbrev pub question_in : ProgramTable → List (List ℕ) → Option (Result Question Missing)
 question_in program words = option_map (asked_of_program program) (asked_of words)
-
--- the question that the only word asks, if it is a name: a set, or else a variable
-abbrev pub bare_of : ProgramTable → Option (List ℕ) → Option Question
-bare_of program None = None
-bare_of program (Some name) = Some (bare_asked program name)
-
--- the question that some words ask, a bare name too
-abbrev pub asked_or_bare : ProgramTable → List (List ℕ) → Option Question
-asked_or_bare program words = first_there (asked_of words) (bare_of program (only_name_of words))
-
--- that question as a program has its names, or which of them it hasn't
-abbrev pub asked_in : ProgramTable → List (List ℕ) → Option (Result Question Missing)
-asked_in program words = option_map (asked_of_program program) (asked_or_bare program words)

@@ -1,6 +1,7 @@
 -- CLEAR without a line: CLEAR of each break line.
 use Rattle.std.specs.Prelude.{ℕ, ◌≡◌, ◌⊎◌, List, [], ◌∷◌, ◌++◌, length, codes, decimal}
 use Rattle.ss_state.specs.Run.{Input}
+use Rattle.ss_debug.specs.BreakLines.{break_lines}
 use Rattle.ss_debug.specs.Turn.{DebuggerState, debugger_state_after}
 use Rattle.ss_debug.specs.declared.commands.Command.TheVariants.{Clear}
 use Rattle.ss_prompt.specs.PromptState.{PromptState, with_debugger, IsSameBeside}
@@ -18,11 +19,11 @@ after_clear input debugger (line ∷ lines) =
 
 -- the answer to CLEAR without a line
 abbrev pub clear_all_said : PromptState → List ℕ
-clear_all_said state = cleared_text state.debugger.breaks
+clear_all_said state = cleared_text (break_lines state.debugger.breaks)
 
 -- the state after it
 abbrev pub clear_all_next : PromptState → PromptState
-clear_all_next state = with_debugger state (after_clear state.input state.debugger state.debugger.breaks)
+clear_all_next state = with_debugger state (after_clear state.input state.debugger (break_lines state.debugger.breaks))
 
 -- the debugger after CLEAR of the first lines of some, or of none of them
 unfoldable pub IsPartCleared : Input → DebuggerState → List ℕ → DebuggerState → Type 0
@@ -34,4 +35,5 @@ IsPartCleared input debugger (line ∷ lines) after =
 -- if memory was refused, the first break lines are perhaps cleared
 unfoldable pub IsClearRefused : PromptState → PromptState → Type 0
 IsClearRefused state after =
-    IsSameBeside state after × IsPartCleared state.input state.debugger state.debugger.breaks after.debugger
+    IsSameBeside state after
+    × IsPartCleared state.input state.debugger (break_lines state.debugger.breaks) after.debugger

@@ -11,7 +11,7 @@ word_lines (word ∷ words) = word ++ 10 ∷ word_lines words
 
 -- the words after other first words than SHOW
 abbrev pub other_words : List ℕ
-other_words = codes "TO CHANGE UNTIL EVENT FIRST END CAUSE"
+other_words = codes "TO CHANGE UNTIL EVENT FIRST END CAUSE WHEN"
 
 -- the attributes of some classes
 abbrev pub attribute_lines : List ClassTable → List ℕ

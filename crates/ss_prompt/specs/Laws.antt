@@ -1,11 +1,12 @@
 -- Laws of the prompt, in other words than those of its definitions.
 use Rattle.std.specs.Prelude.{ℕ, ℤ, ◌≡◌, ◌≤◌, ◌⊎◌, true, false, List, [], ◌∷◌}
-use Rattle.std.specs.Prelude.{◌++◌, map, ⊤, Option, Some, None, Err, is_some}
+use Rattle.std.specs.Prelude.{◌++◌, map, ⊤, Option, Some, None, Err}
 use Rattle.ss_program.specs.Program.{ProgramTable}
+use Rattle.ss_debug.specs.BreakLines.{break_lines}
 use Rattle.ss_debug.specs.declared.commands.Command.{Command}
-use Rattle.ss_debug.specs.declared.commands.Command.TheVariants.{Bad, Break, Show}
+use Rattle.ss_debug.specs.declared.commands.Command.TheVariants.{Bad, Break}
 use Rattle.ss_debug.specs.declared.commands.Question.TheVariants.{Variable, Entity, Set}
-use Rattle.ss_debug.specs.Entities.{class_named, set_named}
+use Rattle.ss_debug.specs.Entities.{class_named}
 use Rattle.ss_debug.specs.declared.limits.TheConstants.{GREATEST_LINE}
 use Rattle.ss_debug.specs.CommandLines.{command_lines}
 use Rattle.ss_debug.specs.Command.{command_of}
@@ -29,7 +30,7 @@ use Rattle.ss_prompt.specs.PromptState.{PromptState}
 use Rattle.ss_prompt.specs.Prompting.{prompt_answer, prompt_state_after, prompt_meaning}
 
 -- a line is a command of docs/DEBUGGER.md that is meant so at the prompt: all are meant so but
--- BREAK of a line without a place and SHOW of an entity of a set
+-- BREAK of a line without a place
 abbrev pub IsPlain : ProgramTable → List ℕ → Type 0
 IsPlain program line = (command_of line ≡ Bad → ⊥) × (plain_meant program (command_of line) ≡ Plain (command_of line))
 
@@ -44,13 +45,11 @@ PlainLinesStay =
     (program : ProgramTable) (line : List ℕ) → (command_of line ≡ Bad → ⊥) →
     prompt_command_of program line ≡ plain_meant program (command_of line)
 
--- a command is meant so, or is BREAK of a line without a place, or SHOW c k with c a set, no class
+-- a command is meant so, or is BREAK of a line without a place
 abbrev pub IsMeant : ProgramTable → Command → Type 0
 IsMeant program command =
     (plain_meant program command ≡ Plain command)
-    ⊎ (((line : ℕ) × (command ≡ Break line) × (next_line program line ≡ Some line → ⊥))
-    ⊎ ((name : List ℕ) × (x : ℤ) × (command ≡ Show (Entity name x)) × (class_named program name ≡ None)
-    × (is_some (set_named program name) ≡ true)))
+    ⊎ ((line : ℕ) × (command ≡ Break line) × (next_line program line ≡ Some line → ⊥))
 
 -- that is so for every command
 abbrev pub FewAreMeantOtherwise : Type 0
@@ -116,7 +115,7 @@ AreTaken (line ∷ lines) = (line ≤ GREATEST_LINE) × AreTaken lines
 -- after CLEAR without a line there is no break line, if BREAK takes each
 abbrev pub ClearLeavesNoBreakLine : Type 0
 ClearLeavesNoBreakLine =
-    (s : PromptState) → AreTaken s.debugger.breaks → (prompt_state_after s ClearAll).debugger.breaks ≡ []
+    (s : PromptState) → AreTaken (break_lines s.debugger.breaks) → (prompt_state_after s ClearAll).debugger.breaks ≡ []
 
 -- one that is no movement leaves the debugger at its position
 abbrev pub OthersStandStill : Type 0

@@ -20,6 +20,8 @@ pub mod Travel
 pub mod Sections
 pub mod Listing
 pub mod Breaks
+pub mod BreakPlaces
+pub mod BreakWhen
 pub mod Cleared
 pub mod Displays
 pub mod Histories

@@ -1,5 +1,5 @@
--- WHY, HISTORY, RUN CHANGE and BACK CHANGE of a text: an expression, a condition, a list or the name
--- of a class.
+-- WHY, HISTORY, RUN CHANGE, BACK CHANGE, DISPLAY and UNDISPLAY of a text: an expression, a condition, a list or the
+-- name of a class.
 use Rattle.std.specs.Prelude.{ℕ, ◌≡◌, ◌⊎◌, Bool, true, false, List, [], ◌++◌, Option, Some, None, codes}
 use Rattle.ss_debug.specs.CommandLines.{command_words}
 use Rattle.ss_check.specs.Symbols.{Symbols}
@@ -13,6 +13,7 @@ use Rattle.ss_readings.specs.History.{why_change, history_text}
 use Rattle.ss_readings.specs.Changes.{run_change, back_change}
 use Rattle.ss_expressions.specs.Meanings.{Meaning, Meant, meant, refused, meaning_asked, subject_of}
 use Rattle.ss_prompt.specs.Advice.{unread_text}
+use Rattle.ss_prompt.specs.Displays.{display_said, display_next, undisplay_one_said, undisplay_one_next}
 use Rattle.ss_prompt.specs.Histories.{why_source, rows_in, all_but_last, only_last, HasLookedBack}
 use Rattle.ss_prompt.specs.Manners.{manner_word}
 use Rattle.ss_prompt.specs.PromptState.{PromptState, with_debugger, IsSameBeside}
@@ -20,7 +21,10 @@ use Rattle.ss_prompt.specs.Stops.{stop_text, IsStopRefused}
 use Rattle.ss_prompt.specs.Words.{line_behind, command_behind}
 use Rattle.ss_prompt.specs.declared.histories.TheConstants.{ROWS_UNLESS_SAID}
 use Rattle.ss_prompt.specs.declared.manner.Manner.{Manner}
-use Rattle.ss_prompt.specs.declared.manner.Manner.TheVariants.{Why, History, RunChange, BackChange}
+use Rattle.ss_prompt.specs.declared.manner.Manner.TheVariants.{Why, History, RunChange, BackChange, Display}
+use Rattle.ss_prompt.specs.declared.manner.Manner.TheVariants.{Undisplay}
+use Rattle.ss_prompt.specs.declared.shown.Shown.{Shown}
+use Rattle.ss_prompt.specs.declared.shown.Shown.TheVariants.{Text}
 
 -- ---- the meaning of a text
 
@@ -127,6 +131,12 @@ history_answered state text numbered =
     told_or (history_if state text ROWS_UNLESS_SAID (meaning_in state text))
     (history_with_rows state (text_with_rows text)) (unread_text (manner_word History) numbered)
 
+-- ---- DISPLAY and UNDISPLAY
+
+-- a text that is printed at stops with its value, which it has in the section of the last frame
+abbrev pub text_displayed : PromptState → List ℕ → Shown
+text_displayed state text = Text text (run state.input state.debugger.position).frame.section
+
 -- the answer for what a text means; if it means nothing, that the line is no command
 abbrev pub meant_answered : PromptState → Manner → List ℕ → Bool → Option Meant → List ℕ
 meant_answered state manner text numbered None = unread_text (manner_word manner) numbered
@@ -135,6 +145,8 @@ meant_answered state Why text numbered (Some (meant meaning)) = why_told state t
 meant_answered state History text numbered (Some (meant meaning)) = history_told state text meaning ROWS_UNLESS_SAID
 meant_answered state RunChange text numbered (Some (meant meaning)) = change_said state false meaning
 meant_answered state BackChange text numbered (Some (meant meaning)) = change_said state true meaning
+meant_answered state Display text numbered (Some (meant meaning)) = display_said state (text_displayed state text)
+meant_answered state Undisplay text numbered (Some (meant meaning)) = undisplay_one_said state text
 
 -- the answer to the command
 abbrev pub meant_said : PromptState → Manner → List ℕ → Bool → List ℕ
@@ -146,10 +158,22 @@ abbrev pub change_led : PromptState → Bool → Option Meant → PromptState
 change_led state back (Some (meant meaning)) = change_next state back meaning
 change_led state back _ = state
 
+-- the state after DISPLAY of what a text means
+abbrev pub display_led : PromptState → List ℕ → Option Meant → PromptState
+display_led state text (Some (meant meaning)) = display_next state (text_displayed state text)
+display_led state text _ = state
+
+-- the state after UNDISPLAY of it
+abbrev pub undisplay_led : PromptState → List ℕ → Option Meant → PromptState
+undisplay_led state text (Some (meant meaning)) = undisplay_one_next state text
+undisplay_led state text _ = state
+
 -- the state after the command
 abbrev pub meant_next : PromptState → Manner → List ℕ → PromptState
 meant_next state RunChange text = change_led state false (meaning_in state text)
 meant_next state BackChange text = change_led state true (meaning_in state text)
+meant_next state Display text = display_led state text (meaning_in state text)
+meant_next state Undisplay text = undisplay_led state text (meaning_in state text)
 meant_next state _ text = state
 
 -- if memory was refused for a movement, if the text asks for one
@@ -161,6 +185,8 @@ IsChangeLedRefused state back _ after = after ≡ state
 abbrev pub IsMannerRefused : PromptState → Manner → List ℕ → PromptState → Type 0
 IsMannerRefused state RunChange text after = IsChangeLedRefused state false (meaning_in state text) after
 IsMannerRefused state BackChange text after = IsChangeLedRefused state true (meaning_in state text) after
+IsMannerRefused state Display text after = after ≡ state
+IsMannerRefused state Undisplay text after = after ≡ state
 IsMannerRefused state _ text after = HasLookedBack state after
 
 -- if memory was refused: before the command was begun, or for it

@@ -2,7 +2,7 @@
 use Rattle.std.specs.Prelude.{◌≡◌, ◌⊎◌, ℕ, Bool, true, false, List, Option, Some, None, unwrap_or}
 use Rattle.ss_sentences.specs.Typed as typed
 use Rattle.ss_prompt.specs.declared.commands.PromptCommand.{PromptCommand}
-use Rattle.ss_prompt.specs.declared.commands.PromptCommand.TheVariants.{Value, Until, Meant}
+use Rattle.ss_prompt.specs.declared.commands.PromptCommand.TheVariants.{Value, Until, BreakWhen, Meant}
 use Rattle.ss_prompt.specs.declared.manner.Manner.TheVariants.{History}
 use Rattle.ss_prompt.specs.Manners.{words_before}
 use Rattle.ss_prompt.specs.Meant.{text_with_rows}
@@ -17,6 +17,7 @@ history_place (Some x) = None
 abbrev pub text_place : PromptCommand → Option (ℕ × Bool)
 text_place (Value text numbered) = Some (1, false)
 text_place (Until way text numbered) = Some (2, true)
+text_place (BreakWhen place text numbered) = Some (3, true)
 text_place (Meant History text numbered) = history_place (text_with_rows text)
 text_place (Meant manner text numbered) = Some (words_before manner, false)
 text_place command = None

@@ -74,11 +74,10 @@ on_list make (Err m) = Err m
 abbrev pub members_asked : ProgramTable → List ℕ → Option ℤ → Result Question Missing
 members_asked program name owner = on_list (λ s. Shown (plain.Set s owner)) (listed program name owner)
 
--- c k; a set in the place of a class is asked for the list of owner k
+-- c k
 abbrev pub entity_asked : ProgramTable → List ℕ → ℤ → Result Question Missing
 entity_asked program name x =
-    if is_some (class_named program name) then Ok (Shown (plain.Entity name x)) else
-    if is_some (set_named program name) then members_asked program name (Some x) else Err (missing.Class name)
+    if is_some (class_named program name) then Ok (Shown (plain.Entity name x)) else Err (missing.Class name)
 
 -- c k a, by the number of the class
 abbrev pub attribute_asked : ProgramTable → List ℕ → ℤ → List ℕ → Option ℕ → Result Question Missing
@@ -105,6 +104,11 @@ asked_of_program program (Count name owner) = on_list (λ s. Count s owner) (lis
 abbrev pub bare_asked : ProgramTable → List ℕ → Question
 bare_asked program name =
     if is_some (set_named program name) then Shown (plain.Set name None) else Shown (plain.Variable name)
+
+-- what a bare name asks, if there is one, as a program has its names
+abbrev pub bare_question : ProgramTable → Option (List ℕ) → Option (Result Question Missing)
+bare_question program None = None
+bare_question program (Some name) = Some (asked_of_program program (bare_asked program name))
 
 -- ---- the text on a missing name
 

@@ -1,5 +1,5 @@
 -- TBREAK: forward to a line, which is a break line for that once.
-use Rattle.std.specs.Prelude.{ℕ, ◌≡◌, ◌⊎◌, Bool, true, false, List, ◌++◌, if◌then◌else◌}
+use Rattle.std.specs.Prelude.{ℕ, ◌≡◌, ◌⊎◌, Bool, true, false, List, [], ◌++◌, if◌then◌else◌}
 use Rattle.ss_state.specs.Run.{Input}
 use Rattle.ss_debug.specs.AfterRefusal.{IsStateAfterRefusal}
 use Rattle.ss_debug.specs.BreakLines.{is_break_line}
@@ -44,17 +44,28 @@ IsRunRefused state line was after =
 
 -- ---- TBREAK
 
--- the state after BREAK of the line
-abbrev pub once_set : PromptState → ℕ → PromptState
-once_set state line = with_debugger state (debugger_state_after state.input state.debugger (Break line))
+-- a debugger after BREAK of the line, if it is no break line: one that is keeps its condition
+abbrev pub set_unless : Input → DebuggerState → ℕ → Bool → DebuggerState
+set_unless input debugger line true = debugger
+set_unless input debugger line false = debugger_state_after input debugger (Break line)
 
--- whether that made it a break line: BREAK takes 1,000 lines at most
-abbrev pub is_taken : PromptState → ℕ → Bool
-is_taken state line = is_break_line (once_set state line).debugger.breaks line
+-- the answer to that BREAK
+abbrev pub set_said_unless : Input → DebuggerState → ℕ → Bool → List ℕ
+set_said_unless input debugger line true = []
+set_said_unless input debugger line false = answer input debugger (Break line)
 
--- whether the line was one before
+-- whether the line is a break line before TBREAK
 abbrev pub was_taken : PromptState → ℕ → Bool
 was_taken state line = is_break_line state.debugger.breaks line
+
+-- the state after BREAK of the line
+abbrev pub once_set : PromptState → ℕ → PromptState
+once_set state line =
+    with_debugger state (set_unless state.input state.debugger line (was_taken state line))
+
+-- whether the line is a break line then: BREAK takes 1,000 lines at most
+abbrev pub is_taken : PromptState → ℕ → Bool
+is_taken state line = is_break_line (once_set state line).debugger.breaks line
 
 -- the debugger after TBREAK; if BREAK does not take the line, after BREAK only
 abbrev pub once_left : PromptState → ℕ → DebuggerState
@@ -70,7 +81,7 @@ once_next state line = with_debugger state (once_left state line)
 abbrev pub once_said : PromptState → ℕ → List ℕ
 once_said state line =
     if is_taken state line then once_stop_said (once_set state line) line (was_taken state line)
-    else answer state.input state.debugger (Break line)
+    else set_said_unless state.input state.debugger line (was_taken state line)
 
 -- if memory was refused: for BREAK, after it, or after it took the line
 unfoldable pub IsOnceRefused : PromptState → ℕ → PromptState → Type 0

@@ -1,7 +1,10 @@
 -- The state of the prompt, and the text at a stop.
-use Rattle.std.specs.Prelude.{ℕ, ◌≡◌, List, [], ◌∷◌, ◌++◌, codes, Option, None}
+use Rattle.std.specs.Prelude.{ℕ, ◌≡◌, List, [], ◌∷◌, ◌++◌, codes, Option, Some, None}
 use Rattle.ss_state.specs.Run.{Input, run}
-use Rattle.ss_trace.specs.declared.question.Question.{Question}
+use Rattle.ss_prompt.specs.declared.shown.Shown.{Shown}
+use Rattle.ss_prompt.specs.declared.shown.Shown.TheVariants.{Asked, Text}
+use Rattle.ss_expressions.specs.Meanings.{Meant, meant, refused, meaning_asked}
+use Rattle.ss_expressions.specs.Displayed.{displayed}
 use Rattle.ss_trace.specs.Question.{answer_at}
 use Rattle.ss_debug.specs.Answer.{state_line}
 use Rattle.ss_debug.specs.Move.{line_at}
@@ -24,7 +27,7 @@ pub record PromptState : Type 0 where
   -- the position of the debugger, the steps that it keeps, and its break lines
   pub debugger : DebuggerState
   -- the questions that are answered at each stop
-  pub displays : List Question
+  pub displays : List Shown
   -- the last line that LIST printed, if no movement came after it
   pub listed : Option ℕ
   -- the text of the data, if it is known
@@ -34,7 +37,7 @@ pub record PromptState : Type 0 where
 
 -- the state of the prompt for a debugger with this model, these lines, these questions, this text of
 -- the data and this symbol table; LIST printed nothing
-abbrev pub prompt_state_of : DebuggerView → List ℕ → List (List ℕ) → List Question → Option (List ℕ) → Option Symbols →
+abbrev pub prompt_state_of : DebuggerView → List ℕ → List (List ℕ) → List Shown → Option (List ℕ) → Option Symbols →
     PromptState
 prompt_state_of debugger model lines displays data_text symbols = record {
   model = model;
@@ -54,7 +57,7 @@ pub record PromptDeskView : Type 0 where
   -- the lines of the model
   pub lines : List (List ℕ)
   -- the questions that are answered at each stop
-  pub displays : List Question
+  pub displays : List Shown
   -- the last line that LIST printed, if no movement came after it
   pub listed : Option ℕ
   -- the text of the data, if it is known
@@ -63,7 +66,7 @@ pub record PromptDeskView : Type 0 where
   pub symbols : Option Symbols
 
 -- the same desk, with other questions
-abbrev pub with_questions : PromptDeskView → List Question → PromptDeskView
+abbrev pub with_questions : PromptDeskView → List Shown → PromptDeskView
 with_questions desk displays =
     record {
       model = desk.model;
@@ -100,9 +103,10 @@ state_at debugger desk = record {
 }
 
 -- the state of the prompt for a lent debugger, in the run of a model, with these questions; the
--- text of the data is not known, and no symbol table is kept
-abbrev pub lent_state : DebuggerView → List ℕ → List Question → PromptState
-lent_state debugger model displays = prompt_state_of debugger model (source_lines model) displays None None
+-- text of the data is not known
+abbrev pub lent_state : DebuggerView → List ℕ → Symbols → List Shown → PromptState
+lent_state debugger model symbols displays =
+    prompt_state_of debugger model (source_lines model) displays None (Some symbols)
 
 -- a state of the prompt, with the debugger in another state
 abbrev pub with_debugger : PromptState → DebuggerState → PromptState
@@ -119,7 +123,7 @@ with_debugger state debugger =
     }
 
 -- a state of the prompt, with other questions
-abbrev pub with_displays : PromptState → List Question → PromptState
+abbrev pub with_displays : PromptState → List Shown → PromptState
 with_displays state displays =
     record {
       model = state.model;
@@ -161,10 +165,25 @@ IsSameBeside state after =
 abbrev pub source_line : PromptState → List ℕ
 source_line state = marked_line state.lines (codes "> ") (line_at state.input state.debugger.position)
 
--- the answers to some questions in state p
-abbrev pub answers_to : Input → ℕ → List Question → List ℕ
-answers_to input p [] = []
-answers_to input p (x ∷ xs) = answer_at input x p ++ answers_to input p xs
+-- what a text means, with its value in state p
+abbrev pub meant_shown : Input → ℕ → List ℕ → Option Meant → List ℕ
+meant_shown input p text (Some (meant meaning)) = displayed input.program (run input p) text meaning
+meant_shown input p text _ = []
+
+-- a text that was asked in section number q, with its value by a symbol table, if one is kept
+abbrev pub text_shown : Option Symbols → Input → ℕ → List ℕ → ℕ → List ℕ
+text_shown None input p text q = []
+text_shown (Some symbols) input p text q = meant_shown input p text (meaning_asked symbols input.program q text)
+
+-- what is printed at a stop in state p
+abbrev pub shown_at : Option Symbols → Input → ℕ → Shown → List ℕ
+shown_at symbols input p (Asked x) = answer_at input x p
+shown_at symbols input p (Text text q) = text_shown symbols input p text q
+
+-- all that is printed there
+abbrev pub answers_to : Option Symbols → Input → ℕ → List Shown → List ℕ
+answers_to symbols input p [] = []
+answers_to symbols input p (x ∷ xs) = shown_at symbols input p x ++ answers_to symbols input p xs
 
 -- the meaning of a state's fault, and the thing that it is about, if the state is faulted
 abbrev pub fault_told : Option (List ℕ) → Input → ℕ → List ℕ
@@ -175,7 +194,7 @@ fault_told data_text input p = fault_text input.program (run input p) data_text 
 abbrev pub place_text : PromptState → List ℕ
 place_text state =
     fault_told state.data_text state.input state.debugger.position ++ source_line state
-    ++ answers_to state.input state.debugger.position state.displays
+    ++ answers_to state.symbols state.input state.debugger.position state.displays
 
 -- the text at a terminal before the first line: that HELP lists the commands, the warnings on the
 -- model, and the state of the debugger

@@ -2,11 +2,13 @@
 use Rattle.std.specs.Prelude.{ℕ, ◌≡◌, List, Bool, false, Option}
 use Rattle.ss_debug.specs.declared.commands.Command.TheVariants.{Break, Clear}
 use Rattle.ss_debug.specs.Turn.{is_quit as is_plain_quit}
-use Rattle.ss_trace.specs.Question.{answer_at}
+use Rattle.ss_trace.specs.Question.{answer_at, question_text}
+use Rattle.ss_prompt.specs.declared.shown.Shown.TheVariants.{Asked}
 use Rattle.ss_console.specs.Meaning.{Meaning}
 use Rattle.ss_prompt.specs.declared.commands.PromptCommand.{PromptCommand}
 use Rattle.ss_prompt.specs.declared.commands.PromptCommand.TheVariants.{Plain, Travel, Once, Lines, SectionLines}
-use Rattle.ss_prompt.specs.declared.commands.PromptCommand.TheVariants.{BreakSection, ClearSection, ClearAll, Breaks}
+use Rattle.ss_prompt.specs.declared.commands.PromptCommand.TheVariants.{BreakSection, BreakWhen, ClearSection, ClearAll}
+use Rattle.ss_prompt.specs.declared.commands.PromptCommand.TheVariants.{Breaks}
 use Rattle.ss_prompt.specs.declared.commands.PromptCommand.TheVariants.{Changed, Missing, NoPlace}
 use Rattle.ss_prompt.specs.declared.commands.PromptCommand.TheVariants.{LinesBetween, UndisplayOne, Unread, Value, Until, Meant}
 use Rattle.ss_prompt.specs.declared.commands.PromptCommand.TheVariants.{Ask, See, Why, History, Display, Undisplay}
@@ -18,6 +20,7 @@ use Rattle.ss_prompt.specs.Travel.{travel_next, travel_said, IsTravelRefused}
 use Rattle.ss_prompt.specs.Once.{once_said, once_next, IsOnceRefused}
 use Rattle.ss_prompt.specs.Sections.{on_section_said, on_section_next}
 use Rattle.ss_prompt.specs.Breaks.{breaks_said}
+use Rattle.ss_prompt.specs.BreakWhen.{when_said, when_next}
 use Rattle.ss_prompt.specs.Cleared.{clear_all_said, clear_all_next, IsClearRefused}
 use Rattle.ss_prompt.specs.Listing.{lines_said, lines_between_said, section_lines_said}
 use Rattle.ss_prompt.specs.Listed.{listed_after}
@@ -48,6 +51,7 @@ prompt_answer state (Lines line) = lines_said state line
 prompt_answer state (LinesBetween from to) = lines_between_said state from to
 prompt_answer state (SectionLines name) = section_lines_said state name
 prompt_answer state (BreakSection name) = on_section_said state Break name
+prompt_answer state (BreakWhen place text numbered) = when_said state place text numbered
 prompt_answer state (NoPlace line next) = no_place_text line next
 prompt_answer state (ClearSection name) = on_section_said state Clear name
 prompt_answer state ClearAll = clear_all_said state
@@ -58,9 +62,9 @@ prompt_answer state Changed = changed_said state
 prompt_answer state (Why x) = why_said state x
 prompt_answer state (Cause command) = cause_said state command
 prompt_answer state (History x rows) = history_said state x rows
-prompt_answer state (Display q) = display_said state q
+prompt_answer state (Display q) = display_said state (Asked q)
 prompt_answer state Undisplay = undisplay_said state
-prompt_answer state (UndisplayOne q) = undisplay_one_said state q
+prompt_answer state (UndisplayOne q) = undisplay_one_said state (question_text q)
 prompt_answer state (Value text numbered) = value_said state text numbered
 prompt_answer state (Until way text numbered) = until_said state way text numbered
 prompt_answer state (Meant manner text numbered) = meant_said state manner text numbered
@@ -80,11 +84,12 @@ state_led state (Until way text numbered) = until_next state way text
 state_led state (Meant manner text numbered) = meant_next state manner text
 state_led state (Cause command) = cause_next state command
 state_led state (BreakSection name) = on_section_next state Break name
+state_led state (BreakWhen place text numbered) = when_next state place text
 state_led state (ClearSection name) = on_section_next state Clear name
 state_led state ClearAll = clear_all_next state
-state_led state (Display q) = display_next state q
+state_led state (Display q) = display_next state (Asked q)
 state_led state Undisplay = undisplay_next state
-state_led state (UndisplayOne q) = undisplay_one_next state q
+state_led state (UndisplayOne q) = undisplay_one_next state (question_text q)
 state_led state _ = state
 
 -- the state after a command

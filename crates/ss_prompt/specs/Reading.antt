@@ -1,5 +1,5 @@
 -- The command that a line of the prompt gives.
-use Rattle.std.specs.Prelude.{ℕ, ℤ, Bool, false, not, List, [], ◌∷◌, length, map, drop, Option, Some, None}
+use Rattle.std.specs.Prelude.{ℕ, Bool, false, not, List, [], ◌∷◌, length, map, drop, Option, Some, None}
 use Rattle.std.specs.Prelude.{if◌then◌else◌, nat_lt, codes}
 use Rattle.std.specs.Prelude.{nat_eq, nat_le, is_some, Result, Ok, Err}
 use Rattle.std.specs.Char.{to_ascii_uppercase}
@@ -9,8 +9,8 @@ use Rattle.ss_debug.specs.CommandLines.{command_words}
 use Rattle.ss_debug.specs.Command.{command_of}
 use Rattle.ss_debug.specs.declared.commands.Command.{Command}
 use Rattle.ss_debug.specs.declared.commands.Command.TheVariants.{Bad, Move, Break, Show}
-use Rattle.ss_debug.specs.declared.commands.Question.TheVariants.{Entity, Set}
-use Rattle.ss_debug.specs.Entities.{class_named, set_named}
+use Rattle.ss_debug.specs.declared.commands.Question.TheVariants.{Entity}
+use Rattle.ss_debug.specs.Entities.{class_named}
 use Rattle.ss_debug.specs.declared.commands.Movement.TheVariants.{Step, RunTo}
 use Rattle.ss_trace.specs.declared.movement.Movement.TheVariants.{Over, Out, BackOver, BackOut, BackTo, Go, GoEnd}
 use Rattle.ss_trace.specs.declared.movement.Movement.TheVariants.{RunChange, BackChange}
@@ -24,7 +24,7 @@ use Rattle.ss_prompt.specs.Missing.{asked_of_program, bare_asked, is_declared}
 use Rattle.ss_prompt.specs.Advice.{verb_of, has_number}
 use Rattle.ss_prompt.specs.Places.{next_line}
 use Rattle.ss_prompt.specs.Words.{command_or_bad, command_behind, line_behind, only_name_of}
-use Rattle.ss_prompt.specs.Asked.{own_asked, asked_in, asked_of, question_in}
+use Rattle.ss_prompt.specs.Asked.{own_asked, asked_of, question_in}
 use Rattle.ss_prompt.specs.Histories.{with_rows}
 use Rattle.ss_prompt.specs.Causes.{asks_cause}
 use Rattle.ss_prompt.specs.declared.causes.CauseCommand.TheVariants as causes
@@ -33,11 +33,13 @@ use Rattle.ss_prompt.specs.Cuts.{whole_line, first_whole_line}
 use Rattle.ss_prompt.specs.Manners.{words_before}
 use Rattle.ss_prompt.specs.declared.manner.Manner.{Manner}
 use Rattle.ss_prompt.specs.declared.manner.Manner.TheVariants as manners
+use Rattle.ss_prompt.specs.declared.break_place.BreakPlace.{BreakPlace}
+use Rattle.ss_prompt.specs.declared.break_place.BreakPlace.TheVariants as place
 use Rattle.ss_prompt.specs.declared.until.Until.{Until as Way}
 use Rattle.ss_prompt.specs.declared.until.Until.TheVariants as way
 use Rattle.ss_prompt.specs.declared.commands.PromptCommand.{PromptCommand}
 use Rattle.ss_prompt.specs.declared.commands.PromptCommand.TheVariants.{Plain, Travel, Lines, SectionLines}
-use Rattle.ss_prompt.specs.declared.commands.PromptCommand.TheVariants.{BreakSection, ClearSection, ClearAll}
+use Rattle.ss_prompt.specs.declared.commands.PromptCommand.TheVariants.{BreakSection, BreakWhen, ClearSection, ClearAll}
 use Rattle.ss_prompt.specs.declared.commands.PromptCommand.TheVariants.{Breaks, Once, Cause}
 use Rattle.ss_prompt.specs.declared.commands.PromptCommand.TheVariants.{Changed, Missing, NoPlace}
 use Rattle.ss_prompt.specs.declared.commands.PromptCommand.TheVariants.{LinesBetween, UndisplayOne, Unread, Value, Until, Meant}
@@ -96,16 +98,14 @@ abbrev pub asked_command : (AskedQuestion → PromptCommand) → Result AskedQue
 asked_command make (Ok x) = make x
 asked_command make (Err m) = Missing m
 
--- a command on the question that some words ask, if they ask one
-abbrev pub question_command : ProgramTable → (AskedQuestion → PromptCommand) → List (List ℕ) → PromptCommand
-question_command program make words = made_or_bad (asked_command make) (asked_in program words)
-
 -- a command on a question, by its manner
 abbrev pub made_by : Manner → AskedQuestion → PromptCommand
 made_by manners.Why x = Why x
 made_by manners.History x = History x ROWS_UNLESS_SAID
 made_by manners.RunChange x = Travel (RunChange x)
 made_by manners.BackChange x = Travel (BackChange x)
+made_by manners.Display x = Display x
+made_by manners.Undisplay x = UndisplayOne x
 
 -- a command on what a text of some words asks
 abbrev pub text_command : Manner → List (List ℕ) → PromptCommand
@@ -224,7 +224,7 @@ clear_command (word ∷ rest) = made_or_bad ClearSection (only_name_of (word ∷
 -- the words after UNDISPLAY: none, or a question
 abbrev pub undisplay_command : ProgramTable → List (List ℕ) → PromptCommand
 undisplay_command program [] = Undisplay
-undisplay_command program (word ∷ rest) = question_command program UndisplayOne (word ∷ rest)
+undisplay_command program (word ∷ rest) = manner_command program manners.Undisplay (word ∷ rest)
 
 -- a command on a line with a place, or the next one that has one
 abbrev pub placed : PromptCommand → ℕ → Option ℕ → PromptCommand
@@ -235,6 +235,29 @@ placed command line (Some next) = if nat_eq next line then command else NoPlace 
 abbrev pub once_of : ProgramTable → Command → PromptCommand
 once_of program (Break line) = placed (Once line) line (next_line program line)
 once_of program _ = bad
+
+-- BREAK of a place, with a condition that some words may be
+abbrev pub when_at : BreakPlace → List (List ℕ) → Bool → PromptCommand
+when_at place words numbered = made_or_bad (λ text. BreakWhen place text numbered) (line_behind [] words)
+
+-- BREAK with a condition, of a line as BREAK takes it, or else of the section of a name
+abbrev pub when_by : ProgramTable → Command → Option (List ℕ) → List (List ℕ) → Bool → PromptCommand
+when_by program (Break line) name words numbered =
+    placed (when_at (place.Line line) words numbered) line (next_line program line)
+when_by program _ name words numbered = made_or_bad (λ n. when_at (place.Section n) words numbered) name
+
+-- BREAK of the line or the section that a word is, with a condition
+abbrev pub when_command : ProgramTable → List ℕ → List (List ℕ) → Bool → PromptCommand
+when_command program word words numbered =
+    when_by program (command_behind (codes "BREAK") (word ∷ [])) (only_name_of (word ∷ [])) words numbered
+
+-- the words after BREAK that is none of docs/DEBUGGER.md: a section, or a place, WHEN and a condition
+abbrev pub break_words_command : ProgramTable → List (List ℕ) → PromptCommand
+break_words_command program [] = bad
+break_words_command program (word ∷ []) = made_or_bad BreakSection (only_name_of (word ∷ []))
+break_words_command program (word ∷ when ∷ words) =
+    if bytes_eq when (codes "WHEN") then when_command program word words (has_number (word ∷ when ∷ words))
+    else made_or_bad BreakSection (only_name_of (word ∷ when ∷ words))
 
 -- the command in the words of a line that is none of docs/DEBUGGER.md
 unfoldable pub own_in_words : ProgramTable → List (List ℕ) → PromptCommand
@@ -250,11 +273,11 @@ own_in_words program (verb ∷ rest) =
     if bytes_eq verb (codes "GO") then go_command rest else
     if bytes_eq verb (codes "READS") then alone Reads rest else
     if bytes_eq verb (codes "LIST") then list_command rest else
-    if bytes_eq verb (codes "BREAK") then made_or_bad BreakSection (only_name_of rest) else
+    if bytes_eq verb (codes "BREAK") then break_words_command program rest else
     if bytes_eq verb (codes "CLEAR") then clear_command rest else
     if bytes_eq verb (codes "BREAKS") then alone Breaks rest else
     if bytes_eq verb (codes "TBREAK") then once_of program (command_behind (codes "BREAK") rest) else
-    if bytes_eq verb (codes "DISPLAY") then question_command program Display rest else
+    if bytes_eq verb (codes "DISPLAY") then manner_command program manners.Display rest else
     if bytes_eq verb (codes "UNDISPLAY") then undisplay_command program rest else
     if bytes_eq verb (codes "NAMES") then names_command rest else
     if bytes_eq verb (codes "WARNINGS") then alone Warnings rest else
@@ -264,17 +287,9 @@ own_in_words program (verb ∷ rest) =
 abbrev pub break_command : ℕ → Option ℕ → PromptCommand
 break_command line next = placed (Plain (Break line)) line next
 
--- c k; c may be a set
-abbrev pub entity_command : ProgramTable → List ℕ → ℤ → PromptCommand
-entity_command program name x =
-    if is_some (class_named program name) then Plain (Show (Entity name x)) else
-    if is_some (set_named program name) then Plain (Show (Set name (Some x))) else Plain (Show (Entity name x))
-
--- a command of docs/DEBUGGER.md as it is meant at the prompt: BREAK needs a line with a place, and
--- a set may come in place of a class
+-- a command of docs/DEBUGGER.md as it is meant at the prompt: BREAK needs a line with a place
 unfoldable pub plain_meant : ProgramTable → Command → PromptCommand
 plain_meant program (Break line) = break_command line (next_line program line)
-plain_meant program (Show (Entity name x)) = entity_command program name x
 plain_meant program command = Plain command
 
 -- a command of docs/DEBUGGER.md stays one; else another is tried

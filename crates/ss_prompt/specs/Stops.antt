@@ -36,7 +36,7 @@ changes_told true state = stop_changes_ahead state.input state.debugger.position
 abbrev pub stop_text : Bool → PromptState → List ℕ
 stop_text is_back state =
     fault_told state.data_text state.input state.debugger.position ++ past_told state ++ source_line state
-    ++ changes_told is_back state ++ answers_to state.input state.debugger.position state.displays
+    ++ changes_told is_back state ++ answers_to state.symbols state.input state.debugger.position state.displays
 
 -- the answer to SHOW CHANGED
 abbrev pub changed_said : PromptState → List ℕ

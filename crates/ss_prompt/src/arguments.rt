@@ -5,14 +5,14 @@ ghost use Rattle.ss_prompt.specs.Words.{command_behind, only_name_of};
 ghost use Rattle.ss_prompt.specs.Reading.{made_or_bad, alone, over_of, back_over_of, back_to_of};
 ghost use Rattle.ss_prompt.specs.Reading.{go_command, back_command, list_command, names_command, help_command};
 ghost use Rattle.ss_prompt.specs.Reading.{run_command, sight_command, show_command, bare_command};
-ghost use Rattle.ss_prompt.specs.Reading.{seen_command, question_command, history_by, history_command};
+ghost use Rattle.ss_prompt.specs.Reading.{seen_command, history_by, history_command};
 ghost use Rattle.ss_prompt.specs.Reading.{made_by, text_command, manner_command, is_rows_of, longest_in};
 ghost use Rattle.ss_prompt.specs.Reading.{undisplay_command, clear_command, lines_between, until_command};
 ghost use Rattle.ss_prompt.specs.Asked.{own_asked};
 ghost use Rattle.ss_prompt.specs.declared.commands.PromptCommand.TheVariants as prompt;
 
 use crate::advice::has_number;
-use crate::asked::{asked, asked_in, own_asked, question_in};
+use crate::asked::{asked, own_asked, question_in};
 use crate::causes::CauseCommand;
 use crate::commands::PromptCommand;
 use crate::histories::{ROWS_UNLESS_SAID, with_rows};
@@ -107,6 +107,8 @@ pub(crate) fn made_by(manner: Manner, question: Question) -> PromptCommand
         Manner::History => PromptCommand::History(question, ROWS_UNLESS_SAID),
         Manner::RunChange => PromptCommand::Travel(Movement::RunChange(question)),
         Manner::BackChange => PromptCommand::Travel(Movement::BackChange(question)),
+        Manner::Display => PromptCommand::Display(question),
+        Manner::Undisplay => PromptCommand::UndisplayOne(question),
     }
 }
 
@@ -329,16 +331,6 @@ pub(crate) fn list(rest: &[u8]) -> PromptCommand
     )
 }
 
-/// The words after BREAK: the name of a section.
-pub(crate) fn break_section(rest: &[u8]) -> PromptCommand
-    ensures { result ≡ made_or_bad prompt.BreakSection (only_name_of (command_words rest.now)) }
-{
-    match only_name(rest) {
-        Some(name) => PromptCommand::BreakSection(name),
-        None => PromptCommand::Plain(Command::Bad),
-    }
-}
-
 /// The words after CLEAR: none, or the name of a section.
 pub(crate) fn clear(rest: &[u8]) -> PromptCommand
     ensures { result ≡ clear_command (command_words rest.now) }
@@ -352,29 +344,14 @@ pub(crate) fn clear(rest: &[u8]) -> PromptCommand
     }
 }
 
-/// The words after DISPLAY: a question.
-pub(crate) fn display(program: &Program, rest: &[u8]) -> PromptCommand
-    ensures { result ≡ question_command program.now prompt.Display (command_words rest.now) }
-{
-    match asked_in(program, rest) {
-        None => PromptCommand::Plain(Command::Bad),
-        Some(Ok(question)) => PromptCommand::Display(question),
-        Some(Err(missing)) => PromptCommand::Missing(missing),
-    }
-}
-
-/// The words after UNDISPLAY: none, or a question.
+/// The words after UNDISPLAY: none, or a question, or else a text.
 pub(crate) fn undisplay(program: &Program, rest: &[u8]) -> PromptCommand
     ensures { result ≡ undisplay_command program.now (command_words rest.now) }
 {
     if next_word(rest).is_none() {
         return PromptCommand::Undisplay;
     }
-    match asked_in(program, rest) {
-        None => PromptCommand::Plain(Command::Bad),
-        Some(Ok(question)) => PromptCommand::UndisplayOne(question),
-        Some(Err(missing)) => PromptCommand::Missing(missing),
-    }
+    on_question(program, Manner::Undisplay, rest)
 }
 
 /// The words after NAMES: none, or a name.

@@ -2,10 +2,10 @@
 ghost use Rattle.std.specs.Prelude.{◌≡◌};
 ghost use Rattle.ss_debug.specs.CommandLines.{command_words};
 ghost use Rattle.ss_prompt.specs.Asked.{attribute_asked, count_asked, own_asked, asked_of};
-ghost use Rattle.ss_prompt.specs.Asked.{question_in, asked_or_bare, asked_in};
+ghost use Rattle.ss_prompt.specs.Asked.{question_in};
 
 use crate::line::{command_behind, command_of_two, only_name};
-use crate::missing::{Missing, asked_of_program, bare};
+use crate::missing::{Missing, asked_of_program};
 use crate::pieces::next_word;
 use ss_debug::{Command, Question as PlainQuestion};
 use ss_program::Program;
@@ -62,24 +62,5 @@ pub(crate) fn question_in(program: &Program, words: &[u8]) -> Option<Result<Ques
     ensures { result ≡ question_in program.now (command_words words.now) }
 {
     let question = asked(words)?;
-    Some(asked_of_program(program, question))
-}
-
-/// The question that the words of a line ask, a bare name too.
-fn asked_or_bare(program: &Program, words: &[u8]) -> Option<Question>
-    ensures { result ≡ asked_or_bare program.now (command_words words.now) }
-{
-    if let Some(question) = asked(words) {
-        return Some(question);
-    }
-    let name = only_name(words)?;
-    Some(bare(program, name))
-}
-
-/// That question as a program has its names, or which of them it hasn't.
-pub(crate) fn asked_in(program: &Program, words: &[u8]) -> Option<Result<Question, Missing>>
-    ensures { result ≡ asked_in program.now (command_words words.now) }
-{
-    let question = asked_or_bare(program, words)?;
     Some(asked_of_program(program, question))
 }

@@ -1,19 +1,15 @@
 //! The commands of the prompt, one of which each line gives.
 ghost use Rattle.std.specs.Prelude.{◌≡◌};
-ghost use Rattle.ss_debug.specs.CommandLines.{command_words};
-ghost use Rattle.ss_prompt.specs.Points.{bare_or_unread};
-ghost use Rattle.ss_prompt.specs.Sections.{line_of_section, taken_line};
-ghost use Rattle.ss_prompt.specs.Words.{only_name_of};
 
-use crate::arguments::made_by;
+use crate::break_place::BreakPlace;
 use crate::causes::CauseCommand;
-use crate::line::{Line, only_name};
+use crate::line::Line;
 use crate::manner::Manner;
-use crate::missing::{Missing, asked_of_program, bare};
-use crate::sections::line_of_section;
+use crate::missing::Missing;
+use crate::sections::taken_line_of;
 use crate::sight::Sight;
 use crate::until::Until;
-use ss_debug::{Command, GREATEST_LINE, Name};
+use ss_debug::{Command, Name};
 use ss_program::Program;
 use ss_trace::{Movement, Question};
 
@@ -34,6 +30,10 @@ pub enum PromptCommand {
     SectionLines(Name),
     /// BREAK r: makes the line of the first place of the section of this name a break line.
     BreakSection(Name),
+    /// BREAK l WHEN c, BREAK r WHEN c: makes the line there a break line that stops only in states
+    /// in which a condition holds, if the text is one. The flag says whether a number is among its
+    /// words.
+    BreakWhen(BreakPlace, Line, bool),
     /// BREAK of a line without a place, and the next line that has one.
     NoPlace(u32, Option<usize>),
     /// CLEAR r: that line is no break line any more.
@@ -84,7 +84,7 @@ pub enum PromptCommand {
 }
 
 impl PromptCommand {
-    ghost use Rattle.ss_prompt.specs.Points.{is_movement, point_of, without_symbols};
+    ghost use Rattle.ss_prompt.specs.Points.{is_movement, point_of};
 
     /// Whether it moves the debugger to another state of the run.
     pub fn is_movement(&self) -> bool
@@ -99,22 +99,6 @@ impl PromptCommand {
         }
     }
 
-    /// The command as it is if no symbol table is kept: no text is a condition then, and a bare name
-    /// is that of a variable or a set.
-    pub fn without_symbols(self, program: &Program) -> PromptCommand
-        ensures { result ≡ without_symbols program.now self }
-    {
-        match self {
-            PromptCommand::Meant(manner, text, is_numbered) => {
-                bare_or_unread(program, manner, text.as_slice(), is_numbered)
-            }
-            PromptCommand::Until(way, _, is_numbered) => {
-                PromptCommand::Unread(way.word(), is_numbered)
-            }
-            other => other,
-        }
-    }
-
     /// The line that it makes a break line, or no break line any more, if it does one of these or
     /// both.
     pub fn point(&self, program: &Program) -> Option<u32>
@@ -124,39 +108,10 @@ impl PromptCommand {
             PromptCommand::Plain(Command::Break(line)) => Some(*line),
             PromptCommand::Plain(Command::Clear(line)) => Some(*line),
             PromptCommand::Once(line) => Some(*line),
-            PromptCommand::BreakSection(name) => point_in(program, name.as_slice()),
-            PromptCommand::ClearSection(name) => point_in(program, name.as_slice()),
+            PromptCommand::BreakSection(name) => taken_line_of(program, name.as_slice()),
+            PromptCommand::BreakWhen(place, _, _) => place.line(program),
+            PromptCommand::ClearSection(name) => taken_line_of(program, name.as_slice()),
             _ => None,
         }
     }
-}
-
-/// A command on the question that a bare name asks, if a text is one; else it is no command.
-fn bare_or_unread(
-    program: &Program,
-    manner: Manner,
-    text: &[u8],
-    is_numbered: bool,
-) -> PromptCommand
-    ensures { result ≡ bare_or_unread program.now manner is_numbered
-        (only_name_of (command_words text.now)) }
-{
-    let Some(name) = only_name(text) else {
-        return PromptCommand::Unread(manner.word(), is_numbered);
-    };
-    match asked_of_program(program, bare(program, name)) {
-        Ok(question) => made_by(manner, question),
-        Err(missing) => PromptCommand::Missing(missing),
-    }
-}
-
-/// The line of the first place of the section of this name, if BREAK and CLEAR take it.
-fn point_in(program: &Program, name: &[u8]) -> Option<u32>
-    ensures { result ≡ taken_line (line_of_section program.now name.now) }
-{
-    let line = line_of_section(program, name)?;
-    if line > GREATEST_LINE as usize {
-        return None;
-    }
-    Some(line as u32)
 }

@@ -10,7 +10,7 @@ use ss_program::{Class, Name, Program, Section, Set};
 use std::alloc::AllocError;
 
 /// The words after other first words than SHOW.
-const OTHER_WORDS: &[u8] = b"TO CHANGE UNTIL EVENT FIRST END CAUSE";
+const OTHER_WORDS: &[u8] = b"TO CHANGE UNTIL EVENT FIRST END CAUSE WHEN";
 
 /// Appends a word, and the end of its line.
 fn push_word(text: &mut Vec<u8>, word: &[u8]) -> Result<(), AllocError>

@@ -10,11 +10,11 @@ ghost use Rattle.ss_prompt.specs.PromptState.{place_text, greeting};
 ghost use Rattle.ss_prompt.specs.Stops.{changes_told, stop_text, HasLookedBeside, IsStopRefused};
 ghost use Rattle.ss_prompt.specs.Plain.{plain_next, plain_said, IsPlainRefused};
 ghost use Rattle.ss_prompt.specs.Travel.{travel_next, travel_said, IsTravelRefused};
-ghost use Rattle.ss_prompt.specs.Sights.{sight_said};
 ghost use Rattle.ss_prompt.specs.Names.{warnings_told};
 ghost use Rattle.ss_prompt.specs.Valued.{Suits};
 ghost use Rattle.ss_prompt.specs.Prompting.{prompt_answer, state_led, prompt_state_after, IsRefused, is_quit};
 
+mod break_when;
 mod causes;
 mod changes;
 mod cleared;
@@ -37,8 +37,7 @@ use crate::missing::push_missing;
 use crate::names::push_all_warnings;
 use crate::places::push_no_place;
 use crate::sections::present_line;
-use crate::seeing::push_sight;
-use crate::sight::Sight;
+use crate::shown::Shown;
 use crate::source::push_marked_line;
 use crate::stops::{goes_back, travels_back};
 use ss_changes::{push_stop_changes, push_stop_changes_ahead};
@@ -59,7 +58,7 @@ use std::mem::swap;
 pub(crate) struct PromptDesk<'a> {
     model: &'a [u8],
     lines: Vec<&'a [u8]>,
-    displays: Vec<Question>,
+    displays: Vec<Shown>,
     listed: Option<usize>,
     data_text: Option<&'a [u8]>,
     symbols: Option<&'a SymbolTable>,
@@ -129,7 +128,7 @@ impl<'a> PromptDesk<'a> {
     }
 
     /// Takes other questions that are answered at each stop, and gives its own for them.
-    pub fn swap_displays(&mut self, displays: &mut Vec<Question>)
+    pub fn swap_displays(&mut self, displays: &mut Vec<Shown>)
         ensures taken { self.new ≡ with_questions self.old displays.old.items }
         ensures given { displays.new.items ≡ self.old.displays }
     {
@@ -170,12 +169,13 @@ impl<'a> PromptDesk<'a> {
         debugger: &Debugger<S>,
         text: &mut Vec<u8>,
     ) -> Result<(), AllocError>
+        requires { Suits debugger.now.machine.input.program self.now.symbols }
         ensures { OnOk result (text.new.items
             ≡ text.old.items ++ place_text (state_at debugger.now self.now)) }
     {
         self.push_fault(debugger, text)?;
         self.push_source(debugger, text)?;
-        push_answers(debugger, &self.displays, text)
+        push_answers(debugger, self.symbols, &self.displays, text)
     }
 
     /// Appends the changes of the last step; if a movement went back, the changes of the next one.
@@ -208,6 +208,7 @@ impl<'a> PromptDesk<'a> {
         is_back: bool,
         answer: &mut Vec<u8>,
     ) -> Result<(), AllocError>
+        requires { Suits debugger.old.machine.input.program self.now.symbols }
         ensures place { OnOk result (state_at debugger.new self.now
             ≡ state_at debugger.old self.now) }
         ensures said { OnOk result (answer.new.items
@@ -219,7 +220,7 @@ impl<'a> PromptDesk<'a> {
         self.push_past(debugger, answer)?;
         self.push_source(debugger, answer)?;
         self.push_changes(debugger, is_back, answer)?;
-        push_answers(debugger, &self.displays, answer)
+        push_answers(debugger, self.symbols, &self.displays, answer)
     }
 
     /// Appends the warnings on the model.
@@ -242,6 +243,7 @@ impl<'a> PromptDesk<'a> {
         debugger: &Debugger<S>,
         text: &mut Vec<u8>,
     ) -> Result<(), AllocError>
+        requires { Suits debugger.now.machine.input.program self.now.symbols }
         ensures { OnOk result (text.new.items
             ≡ text.old.items ++ greeting (state_at debugger.now self.now)) }
     {
@@ -259,6 +261,7 @@ impl<'a> PromptDesk<'a> {
         command: Command,
         answer: &mut Vec<u8>,
     ) -> Result<Go, AllocError>
+        requires { Suits debugger.old.machine.input.program self.now.symbols }
         ensures place { OnOk result (state_at debugger.new self.now
             ≡ plain_next (state_at debugger.old self.now) command) }
         ensures said { OnOk result (answer.new.items
@@ -293,6 +296,7 @@ impl<'a> PromptDesk<'a> {
         movement: Movement,
         answer: &mut Vec<u8>,
     ) -> Result<(), AllocError>
+        requires { Suits debugger.old.machine.input.program self.now.symbols }
         ensures place { OnOk result (state_at debugger.new self.now
             ≡ travel_next (state_at debugger.old self.now) movement) }
         ensures said { OnOk result (answer.new.items
@@ -303,19 +307,6 @@ impl<'a> PromptDesk<'a> {
         let is_back = travels_back(&movement, debugger.machine().position());
         make_movement(debugger, movement, answer)?;
         self.push_stop(debugger, is_back, answer)
-    }
-
-    /// SHOW of another sight.
-    fn see<S: SetBoard>(
-        &self,
-        debugger: &Debugger<S>,
-        sight: Sight,
-        answer: &mut Vec<u8>,
-    ) -> Result<(), AllocError>
-        ensures { OnOk result (answer.new.items ≡ answer.old.items
-            ++ sight_said sight debugger.now.machine.input (position debugger.now.machine)) }
-    {
-        push_sight(self.alloc, answer, debugger.machine(), sight)
     }
 
     /// Does the work of a command, and appends its whole answer. Where LIST goes on stays as it is.
@@ -347,7 +338,11 @@ impl<'a> PromptDesk<'a> {
                 return Ok(Go::On);
             }
             PromptCommand::Meant(manner, text, is_numbered) => {
-                self.follow_text(debugger, manner, &text, is_numbered, answer)?;
+                self.follow_text(debugger, manner, text, is_numbered, answer)?;
+                return Ok(Go::On);
+            }
+            PromptCommand::BreakWhen(place, text, is_numbered) => {
+                self.break_when(debugger, &place, &text, is_numbered, answer)?;
                 return Ok(Go::On);
             }
             PromptCommand::Cause(command) => {
@@ -375,7 +370,7 @@ impl<'a> PromptDesk<'a> {
             PromptCommand::History(question, rows) => {
                 self.history(debugger, &question, rows, answer)
             }
-            PromptCommand::Display(question) => self.display(question, answer),
+            PromptCommand::Display(question) => self.display(Shown::Asked(question), answer),
             PromptCommand::Undisplay => self.undisplay(answer),
             PromptCommand::UndisplayOne(question) => self.undisplay_one(question, answer),
             PromptCommand::Missing(missing) => push_missing(answer, &missing),

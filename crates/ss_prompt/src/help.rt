@@ -6,7 +6,7 @@ use ss_debug::Name;
 use std::alloc::AllocError;
 
 /// A row for each form of a command: the word that it begins with; its form, and its effect.
-pub const HELP_ROWS: [(&[u8], &[u8]); 72] = [
+pub const HELP_ROWS: [(&[u8], &[u8]); 74] = [
     (b"STEP", b"STEP [n]: n steps forward, 1 if not said"),
     (
         b"RUN",
@@ -67,6 +67,10 @@ pub const HELP_ROWS: [(&[u8], &[u8]); 72] = [
     ),
     (b"BREAK", b"BREAK l: stop at line l"),
     (b"BREAK", b"BREAK r: stop at the first place of section r"),
+    (
+        b"BREAK",
+        b"BREAK l WHEN c, BREAK r WHEN c: stop there only if condition c holds",
+    ),
     (b"CLEAR", b"CLEAR l: no stop at line l any more"),
     (
         b"CLEAR",
@@ -156,6 +160,10 @@ pub const HELP_ROWS: [(&[u8], &[u8]); 72] = [
     (
         b"DISPLAY",
         b"DISPLAY x: answer x at each stop; x is a question, as in SHOW x",
+    ),
+    (
+        b"DISPLAY",
+        b"DISPLAY e: print expression or condition e at each stop",
     ),
     (b"UNDISPLAY", b"UNDISPLAY: answer nothing at stops any more"),
     (b"UNDISPLAY", b"UNDISPLAY x: answer x at stops no more"),

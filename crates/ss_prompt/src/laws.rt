@@ -7,7 +7,7 @@ ghost use Rattle.ss_prompt.specs.Laws.{MissingVariablesAreAnsweredSo, MissingLis
 ghost use Rattle.ss_prompt.specs.Laws.{MissingClassesAreAnsweredSo, MissingAttributesAreAnsweredSo};
 
 /// A line that is a command of docs/DEBUGGER.md is that command at the prompt, but for BREAK of a
-/// line without a place, and for a set in the place of a class.
+/// line without a place.
 pub fn plain_lines_stay()
     ensures stay { PlainLinesStay }
     ensures few { FewAreMeantOtherwise }

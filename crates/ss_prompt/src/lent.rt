@@ -1,5 +1,6 @@
 //! A command is obeyed with a debugger that is lent.
 ghost use Rattle.std.specs.Prelude.{◌≡◌, ◌⊎◌, ◌++◌, map, OnOk, OnErr, IfOk};
+ghost use Rattle.ss_check.specs.Asked.{IsSymbolsOf};
 ghost use Rattle.ss_console.specs.Going.{go_of};
 ghost use Rattle.ss_prompt.specs.PromptState.{lent_state, unlisted};
 ghost use Rattle.ss_prompt.specs.Prompting.{prompt_answer, prompt_state_after, IsRefused, is_quit};
@@ -7,36 +8,50 @@ ghost use Rattle.ss_prompt.specs.Source.{source_lines};
 
 use crate::commands::PromptCommand;
 use crate::desk::PromptDesk;
+use crate::shown::Shown;
 use crate::source::source_lines;
+use ss_check::SymbolTable;
 use ss_console::Go;
 use ss_debug::Debugger;
 use ss_links::SetBoard;
-use ss_trace::Question;
 use std::alloc::{AllocError, Global};
+
+/// The model in whose run a debugger is lent.
+#[derive(Clone, Copy)]
+pub struct LentModel<'a> {
+    /// Its bytes.
+    pub text: &'a [u8],
+    /// Its symbol table.
+    pub symbols: &'a SymbolTable,
+}
 
 /// Does the work of a command, in the run of a model with these lines.
 fn answer_with<'a, S: SetBoard>(
     alloc: Global,
     debugger: &mut Debugger<S>,
-    model: &'a [u8],
+    model: LentModel<'a>,
     lines: Vec<&'a [u8]>,
-    displays: &mut Vec<Question>,
+    displays: &mut Vec<Shown>,
     command: PromptCommand,
     answer: &mut Vec<u8>,
 ) -> Result<Go, AllocError>
-    requires { map (λ l. l.now) lines.items ≡ source_lines model.now }
+    requires symbols { IsSymbolsOf debugger.old.machine.input.program model.symbols.now }
+    requires lines { map (λ l. l.now) lines.items ≡ source_lines model.text.now }
     ensures input { debugger.new.machine.input ≡ debugger.old.machine.input }
-    ensures place { OnOk result (lent_state debugger.new model.now displays.new.items
-        ≡ unlisted (prompt_state_after (lent_state debugger.old model.now displays.old.items)
-        command)) }
+    ensures place { OnOk result (lent_state debugger.new model.entry.text.now
+        model.entry.symbols.now displays.new.items
+        ≡ unlisted (prompt_state_after (lent_state debugger.old model.entry.text.now
+        model.entry.symbols.now displays.old.items) command)) }
     ensures said { OnOk result (answer.new.items ≡ answer.old.items
-        ++ prompt_answer (lent_state debugger.old model.now displays.old.items) command) }
+        ++ prompt_answer (lent_state debugger.old model.entry.text.now
+        model.entry.symbols.now displays.old.items) command) }
     ensures go { IfOk result (λ go. go ≡ go_of (is_quit command)) }
-    ensures memory { OnErr result (IsRefused
-        (lent_state debugger.old model.now displays.old.items) command
-        (lent_state debugger.new model.now displays.new.items)) }
+    ensures memory { OnErr result (IsRefused (lent_state debugger.old model.entry.text.now
+        model.entry.symbols.now displays.old.items) command
+        (lent_state debugger.new model.entry.text.now
+        model.entry.symbols.now displays.new.items)) }
 {
-    let mut desk = PromptDesk::new(alloc, model, lines, None, None);
+    let mut desk = PromptDesk::new(alloc, model.text, lines, None, Some(model.symbols));
     desk.swap_displays(displays);
     let obeyed = desk.obey(debugger, command, answer);
     desk.swap_displays(displays);
@@ -53,23 +68,30 @@ fn answer_with<'a, S: SetBoard>(
 pub fn answer_command<S: SetBoard>(
     alloc: Global,
     debugger: &mut Debugger<S>,
-    model: &[u8],
-    displays: &mut Vec<Question>,
+    model: LentModel<'_>,
+    displays: &mut Vec<Shown>,
     command: PromptCommand,
     answer: &mut Vec<u8>,
 ) -> Result<Go, AllocError>
+    requires { IsSymbolsOf debugger.old.machine.input.program model.symbols.now }
     ensures input { debugger.new.machine.input ≡ debugger.old.machine.input }
-    ensures place { OnOk result (lent_state debugger.new model.now displays.new.items
-        ≡ unlisted (prompt_state_after (lent_state debugger.old model.now displays.old.items)
-        command)) }
+    ensures place { OnOk result (lent_state debugger.new model.entry.text.now
+        model.entry.symbols.now displays.new.items
+        ≡ unlisted (prompt_state_after (lent_state debugger.old model.entry.text.now
+        model.entry.symbols.now displays.old.items) command)) }
     ensures said { OnOk result (answer.new.items ≡ answer.old.items
-        ++ prompt_answer (lent_state debugger.old model.now displays.old.items) command) }
+        ++ prompt_answer (lent_state debugger.old model.entry.text.now
+        model.entry.symbols.now displays.old.items) command) }
     ensures go { IfOk result (λ go. go ≡ go_of (is_quit command)) }
-    ensures memory { OnErr result ((lent_state debugger.new model.now displays.new.items
-        ≡ lent_state debugger.old model.now displays.old.items)
-        ⊎ IsRefused (lent_state debugger.old model.now displays.old.items) command
-        (lent_state debugger.new model.now displays.new.items)) }
+    ensures memory { OnErr result ((lent_state debugger.new model.entry.text.now
+        model.entry.symbols.now displays.new.items
+        ≡ lent_state debugger.old model.entry.text.now
+        model.entry.symbols.now displays.old.items)
+        ⊎ IsRefused (lent_state debugger.old model.entry.text.now
+        model.entry.symbols.now displays.old.items) command
+        (lent_state debugger.new model.entry.text.now
+        model.entry.symbols.now displays.new.items)) }
 {
-    let lines = source_lines(alloc, model)?;
+    let lines = source_lines(alloc, model.text)?;
     answer_with(alloc, debugger, model, lines, displays, command, answer)
 }

@@ -5,6 +5,8 @@ mod advice;
 mod arguments;
 mod asked;
 mod break_list;
+mod break_place;
+mod break_words;
 mod causes;
 mod commands;
 mod completions;
@@ -29,12 +31,14 @@ mod read;
 mod refusal;
 mod sections;
 mod seeing;
+mod shown;
 mod sight;
 mod source;
 mod stops;
 mod taken;
 mod until;
 
+pub use break_place::{BreakPlace, section_on};
 pub use causes::CauseCommand;
 pub use commands::PromptCommand;
 pub use completions::push_completions;
@@ -43,12 +47,14 @@ pub use laws::{
     other_commands_leave_the_debugger, plain_answers_come_first, plain_lines_answer_the_batch,
     plain_lines_stay, plain_texts_answer_the_batch, what_is_missing_is_answered_so,
 };
-pub use lent::answer_command;
+pub use lent::{LentModel, answer_command};
 pub use line::Line;
 pub use manner::Manner;
-pub use missing::{Missing, asked_of_program, push_missing};
+pub use misread::line_misread;
+pub use missing::{Missing, asked_of_program, bare_question, push_missing};
 pub use prompt::Prompt;
 pub use read::prompt_command;
+pub use shown::Shown;
 pub use sight::Sight;
 pub use source::{push_marked_line, source_lines};
 pub use until::Until;

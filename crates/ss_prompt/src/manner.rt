@@ -17,6 +17,10 @@ pub enum Manner {
     RunChange,
     /// BACK CHANGE: back to the last change.
     BackChange,
+    /// DISPLAY: its value is printed at each stop.
+    Display,
+    /// UNDISPLAY: its value is printed at stops no more.
+    Undisplay,
 }
 
 impl Manner {
@@ -29,6 +33,8 @@ impl Manner {
             Manner::History => b"HISTORY",
             Manner::RunChange => b"RUN",
             Manner::BackChange => b"BACK",
+            Manner::Display => b"DISPLAY",
+            Manner::Undisplay => b"UNDISPLAY",
         }
     }
 

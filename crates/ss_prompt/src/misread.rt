@@ -17,7 +17,7 @@ fn meant_place(manner: Manner, text: &[u8]) -> Option<(usize, bool)>
 {
     match manner {
         Manner::RunChange | Manner::BackChange => Some((2, false)),
-        Manner::Why => Some((1, false)),
+        Manner::Why | Manner::Display | Manner::Undisplay => Some((1, false)),
         Manner::History => match text_with_rows(text) {
             None => Some((1, false)),
             Some(_) => None,
@@ -33,6 +33,7 @@ fn text_place(command: &PromptCommand) -> Option<(usize, bool)>
     match command {
         PromptCommand::Value(..) => Some((1, false)),
         PromptCommand::Until(..) => Some((2, true)),
+        PromptCommand::BreakWhen(..) => Some((3, true)),
         PromptCommand::Meant(manner, text, _) => meant_place(*manner, text.as_slice()),
         _ => None,
     }
@@ -41,7 +42,7 @@ fn text_place(command: &PromptCommand) -> Option<(usize, bool)>
 /// Why the text in a line with this command is not what it has to be, if there is a text and it is
 /// not: the answer to the line. `AllocError` if memory was refused, which is only if there is a text.
 #[tactic(auto, unfolding(crate::specs::Misread::line_misread))]
-pub(crate) fn line_misread(
+pub fn line_misread(
     alloc: Global,
     command: &PromptCommand,
     line: &[u8],

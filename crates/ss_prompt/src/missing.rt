@@ -4,12 +4,15 @@ ghost use Rattle.std.specs.List.{list_any};
 ghost use Rattle.std.specs.Str.{bytes_eq};
 ghost use Rattle.ss_program.specs.declared.kinds.Owner.TheVariants.{OwnedBy};
 ghost use Rattle.ss_program.specs.Program.{is_same_owner};
+ghost use Rattle.ss_debug.specs.CommandLines.{command_words};
 ghost use Rattle.ss_debug.specs.Entities.{class_named, set_named, no_entity_text};
 ghost use Rattle.ss_inspect.specs.Texts.{no_such_text};
 ghost use Rattle.ss_debug.specs.declared.commands.Question.TheVariants as plain;
 ghost use Rattle.ss_trace.specs.declared.question.Question.TheVariants as trace;
 ghost use Rattle.ss_prompt.specs.Missing as spec;
+ghost use Rattle.ss_prompt.specs.Words.{only_name_of};
 
+use crate::line::only_name;
 use ss_debug::{Name, Question as PlainQuestion, find_class, find_set, push_integer};
 use ss_program::{Name as DeclaredName, Owner, Program, Section};
 use ss_trace::Question;
@@ -160,15 +163,12 @@ fn count(program: &Program, name: Name, owner: Option<i64>) -> Result<Question, 
     Ok(Question::Count(name, owner))
 }
 
-/// `c k`; a set in the place of a class is asked for the list of owner k.
+/// `c k`.
 fn entity(program: &Program, name: Name, x: i64) -> Result<Question, Missing>
     ensures { result ≡ spec.entity_asked program.now name x }
 {
     if is_class(program, name.as_slice()) {
         return Ok(Question::Shown(PlainQuestion::Entity(name, x)));
-    }
-    if is_set(program, name.as_slice()) {
-        return members(program, name, Some(x));
     }
     Err(Missing::Class(name))
 }
@@ -204,9 +204,9 @@ fn shown(program: &Program, question: PlainQuestion) -> Result<Question, Missing
     }
 }
 
-/// A question as a program has its names, before any run: a set in place of a class is asked for
-/// the list of an owner. The error is the first of its names that the program hasn't. For a list of
-/// the system that is asked for by a number, the error is that number.
+/// A question as a program has its names, before any run. The error is the first of its names that
+/// the program hasn't. For a list of the system that is asked for by a number, the error is that
+/// number.
 #[tactic(auto, unfolding(crate::specs::Missing::asked_of_program))]
 pub fn asked_of_program(program: &Program, question: Question) -> Result<Question, Missing>
     ensures { result ≡ spec.asked_of_program program.now question }
@@ -226,6 +226,15 @@ pub(crate) fn bare(program: &Program, name: Name) -> Question
         return Question::Shown(PlainQuestion::Set(name, None));
     }
     Question::Shown(PlainQuestion::Variable(name))
+}
+
+/// The question that a text asks, if it is a bare name, as a program has its names; or that name, if
+/// the program hasn't it. `None` if the text is no bare name.
+pub fn bare_question(program: &Program, text: &[u8]) -> Option<Result<Question, Missing>>
+    ensures { result ≡ spec.bare_question program.now (only_name_of (command_words text.now)) }
+{
+    let name = only_name(text)?;
+    Some(asked_of_program(program, bare(program, name)))
 }
 
 /// Appends that there is nothing of this kind and this name.

@@ -32,13 +32,14 @@ pub struct Prompt<'a, S: SetBoard> {
 
 impl<'a, S: SetBoard> Model for Prompt<'a, S> {
     ghost use Rattle.std.specs.Coded.{codes};
+    ghost use Rattle.ss_debug.specs.contracts.break_condition.BreakCondition as one;
     ghost use Rattle.ss_program.specs.contracts.program.Program as checked;
     ghost use Rattle.ss_prompt.specs.PromptState.{PromptState, state_at};
     ghost use Rattle.ss_prompt.specs.Valued.{Suits};
 
     ghost Value = { PromptState };
 
-    ghost coded = { Prim.hlevel (codes, checked.the_row.coded) };
+    ghost coded = { Prim.hlevel (codes, checked.the_row.coded, one.the_row.coded) };
 
     ghost view = { λ p. state_at p.debugger p.desk };
 

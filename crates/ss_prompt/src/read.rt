@@ -2,7 +2,7 @@
 ghost use Rattle.std.specs.Prelude.{◌≡◌, [], codes, drop};
 ghost use Rattle.ss_debug.specs.CommandLines.{command_words};
 ghost use Rattle.ss_prompt.specs.Reading.{own_in_words, own_of_whole, own_command_of, placed, once_of};
-ghost use Rattle.ss_prompt.specs.Reading.{entity_command, plain_meant, first_whole_command_of};
+ghost use Rattle.ss_prompt.specs.Reading.{plain_meant, first_whole_command_of};
 ghost use Rattle.ss_prompt.specs.Reading.{text_asked, show_value, unread_or_value, written_command, or_value};
 ghost use Rattle.ss_prompt.specs.Manners.{words_before};
 ghost use Rattle.ss_prompt.specs.Reading.{advised, plain_command_of, prompt_command_of};
@@ -11,24 +11,23 @@ ghost use Rattle.ss_prompt.specs.Words.{command_behind, line_behind};
 
 use crate::advice::{has_number, verb_of};
 use crate::arguments::{
-    alone, back, break_section, clear, display, go, help, history, list, names, over, run, show,
-    undisplay,
+    alone, back, clear, go, help, history, list, names, on_question, over, run, show, undisplay,
 };
+use crate::break_words::break_words;
 use crate::causes::why;
 use crate::commands::PromptCommand;
 use crate::cuts::{first_whole_line, whole_line};
 use crate::line::{Line, command_behind};
 use crate::manner::Manner;
-use crate::missing::{is_class, is_set};
 use crate::pieces::next_word;
 use crate::places::next_line;
 use ss_console::LONGEST_LINE;
-use ss_debug::{Command, Name, Question as PlainQuestion, command};
+use ss_debug::{Command, Name, command};
 use ss_program::Program;
 use ss_trace::Movement;
 
 /// A command on a line with a place, or the next line that has one.
-fn placed(program: &Program, line: u32, command: PromptCommand) -> PromptCommand
+pub(crate) fn placed(program: &Program, line: u32, command: PromptCommand) -> PromptCommand
     ensures { result ≡ placed command line (next_line program.now line) }
 {
     let next = next_line(program, line as usize);
@@ -87,7 +86,7 @@ fn own_in_words(program: &Program, line: &[u8]) -> PromptCommand
         return list(rest);
     }
     if verb == b"BREAK".as_slice() {
-        return break_section(rest);
+        return break_words(program, rest);
     }
     if verb == b"CLEAR".as_slice() {
         return clear(rest);
@@ -99,7 +98,7 @@ fn own_in_words(program: &Program, line: &[u8]) -> PromptCommand
         return once(program, rest);
     }
     if verb == b"DISPLAY".as_slice() {
-        return display(program, rest);
+        return on_question(program, Manner::Display, rest);
     }
     if verb == b"UNDISPLAY".as_slice() {
         return undisplay(program, rest);
@@ -116,20 +115,7 @@ fn own_in_words(program: &Program, line: &[u8]) -> PromptCommand
     PromptCommand::Plain(Command::Bad)
 }
 
-/// `c k`; c may be a set.
-fn entity_command(program: &Program, name: Name, x: i64) -> PromptCommand
-    ensures { result ≡ entity_command program.now name x }
-{
-    let question = if !is_class(program, name.as_slice()) && is_set(program, name.as_slice()) {
-        PlainQuestion::Set(name, Some(x))
-    } else {
-        PlainQuestion::Entity(name, x)
-    };
-    PromptCommand::Plain(Command::Show(question))
-}
-
-/// A command of docs/DEBUGGER.md as it is meant at the prompt: BREAK needs a line with a place,
-/// and a set may come in place of a class.
+/// A command of docs/DEBUGGER.md as it is meant at the prompt: BREAK needs a line with a place.
 #[tactic(auto, unfolding(crate::specs::Reading::plain_meant))]
 fn plain_meant(program: &Program, command: Command) -> PromptCommand
     ensures { result ≡ plain_meant program.now command }
@@ -138,7 +124,6 @@ fn plain_meant(program: &Program, command: Command) -> PromptCommand
         Command::Break(line) => {
             placed(program, line, PromptCommand::Plain(Command::Break(line)))
         }
-        Command::Show(PlainQuestion::Entity(name, x)) => entity_command(program, name, x),
         other => PromptCommand::Plain(other),
     }
 }

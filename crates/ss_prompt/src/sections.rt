@@ -3,8 +3,9 @@ ghost use Rattle.std.specs.Prelude.{◌≡◌, ◌++◌, ◌<◌, length, slice_
 ghost use Rattle.ss_debug.specs.Move.{line_at, spot_line};
 ghost use Rattle.ss_machine.specs.Moment.{position as moment_position};
 ghost use Rattle.ss_program.specs.Program.{section_of};
-ghost use Rattle.ss_prompt.specs.Sections.{no_section, first_line, last_line, line_of_section};
+ghost use Rattle.ss_prompt.specs.Sections.{no_section, first_line, last_line, line_of_section, taken_line};
 
+use ss_debug::GREATEST_LINE;
 use ss_links::SetBoard;
 use ss_machine::Machine;
 use ss_program::{Program, Spot};
@@ -29,7 +30,7 @@ pub(crate) fn head_line(program: &Program, section: usize) -> usize
 }
 
 /// The line of the first place of the section with this number.
-fn first_line(program: &Program, section: usize) -> usize
+pub(crate) fn first_line(program: &Program, section: usize) -> usize
     requires { section < length program.now.sections }
     ensures { result ≡ first_line program.now section }
 {
@@ -42,6 +43,17 @@ pub(crate) fn line_of_section(program: &Program, name: &[u8]) -> Option<usize>
 {
     let section = program.find_section(name)?;
     Some(first_line(program, section))
+}
+
+/// That line, if BREAK and CLEAR take it.
+pub(crate) fn taken_line_of(program: &Program, name: &[u8]) -> Option<u32>
+    ensures { result ≡ taken_line (line_of_section program.now name.now) }
+{
+    let line = line_of_section(program, name)?;
+    if line > GREATEST_LINE as usize {
+        return None;
+    }
+    Some(line as u32)
 }
 
 /// The line of its last place.

@@ -6,6 +6,7 @@ use Rattle.std.proofs.lemmas.Bool.{lt-ltb}
 use borrow.Author.Tests.{ltb-true}
 use Rattle.std.proofs.lemmas.Slice.Eq.{bytes_eq-Decides}
 use Rattle.ss_state.specs.Run.{Input}
+use Rattle.ss_debug.specs.BreakLines.{BreakPoint}
 use Rattle.ss_debug.specs.Move.{is_ready_at, is_stop, stops, stops_back}
 use Rattle.ss_debug.proofs.Moves.{or_false_left}
 use Rattle.ss_trace.specs.declared.question.Question.{Question}
@@ -22,13 +23,13 @@ same_turned xs ys =
 -- ---- forward
 
 -- whether a movement forward stops at q, k positions on, is seen there
-pub stops_here : (t u : Input) (bs cs : List ℕ) (test : ℕ → Bool) (p q k from : ℕ) (seen : Bool) → u ≡ t → cs ≡ bs →
+pub stops_here : (t u : Input) (bs cs : List BreakPoint) (test : ℕ → Bool) (p q k from : ℕ) (seen : Bool) → u ≡ t → cs ≡ bs →
     q ≡ p + k → from ≡ p → seen ≡ is_stop u (ahead_condition u cs test) from q →
     stops t (ahead_condition t bs test) p k ≡ seen
 stops_here t u bs cs test p q k from seen e f h i s = rw (s, e, f, h, i) refl
 
 -- if it does not stop there, the status is ready
-pub ready_here : (t : Input) (bs : List ℕ) (test : ℕ → Bool) (p q : ℕ) →
+pub ready_here : (t : Input) (bs : List BreakPoint) (test : ℕ → Bool) (p q : ℕ) →
     false ≡ is_stop t (ahead_condition t bs test) p q → is_ready_at t q ≡ true
 ready_here t bs test p q e = or_false_left (is_ready_at t q) _ _ (sym e)
 

@@ -3,6 +3,7 @@ use Rattle.std.proofs.Common.{◌≡◌, ℕ, zero, suc, ◌<◌, ◌≤◌, Boo
 use borrow.Author.Tests.{ltb-true, ltb-false}
 use Rattle.ss_state.specs.declared.limits.TheConstants.{LAST_POSITION}
 use Rattle.ss_state.specs.Run.{Input}
+use Rattle.ss_debug.specs.BreakLines.{BreakPoint}
 use Rattle.ss_debug.specs.declared.commands.Command.TheVariants.{Blank, Bad, Move, Break, Clear, Forget, Show, Quit}
 use Rattle.ss_debug.specs.declared.limits.TheConstants.{GREATEST_BOUND}
 use Rattle.ss_debug.specs.Move as debugger
@@ -39,7 +40,7 @@ over_step false b t p n q k c first rest = first
 over_step true true t p n q k c first rest = first
 over_step true false t p n q k c first rest = joined t p n q c.position first rest
 
-ahead_of : (t : Input) (breaks : List ℕ) (test : ℕ → Bool) (p n q : ℕ) →
+ahead_of : (t : Input) (breaks : List BreakPoint) (test : ℕ → Bool) (p n q : ℕ) →
     EndsAt t (ahead_condition t breaks test) p n q → IsAheadWithin t p n q
 ahead_of t breaks test p n q e = record {
   no_earlier = e.no_earlier;
@@ -49,7 +50,7 @@ ahead_of t breaks test p n q e = record {
 }
 
 -- the end of OVER, k times
-pub over_ends : (t : Input) (breaks : List ℕ) (k p n : ℕ) → p ≤ LAST_POSITION →
+pub over_ends : (t : Input) (breaks : List BreakPoint) (k p n : ℕ) → p ≤ LAST_POSITION →
     IsAheadWithin t p n (over t breaks k p n).position
 unfolding over
 over_ends t breaks zero p n o = record {

@@ -4,6 +4,7 @@ use Rattle.std.proofs.Common.{min}
 use Rattle.std.proofs.Common.{cond, ◌∙◌}
 use Rattle.ss_state.specs.declared.limits.TheConstants.{LAST_POSITION}
 use Rattle.ss_state.specs.Run.{Input}
+use Rattle.ss_debug.specs.BreakLines.{BreakPoint}
 use Rattle.ss_debug.specs.Move.{is_on_break, stops, stops_back, search_back_end}
 use Rattle.ss_debug.proofs.Moves.{least_within}
 use Rattle.ss_trace.specs.Movements.{counted_end, is_level, frames_at, ahead_condition, ahead_end, is_met, is_met_back}
@@ -12,7 +13,7 @@ use Rattle.ss_trace.specs.Movements.{over, back_over}
 -- ---- within the bound
 
 -- a movement forward ends within its bound
-pub ahead_within : (t : Input) (bs : List ℕ) (test : ℕ → Bool) (p n q : ℕ) → q ≡ ahead_end t bs test p n →
+pub ahead_within : (t : Input) (bs : List BreakPoint) (test : ℕ → Bool) (p n q : ℕ) → q ≡ ahead_end t bs test p n →
     (p ≤ q) × (q ≤ p + n)
 ahead_within t bs test p n q e =
     let w = least_within (stops t (ahead_condition t bs test) p) (min n (LAST_POSITION - p)) in
@@ -26,20 +27,20 @@ back_within test a p n q e =
 
 -- ---- OVER
 
-unmade : (t : Input) (bs : List ℕ) (k p n q : ℕ) → 0 < k → q ≡ ahead_end t bs (is_level t (frames_at t p)) p n →
+unmade : (t : Input) (bs : List BreakPoint) (k p n q : ℕ) → 0 < k → q ≡ ahead_end t bs (is_level t (frames_at t p)) p n →
     is_met (is_level t (frames_at t p)) p q ≡ false → over t bs k p n ≡ counted_end q k
 unfolding over
 unmade t bs zero p n q h e f = absurd (omega arith)
 unmade t bs (suc k) p n q h e f = rw (sym e, f) refl
 
-broken : (t : Input) (bs : List ℕ) (k r p n q : ℕ) → r ≡ k + 1 →
+broken : (t : Input) (bs : List BreakPoint) (k r p n q : ℕ) → r ≡ k + 1 →
     q ≡ ahead_end t bs (is_level t (frames_at t p)) p n → is_met (is_level t (frames_at t p)) p q ≡ true →
     is_on_break t bs q ≡ true → over t bs r p n ≡ counted_end q k
 unfolding over
 broken t bs k zero p n q h e f b = absurd (omega (arith, h))
 broken t bs k (suc r) p n q h e f b = let same : k ≡ r = omega (arith, h) in rw (same, sym e, f, b) refl
 
-goes_on : (t : Input) (bs : List ℕ) (k r p n q : ℕ) → r ≡ k + 1 →
+goes_on : (t : Input) (bs : List BreakPoint) (k r p n q : ℕ) → r ≡ k + 1 →
     q ≡ ahead_end t bs (is_level t (frames_at t p)) p n → is_met (is_level t (frames_at t p)) p q ≡ true →
     is_on_break t bs q ≡ false → over t bs r p n ≡ over t bs k q (n - (q - p))
 unfolding over
@@ -47,43 +48,43 @@ goes_on t bs k zero p n q h e f b = absurd (omega (arith, h))
 goes_on t bs k (suc r) p n q h e f b = let same : k ≡ r = omega (arith, h) in rw (same, sym e, f, b) refl
 
 -- if no part is left it ends at its start
-pub over_none : (t : Input) (bs : List ℕ) (k p n : ℕ) → k ≡ 0 → over t bs k p n ≡ counted_end p 0
+pub over_none : (t : Input) (bs : List BreakPoint) (k p n : ℕ) → k ≡ 0 → over t bs k p n ≡ counted_end p 0
 unfolding over
 over_none t bs k p n e = rw e refl
 
 -- one part more from p, as the debugger at hand sees it: its end, and whether it was made
-pub record IsOver (u : Input) (cs : List ℕ) (p n q : ℕ) (b : Bool) : Type 0 where
+pub record IsOver (u : Input) (cs : List BreakPoint) (p n q : ℕ) (b : Bool) : Type 0 where
   -- its end
   pub ended : q ≡ ahead_end u cs (is_level u (frames_at u p)) p n
   -- whether it was made
   pub made : b ≡ is_met (is_level u (frames_at u p)) p q
 
 -- if one more is not made it ends there
-pub over_unmade : (t u : Input) (bs cs : List ℕ) (k p n q : ℕ) (made : Bool) → u ≡ t → cs ≡ bs → 0 < k →
+pub over_unmade : (t u : Input) (bs cs : List BreakPoint) (k p n q : ℕ) (made : Bool) → u ≡ t → cs ≡ bs → 0 < k →
     IsOver u cs p n q made → made ≡ false → over t bs k p n ≡ counted_end q k
 over_unmade t u bs cs k p n q made e f h w m = rw (sym e, sym f) (unmade u cs k p n q h w.ended (sym w.made ∙ m))
 
 -- at a break line it ends, if one more is made
-pub over_at_break : (t u : Input) (bs cs : List ℕ) (k r p n q : ℕ) (made : Bool) → u ≡ t → cs ≡ bs → r ≡ k + 1 →
+pub over_at_break : (t u : Input) (bs cs : List BreakPoint) (k r p n q : ℕ) (made : Bool) → u ≡ t → cs ≡ bs → r ≡ k + 1 →
     IsOver u cs p n q made → made ≡ true → is_on_break u cs q ≡ true → over t bs r p n ≡ counted_end q k
 over_at_break t u bs cs k r p n q made e f h w m b =
     rw (sym e, sym f) (broken u cs k r p n q h w.ended (sym w.made ∙ m) b)
 
 -- else the others follow
-pub over_on : (t u : Input) (bs cs : List ℕ) (k r p n q : ℕ) (made : Bool) → u ≡ t → cs ≡ bs → r ≡ k + 1 →
+pub over_on : (t u : Input) (bs cs : List BreakPoint) (k r p n q : ℕ) (made : Bool) → u ≡ t → cs ≡ bs → r ≡ k + 1 →
     IsOver u cs p n q made → made ≡ true → is_on_break u cs q ≡ false →
     over t bs r p n ≡ over t bs k q (n - (q - p))
 over_on t u bs cs k r p n q made e f h w m b =
     rw (sym e, sym f) (goes_on u cs k r p n q h w.ended (sym w.made ∙ m) b)
 
-first_of_over : (u b : Bool) (t : Input) (bs : List ℕ) (k p n q r : ℕ) → q ≤ (over t bs k q r).position →
+first_of_over : (u b : Bool) (t : Input) (bs : List BreakPoint) (k p n q r : ℕ) → q ≤ (over t bs k q r).position →
     q ≤ (cond (not u) (counted_end q (suc k)) (cond b (counted_end q k) (over t bs k q r))).position
 first_of_over false b t bs k p n q r h = omega arith
 first_of_over true true t bs k p n q r h = omega arith
 first_of_over true false t bs k p n q r h = h
 
 -- it goes no further back than its start
-pub over_not_before : (t : Input) (bs : List ℕ) (k p n : ℕ) → p ≤ (over t bs k p n).position
+pub over_not_before : (t : Input) (bs : List BreakPoint) (k p n : ℕ) → p ≤ (over t bs k p n).position
 unfolding over
 over_not_before t bs zero p n = omega arith
 over_not_before t bs (suc k) p n =
@@ -93,7 +94,7 @@ over_not_before t bs (suc k) p n =
     (over_not_before t bs k q (n - (q - p))) in
     omega (arith, w.0, h)
 
-first_at : (t : Input) (bs : List ℕ) (k p n : ℕ) → 0 < k →
+first_at : (t : Input) (bs : List BreakPoint) (k p n : ℕ) → 0 < k →
     ahead_end t bs (is_level t (frames_at t p)) p n ≤ (over t bs k p n).position
 unfolding over
 first_at t bs zero p n h = absurd (omega arith)
@@ -103,7 +104,7 @@ first_at t bs (suc k) p n h =
     (over_not_before t bs k q (n - (q - p)))
 
 -- its first part ends no further on than all of it
-pub over_first : (t u : Input) (bs cs : List ℕ) (k p n q : ℕ) → u ≡ t → cs ≡ bs → 0 < k →
+pub over_first : (t u : Input) (bs cs : List BreakPoint) (k p n q : ℕ) → u ≡ t → cs ≡ bs → 0 < k →
     q ≤ ahead_end u cs (is_level u (frames_at u p)) p n → q ≤ (over t bs k p n).position
 over_first t u bs cs k p n q e f h o =
     rw (sym e, sym f) (let first = first_at u cs k p n h in omega (arith, o, first))

@@ -4,6 +4,7 @@
 use Rattle.std.specs.Prelude.{ℕ, ◌+◌, ◌≡◌, ◌<◌, ◌≤◌, ◌⊎◌, Bool, true, false, List, [], ◌∷◌}
 use Rattle.ss_state.specs.declared.limits.TheConstants.{LAST_POSITION}
 use Rattle.ss_state.specs.Run.{Input}
+use Rattle.ss_debug.specs.BreakLines.{BreakPoint}
 use Rattle.ss_debug.specs.declared.commands.Command.{Command}
 use Rattle.ss_debug.specs.declared.limits.TheConstants.{GREATEST_BOUND}
 use Rattle.ss_debug.specs.Move.{is_ready_at}
@@ -37,7 +38,8 @@ pub record IsBackWithin (earliest p n q : ℕ) : Type 0 where
 -- OVER, k times, ends there
 abbrev pub OverEnds : Type 0
 OverEnds =
-    (t : Input) (breaks : List ℕ) (k p n : ℕ) → p ≤ LAST_POSITION → IsAheadWithin t p n (over t breaks k p n).position
+    (t : Input) (breaks : List BreakPoint) (k p n : ℕ) → p ≤ LAST_POSITION →
+    IsAheadWithin t p n (over t breaks k p n).position
 
 -- and BACK OVER there
 abbrev pub BackOverEnds : Type 0

@@ -3,6 +3,7 @@ use Rattle.std.specs.Prelude.{ℕ, zero, suc, ◌+◌, ◌-◌, pos, int_lt, Boo
 use Rattle.std.specs.Prelude.{None, if◌then◌else◌, nat_lt, nat_le}
 use Rattle.ss_state.specs.declared.limits.TheConstants.{LAST_POSITION}
 use Rattle.ss_state.specs.Run.{Input, run}
+use Rattle.ss_debug.specs.BreakLines.{BreakPoint}
 use Rattle.ss_debug.specs.Move.{StopCondition, is_on_break, forward_end, search_back_end, step_condition}
 use Rattle.ss_debug.specs.Move.{MovementShape, forward, back, search_back}
 use Rattle.ss_trace.specs.declared.movement.Movement.{Movement}
@@ -36,7 +37,7 @@ has_changed input question q = nat_lt 0 q && changes_at input question (q - 1)
 -- ---- forward
 
 -- a movement forward stops at a state at which its test holds, and at a break line
-abbrev pub ahead_condition : Input → List ℕ → (ℕ → Bool) → StopCondition
+abbrev pub ahead_condition : Input → List BreakPoint → (ℕ → Bool) → StopCondition
 ahead_condition input breaks test = record {
   time = None;
   test = λ q. test q || is_on_break input breaks q;
@@ -45,7 +46,7 @@ ahead_condition input breaks test = record {
 }
 
 -- its end, from p within n steps
-abbrev pub ahead_end : Input → List ℕ → (ℕ → Bool) → ℕ → ℕ → ℕ
+abbrev pub ahead_end : Input → List BreakPoint → (ℕ → Bool) → ℕ → ℕ → ℕ
 ahead_end input breaks test p n = forward_end input (ahead_condition input breaks test) p n
 
 -- whether a movement forward from p to q ended at a state at which its test holds
@@ -70,7 +71,7 @@ abbrev pub counted_end : ℕ → ℕ → CountedEnd
 counted_end q k = record { position = q; left = k }
 
 -- OVER, k times within n steps: it ends early if a part is not made, and at a break line
-unfoldable pub over : Input → List ℕ → ℕ → ℕ → ℕ → CountedEnd
+unfoldable pub over : Input → List BreakPoint → ℕ → ℕ → ℕ → CountedEnd
 over input breaks zero p n = counted_end p 0
 over input breaks (suc k) p n =
     let level : ℕ → Bool = is_level input (frames_at input p) in

@@ -1,6 +1,7 @@
 -- The effect of a movement on the state of the debugger, and its answer.
 use Rattle.std.specs.Prelude.{ℕ, Bool, List, codes, if◌then◌else◌, nat_eq, ◌≡◌, ◌≤◌}
 use Rattle.ss_state.specs.Run.{Input}
+use Rattle.ss_debug.specs.BreakLines.{BreakPoint}
 use Rattle.ss_debug.specs.declared.limits.TheConstants.{GREATEST_BOUND}
 use Rattle.ss_debug.specs.Move.{is_ready_at, is_on_break, search_back_end}
 use Rattle.ss_debug.specs.Answer.{movement_text, earliest_word, search_back_word}
@@ -14,7 +15,7 @@ use Rattle.ss_trace.specs.Movements.{ahead_end, is_met}
 
 -- the word of a movement forward from p to q: HALTED if the status isn't ready, its own word if it
 -- met the state that it looks for, BREAK at a break line, else BOUND
-abbrev pub forward_word : List ℕ → Input → List ℕ → Bool → ℕ → ℕ → List ℕ
+abbrev pub forward_word : List ℕ → Input → List BreakPoint → Bool → ℕ → ℕ → List ℕ
 forward_word word input breaks met p q =
     if is_ready_at input q then
     (if met then word else
@@ -22,12 +23,12 @@ forward_word word input breaks met p q =
     else codes "HALTED"
 
 -- that word, if it looks for a state at which a test holds
-abbrev pub ahead_word : List ℕ → Input → List ℕ → (ℕ → Bool) → ℕ → ℕ → List ℕ
+abbrev pub ahead_word : List ℕ → Input → List BreakPoint → (ℕ → Bool) → ℕ → ℕ → List ℕ
 ahead_word word input breaks test p q = forward_word word input breaks (is_met test p q) p q
 
 -- the word of OVER from p: HALTED if the status isn't ready, DONE if all parts were made, BREAK at
 -- a break line, else BOUND
-abbrev pub over_word : Input → List ℕ → ℕ → CountedEnd → List ℕ
+abbrev pub over_word : Input → List BreakPoint → ℕ → CountedEnd → List ℕ
 over_word input breaks p end = forward_word (codes "DONE") input breaks (nat_eq end.left 0) p end.position
 
 -- the word of BACK OVER: DONE if all were made, else as at the earliest kept position, else BOUND

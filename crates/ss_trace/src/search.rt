@@ -1,6 +1,7 @@
 //! The effect of each movement.
 ghost use Rattle.std.specs.Prelude.{◌≡◌, ◌++◌, OnOk, OnErr, ℕ, List, codes};
 ghost use Rattle.ss_state.specs.Run.{Input};
+ghost use Rattle.ss_debug.specs.BreakLines.{BreakPoint};
 ghost use Rattle.ss_debug.specs.Move.{search_back, shape_of as standing_shape};
 ghost use Rattle.ss_debug.specs.Turn.{debugger_state_after_movement, movement_answer};
 ghost use Rattle.ss_debug.specs.AfterRefusal.{IsStateAfterRefusedMovement};
@@ -184,7 +185,8 @@ fn go_back_to_change<S: SetBoard>(
 
 /// The steps of GO from position `from`: a number of them back or forward.
 fn go_steps(from: u64, to: u64) -> Standing
-    ensures { (t : Input) → (breaks : List ℕ) → standing_shape t breaks result ≡ go_shape from to }
+    ensures { (t : Input) → (breaks : List BreakPoint) →
+        standing_shape t breaks result ≡ go_shape from to }
 {
     if to < from {
         Standing::Back(from - to)

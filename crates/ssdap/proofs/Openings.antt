@@ -1,9 +1,8 @@
 -- Launch, and turns of an editor.
 use Rattle.std.proofs.Common.{◌≡◌, ◌≢◌, ℕ, Bool, List, [], codes, refl, ◌∙◌, sym, ap, Option, Some, None, Result, Ok, Err}
-use Rattle.std.specs.Prelude.{MatchOption, option_map, IfOk}
+use Rattle.std.specs.Prelude.{MatchOption, IfOk}
 use Rattle.ss_state.specs.Run.{Input, input_with}
 use Rattle.ss_debug.specs.Turn.{DebuggerState, initial_debugger_state}
-use Rattle.ss_debug.specs.View.{DebuggerView, debugger_state_of}
 use Rattle.ss_session.specs.Load.{IsLoadFault}
 use Rattle.ss_session.specs.declared.load.LoadFault.{LoadFault}
 use Rattle.ss_session.specs.declared.load.LoadFault.TheVariants.{Memory}
@@ -18,7 +17,7 @@ use Rattle.ss_messages.specs.declared.counting.Counting.{Counting}
 use Rattle.ss_adapter.specs.declared.turns.Further.{Further}
 use Rattle.ss_adapter.specs.Desk.{DeskView}
 use Rattle.ss_adapter.specs.Before.{IsLaunched, IsRefusedLaunch, answer_to_launch, answers_before}
-use Rattle.ss_adapter.specs.Turn.{AdapterState, adapter_state_of, further_of}
+use Rattle.ss_adapter.specs.Turn.{AdapterState, further_of}
 use Rattle.ss_prompt.specs.Names.{warnings_told}
 use Rattle.ss_serve.specs.Meaning.{IsAnswer}
 use Rattle.ssdap.specs.Shelves.{Stands, Given}
@@ -34,28 +33,28 @@ same_state : (t u : Input) (d e : DebuggerState) (k j : DeskView) → t ≡ u �
     state_of t d k ≡ state_of u e j
 same_state t u d e k j p q r = rw (p, q, r) refl
 
--- a debugger and a desk at the start of a run are at the start
-starts : (model text path : List ℕ) (counting : Counting) (stops : Stops) (d : DebuggerView) (k : DeskView) →
-    IsLaunched model text path counting stops d k → IsStart path model text counting stops (adapter_state_of d k)
-starts model text path counting stops d k l =
-    let same = same_state d.machine.input _ (debugger_state_of d) _ k _ l.input l.start l.desk in
-    (d.machine.input.program, l.program, same)
+-- a run that was launched is at the start
+starts : (model text path : List ℕ) (counting : Counting) (stops : Stops) (s : AdapterState) →
+    IsLaunched model text path counting stops s → IsStart path model text counting stops s
+starts model text path counting stops s l =
+    let same = same_state s.input _ s.debugger _ s.desk _ l.input l.start l.desk in
+    (s.input.program, s.desk.symbols, l.program, same)
 
 -- the run that launch leaves, and the messages that it posts
 abbrev Launches : Request → List ℕ → List ℕ → List ℕ → Counting → Stops → PostView → PostView →
-    Option (DebuggerView × DeskView) → Type 0
+    Option AdapterState → Type 0
 Launches request path model text counting stops old new run =
     MatchOption run
     ((fault : LoadFault) × (fault ≢ Memory) × IsLoadFault fault model × IsRefusedLaunch fault model request old new)
-    (λ r. IsLaunched model text path counting stops r.0 r.1
-    × (new ≡ posted_all request old (answer_to_launch (warnings_told r.0.machine.input.program model))))
+    (λ s. IsLaunched model text path counting stops s
+    × (new ≡ posted_all request old (answer_to_launch (warnings_told s.input.program model))))
 
 -- a launch that leaves this run and posts these messages is one opening
 opens : (files : Option (List ℕ → Option (List ℕ))) (request : Request) (path : List ℕ)
     (data_path : Option (List ℕ)) (counting : Counting) (stops : Stops) (model text : List ℕ) (old new : PostView)
-    (run : Option (DebuggerView × DeskView)) → Stands files path (Some model) → Given files data_path (Some text) →
+    (run : Option AdapterState) → Stands files path (Some model) → Given files data_path (Some text) →
     Launches request path model text counting stops old new run →
-    IsOpened files request path data_path counting stops old new (option_map (λ r. adapter_state_of r.0 r.1) run)
+    IsOpened files request path data_path counting stops old new run
 opens files request path data_path counting stops model text old new None s g h = record {
   opening = refused h.0 h.3.0;
   opens = (model, text, s, g, h.1, h.2, h.3.1);
@@ -63,8 +62,8 @@ opens files request path data_path counting stops model text old new None s g h 
   run_is = refl;
 }
 opens files request path data_path counting stops model text old new (Some r) s g h = record {
-  opening = opened (adapter_state_of r.0 r.1);
-  opens = (model, text, s, g, starts model text path counting stops r.0 r.1 h.0);
+  opening = opened r;
+  opens = (model, text, s, g, starts model text path counting stops r h.0);
   posted = rw (ap (λ k. k.model) h.0.desk) h.1;
   run_is = refl;
 }
@@ -72,11 +71,10 @@ opens files request path data_path counting stops model text old new (Some r) s 
 -- an opening, from the result of launch on texts that are equal to these
 pub launch_opens : (files : Option (List ℕ → Option (List ℕ))) (request : Request) (path : List ℕ)
     (data_path : Option (List ℕ)) (counting : Counting) (stops : Stops) (model text : List ℕ) (old new : PostView)
-    {E : Type 0} (result : Result (Option (DebuggerView × DeskView)) E) (at over held : List ℕ) → at ≡ path →
+    {E : Type 0} (result : Result (Option AdapterState) E) (at over held : List ℕ) → at ≡ path →
     over ≡ model → held ≡ text → Stands files path (Some model) → Given files data_path (Some text) →
     IfOk result (λ run. Launches request at over held counting stops old new run) →
-    IfOk result (λ run. IsOpened files request path data_path counting stops old new
-    (option_map (λ r. adapter_state_of r.0 r.1) run))
+    IfOk result (λ run. IsOpened files request path data_path counting stops old new run)
 launch_opens files request path data_path counting stops model text old new (Ok run) at over held p m t s g h =
     opens files request path data_path counting stops model text old new run s g (rw (p, m, t) at h)
 launch_opens files request path data_path counting stops model text old new (Err fault) at over held p m t s g h = tt

@@ -1,10 +1,11 @@
 -- The answers to the requests of an editor: before a run is launched, and about that run.
 use Rattle.std.specs.Prelude.{ℕ, ◌≡◌, ◌≢◌, Bool, true, false, not, List, [], ◌∷◌, codes, Option, Some, None}
 use Rattle.std.specs.Prelude.{Result}
+use Rattle.ss_check.specs.Symbols.{Symbols}
 use Rattle.ss_program.specs.Program.{ProgramTable}
 use Rattle.ss_state.specs.Run.{input_with}
 use Rattle.ss_debug.specs.Turn.{initial_debugger_state}
-use Rattle.ss_session.specs.Model.{accepted, IsOutcome}
+use Rattle.ss_session.specs.Model.{IsOfModel}
 use Rattle.ss_session.specs.Load.{IsLoadFault}
 use Rattle.ss_session.specs.declared.load.LoadFault.{LoadFault}
 use Rattle.ss_session.specs.declared.load.LoadFault.TheVariants.{Memory}
@@ -64,13 +65,14 @@ pub data Opening : Type 0 where
 -- the start of the run of a model's program over its data; on its desk nothing is set or shown
 abbrev pub IsStart : List ℕ → List ℕ → List ℕ → Counting → Stops → AdapterState → Type 0
 IsStart path model text counting stops state =
-    (program : ProgramTable) × IsOutcome model (accepted program)
+    (program : ProgramTable) × (symbols : Symbols) × IsOfModel model program symbols
     × (state ≡ record {
       input = input_with program text;
       debugger = initial_debugger_state;
       desk = record {
         path = path;
         model = model;
+        symbols = symbols;
         displays = [];
         set = [];
         sections = [];

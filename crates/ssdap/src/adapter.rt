@@ -1,6 +1,5 @@
 //! The requests of an editor, answered by the debugger.
 ghost use Rattle.std.specs.Prelude.{◌≡◌, ◌<◌, ◌^◌, Some, None, option_map, IfOk};
-ghost use Rattle.ss_adapter.specs.Turn.{adapter_state_of};
 ghost use Rattle.ss_serve.specs.Meaning.{IsAnswer};
 ghost use Rattle.ss_messages.specs.Counting.{from_one};
 ghost use Rattle.ssdap.specs.Editing.{editor_meaning, editing_state, counting_after, go_behind, IsOpened};
@@ -8,17 +7,12 @@ ghost use Rattle.ssdap.specs.Editing.{IsElsewhere, IsTurned, source_path};
 ghost use Rattle.ssdap.specs.Shelves.{Given};
 
 use crate::shelf::Shelf;
-use ss_adapter::{Desk, Further, launch, turn, turn_before, turn_elsewhere};
+use ss_adapter::{Further, Launched, launch, turn_before, turn_elsewhere};
 use ss_console::Go;
-use ss_debug::Debugger;
-use ss_links::LinkedSets;
 use ss_messages::{Command, Counting, Post, Request, Source, Stops, Text};
 use ss_serve::Answerer;
 use std::alloc::{AllocError, Global};
 use std::mem;
-
-/// A run that was launched, and the desk of the adapter, which goes with it.
-type Run = (Debugger<LinkedSets>, Desk);
 
 /// The adapter, which answers the requests of an editor: before a run is launched, and about that
 /// run.
@@ -26,7 +20,7 @@ type Run = (Debugger<LinkedSets>, Desk);
 pub struct Adapter<'a, F: Shelf> {
     shelf: &'a F,
     counting: Counting,
-    run: Option<Run>,
+    run: Option<Launched>,
 }
 
 impl<'a, F: Shelf> Adapter<'a, F> {
@@ -50,9 +44,9 @@ impl<'a, F: Shelf> Adapter<'a, F> {
 }
 
 /// Lets a run go, if there is one.
-fn let_go(run: Option<Run>) {
-    if let Some((debugger, _desk)) = run {
-        debugger.end();
+fn let_go(run: Option<Launched>) {
+    if let Some(run) = run {
+        run.end();
     }
 }
 
@@ -89,11 +83,10 @@ fn open<F: Shelf>(
     source: Source<'_>,
     data_path: &Option<Text>,
     stops: Stops,
-) -> Result<Option<Run>, AllocError>
+) -> Result<Option<Launched>, AllocError>
     requires { post.old.sent < 2 ^ 53 }
     ensures { IfOk result (λ run. IsOpened (F.files shelf.now) request.now source.entry.path.now
-        data_path.now source.entry.counting stops post.old post.new
-        (option_map (λ r. adapter_state_of r.0 r.1) run)) }
+        data_path.now source.entry.counting stops post.old post.new run) }
 {
     let Some(model) = shelf.bytes_at(source.path)? else {
         post.fail(request, b"cannot read the model")?;
@@ -122,7 +115,7 @@ fn go_behind(further: Further) -> Go
 fn answer_before<F: Shelf>(
     shelf: &F,
     counting: Counting,
-    run: &mut Option<Run>,
+    run: &mut Option<Launched>,
     request: &Request,
     post: &mut Post,
 ) -> Result<Go, AllocError>
@@ -131,8 +124,7 @@ fn answer_before<F: Shelf>(
     ensures { IfOk result (λ go. IsAnswer editor_meaning
         (editing_state (F.files shelf.now) (F.same shelf.now) counting None)
         (editing_state (F.files shelf.now) (F.same shelf.now)
-        (counting_after counting request.now.command)
-        (option_map (λ r. adapter_state_of r.0 r.1) run.new))
+        (counting_after counting request.now.command) run.new)
         request.now post.old post.new go) }
 {
     match &request.command {
@@ -159,11 +151,11 @@ fn source_path(command: &Command) -> Option<&[u8]>
 }
 
 /// Whether the file at a path is another than the model; no path is the model.
-fn is_elsewhere<F: Shelf>(shelf: &F, desk: &Desk, path: Option<&[u8]>) -> bool
-    ensures { IsElsewhere (F.same shelf.now) desk.now.path (option_map (λ p. p.now) path.entry) result }
+fn is_elsewhere<F: Shelf>(shelf: &F, run: &Launched, path: Option<&[u8]>) -> bool
+    ensures { IsElsewhere (F.same shelf.now) run.now.desk.path (option_map (λ p. p.now) path.entry) result }
 {
     match path {
-        Some(path) => !shelf.is_same(desk.path(), path),
+        Some(path) => !shelf.is_same(run.path(), path),
         None => false,
     }
 }
@@ -172,34 +164,31 @@ fn is_elsewhere<F: Shelf>(shelf: &F, desk: &Desk, path: Option<&[u8]>) -> bool
 #[tactic(auto, using(crate::proofs::Openings::turned))]
 fn answer_about_run<F: Shelf>(
     shelf: &F,
-    debugger: &mut Debugger<LinkedSets>,
-    desk: &mut Desk,
+    run: &mut Launched,
     request: &Request,
     post: &mut Post,
 ) -> Result<Go, AllocError>
     requires { post.old.sent < 2 ^ 53 }
-    ensures { IfOk result (λ go. IsTurned (F.same shelf.now)
-        (adapter_state_of debugger.old desk.old) (adapter_state_of debugger.new desk.new)
+    ensures { IfOk result (λ go. IsTurned (F.same shelf.now) run.old run.new
         request.now post.old post.new go) }
 {
-    if is_elsewhere(shelf, desk, source_path(&request.command)) {
+    if is_elsewhere(shelf, run, source_path(&request.command)) {
         return Ok(go_behind(turn_elsewhere(request, post)?));
     }
-    Ok(go_behind(turn(debugger, desk, request, post)?))
+    Ok(go_behind(run.turn(request, post)?))
 }
 
 impl<F: Shelf> Answerer for Adapter<'_, F> {
     ghost meaning = { editor_meaning };
 
-    ghost state = { λ a. editing_state (F.files a.shelf.now) (F.same a.shelf.now) a.counting
-        (option_map (λ r. adapter_state_of r.0 r.1) a.run) };
+    ghost state = { λ a. editing_state (F.files a.shelf.now) (F.same a.shelf.now) a.counting a.run };
 
     #[tactic(auto, using(crate::proofs::Openings::answered))]
     fn answer(&mut self, request: &Request, post: &mut Post) -> Result<Go, AllocError> {
         let counting = self.counting;
         self.counting = counting_after(counting, &request.command);
-        if let Some((debugger, desk)) = &mut self.run {
-            return answer_about_run(self.shelf, debugger, desk, request, post);
+        if let Some(run) = &mut self.run {
+            return answer_about_run(self.shelf, run, request, post);
         }
         answer_before(self.shelf, counting, &mut self.run, request, post)
     }

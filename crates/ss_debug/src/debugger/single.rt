@@ -23,6 +23,7 @@ impl<S: SetBoard> Debugger<S> {
     /// position; then nothing changes. The break lines stay as they are.
     ///
     /// `AllocError` if memory was refused; then nothing has changed.
+    #[tactic(auto, using(crate::proofs::Timelines::sound_in))]
     pub fn step_forward(&mut self) -> Result<Stepped, AllocError>
         ensures ok { IfOk result (λ stepped. Steps stepped self.old.machine self.new.machine) }
         ensures err { OnErr result (self.new ≡ self.old) }
@@ -33,6 +34,7 @@ impl<S: SetBoard> Debugger<S> {
 
     /// One step back. False only if no step is kept, and then nothing changes. It takes no memory.
     /// The break lines stay as they are.
+    #[tactic(auto, using(crate::proofs::Timelines::sound_in))]
     pub fn step_back(&mut self) -> bool
         ensures back { GoesBack result self.old.machine self.new.machine }
         ensures breaks { self.new.breaks ≡ self.old.breaks }

@@ -1,4 +1,4 @@
-//! WHY, HISTORY, RUN CHANGE and BACK CHANGE of a text.
+//! WHY, HISTORY, RUN CHANGE, BACK CHANGE, DISPLAY and UNDISPLAY of a text.
 ghost use Rattle.std.specs.Prelude.{◌≡◌, ◌++◌, ◌⊎◌, OnOk, OnErr, IfOk, false, true, Some, None};
 ghost use Rattle.ss_words.specs.Reading.{option_view};
 ghost use Rattle.ss_expressions.specs.Meanings.{IsSoundMeaning, IsMeaningOf, IsSoundMeant};
@@ -17,6 +17,7 @@ use crate::desk::PromptDesk;
 use crate::histories::{ROWS_UNLESS_SAID, text_with_rows};
 use crate::line::Line;
 use crate::manner::Manner;
+use crate::shown::Shown;
 use crate::source::push_marked_line;
 use ss_debug::Debugger;
 use ss_expressions::{Meaning, Meant, meaning_of};
@@ -112,7 +113,8 @@ impl<'a> PromptDesk<'a> {
         meaning: &Meaning,
         answer: &mut Vec<u8>,
     ) -> Result<(), AllocError>
-        requires { IsSoundMeaning debugger.old.machine.input.program meaning.now }
+        requires sound { IsSoundMeaning debugger.old.machine.input.program meaning.now }
+        requires suits { Suits debugger.old.machine.input.program self.now.symbols }
         ensures place { OnOk result (state_at debugger.new self.now
             ≡ spec.change_next (state_at debugger.old self.now) false meaning.now) }
         ensures said { OnOk result (answer.new.items ≡ answer.old.items
@@ -132,7 +134,8 @@ impl<'a> PromptDesk<'a> {
         meaning: &Meaning,
         answer: &mut Vec<u8>,
     ) -> Result<(), AllocError>
-        requires { IsSoundMeaning debugger.old.machine.input.program meaning.now }
+        requires sound { IsSoundMeaning debugger.old.machine.input.program meaning.now }
+        requires suits { Suits debugger.old.machine.input.program self.now.symbols }
         ensures place { OnOk result (state_at debugger.new self.now
             ≡ spec.change_next (state_at debugger.old self.now) true meaning.now) }
         ensures said { OnOk result (answer.new.items ≡ answer.old.items
@@ -281,30 +284,90 @@ impl<'a> PromptDesk<'a> {
         }
     }
 
-    /// WHY, HISTORY, RUN CHANGE or BACK CHANGE of a text.
-    #[tactic(auto, unfolding(crate::specs::Meant::IsMeantRefused))]
-    pub(super) fn follow_text<S: SetBoard>(
-        &self,
-        debugger: &mut Debugger<S>,
-        manner: Manner,
-        text: &Line,
+    /// DISPLAY of a text.
+    fn display_of<S: SetBoard>(
+        &mut self,
+        debugger: &Debugger<S>,
+        text: Line,
         is_numbered: bool,
         answer: &mut Vec<u8>,
     ) -> Result<(), AllocError>
-        requires { Suits debugger.old.machine.input.program self.now.symbols }
-        ensures place { OnOk result (state_at debugger.new self.now
-            ≡ spec.meant_next (state_at debugger.old self.now) manner text.now) }
+        requires { Suits debugger.now.machine.input.program self.old.symbols }
+        ensures place { OnOk result (state_at debugger.now self.new
+            ≡ spec.display_led (state_at debugger.now self.old) text
+            (spec.meaning_in (state_at debugger.now self.old) text)) }
         ensures said { OnOk result (answer.new.items ≡ answer.old.items
-            ++ spec.meant_said (state_at debugger.old self.now) manner text.now is_numbered) }
-        ensures memory { OnErr result (spec.IsMeantRefused (state_at debugger.old self.now) manner
-            text.now (state_at debugger.new self.now)) }
+            ++ spec.meant_answered (state_at debugger.now self.old) manners.Display text is_numbered
+            (spec.meaning_in (state_at debugger.now self.old) text)) }
+        ensures memory { OnErr result (self.new ≡ self.old) }
     {
-        let text = text.as_slice();
+        match self.meaning_in(debugger, text.as_slice())? {
+            None => push_no_meaning(answer, Manner::Display, is_numbered),
+            Some(Meant::Refused(text)) => answer.extend_from_slice(&text),
+            Some(Meant::As(_)) => {
+                let machine = debugger.machine();
+                machine.known();
+                let (section, _) = machine.place();
+                self.display(Shown::Text(text, section), answer)
+            }
+        }
+    }
+
+    /// UNDISPLAY of a text.
+    fn undisplay_of<S: SetBoard>(
+        &mut self,
+        debugger: &Debugger<S>,
+        text: &[u8],
+        is_numbered: bool,
+        answer: &mut Vec<u8>,
+    ) -> Result<(), AllocError>
+        requires { Suits debugger.now.machine.input.program self.old.symbols }
+        ensures place { OnOk result (state_at debugger.now self.new
+            ≡ spec.undisplay_led (state_at debugger.now self.old) text.now
+            (spec.meaning_in (state_at debugger.now self.old) text.now)) }
+        ensures said { OnOk result (answer.new.items ≡ answer.old.items
+            ++ spec.meant_answered (state_at debugger.now self.old) manners.Undisplay text.now
+            is_numbered (spec.meaning_in (state_at debugger.now self.old) text.now)) }
+        ensures memory { OnErr result (self.new ≡ self.old) }
+    {
+        match self.meaning_in(debugger, text)? {
+            None => push_no_meaning(answer, Manner::Undisplay, is_numbered),
+            Some(Meant::Refused(text)) => answer.extend_from_slice(&text),
+            Some(Meant::As(_)) => self.undisplay_text(text, answer),
+        }
+    }
+
+    /// WHY, HISTORY, RUN CHANGE, BACK CHANGE, DISPLAY or UNDISPLAY of a text.
+    #[tactic(auto, unfolding(crate::specs::Meant::IsMeantRefused))]
+    pub(super) fn follow_text<S: SetBoard>(
+        &mut self,
+        debugger: &mut Debugger<S>,
+        manner: Manner,
+        text: Line,
+        is_numbered: bool,
+        answer: &mut Vec<u8>,
+    ) -> Result<(), AllocError>
+        requires { Suits debugger.old.machine.input.program self.old.symbols }
+        ensures place { OnOk result (state_at debugger.new self.new
+            ≡ spec.meant_next (state_at debugger.old self.old) manner text) }
+        ensures said { OnOk result (answer.new.items ≡ answer.old.items
+            ++ spec.meant_said (state_at debugger.old self.old) manner text is_numbered) }
+        ensures memory { OnErr result (spec.IsMeantRefused (state_at debugger.old self.old) manner
+            text (state_at debugger.new self.new)) }
+    {
         match manner {
-            Manner::Why => self.why_of(debugger, text, is_numbered, answer),
-            Manner::History => self.history_of(debugger, text, is_numbered, answer),
-            Manner::RunChange => self.run_change_of(debugger, text, is_numbered, answer),
-            Manner::BackChange => self.back_change_of(debugger, text, is_numbered, answer),
+            Manner::Why => self.why_of(debugger, text.as_slice(), is_numbered, answer),
+            Manner::History => self.history_of(debugger, text.as_slice(), is_numbered, answer),
+            Manner::RunChange => {
+                self.run_change_of(debugger, text.as_slice(), is_numbered, answer)
+            }
+            Manner::BackChange => {
+                self.back_change_of(debugger, text.as_slice(), is_numbered, answer)
+            }
+            Manner::Display => self.display_of(debugger, text, is_numbered, answer),
+            Manner::Undisplay => {
+                self.undisplay_of(debugger, text.as_slice(), is_numbered, answer)
+            }
         }
     }
 }

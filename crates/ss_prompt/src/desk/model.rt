@@ -170,8 +170,8 @@ impl<'a> PromptDesk<'a> {
         ensures { OnOk result (answer.new.items
             ≡ answer.old.items ++ breaks_said (state_at debugger.now self.now)) }
     {
-        let breaks = debugger.break_lines(self.alloc)?;
-        push_break_lines(answer, &self.lines, &breaks)
+        let breaks = debugger.shown_breaks(self.alloc)?;
+        push_break_lines(self.alloc, answer, &self.lines, &breaks)
     }
 
     /// NAMES, with a name or without.

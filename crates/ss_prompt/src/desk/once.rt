@@ -1,48 +1,35 @@
 //! TBREAK, by the debugger's BREAK, RUN and CLEAR.
-ghost use Rattle.std.specs.Prelude.{◌≡◌, ◌++◌, OnOk, OnErr, IfOk};
-ghost use Rattle.ss_debug.specs.BreakLines.{is_break_line};
-ghost use Rattle.ss_debug.specs.Turn.{answer as plain_answer, debugger_state_after};
+ghost use Rattle.std.specs.Prelude.{◌≡◌, ◌++◌, OnOk, OnErr};
 ghost use Rattle.ss_debug.specs.View.{debugger_state_of};
-ghost use Rattle.ss_debug.specs.declared.commands.Command.TheVariants as plain;
-ghost use Rattle.ss_prompt.specs.Once.{set_back, once_stop, once_stop_said, IsRunRefused};
+ghost use Rattle.ss_prompt.specs.Once.{set_back, set_unless, set_said_unless, once_stop, once_stop_said, IsRunRefused};
 ghost use Rattle.ss_prompt.specs.Once.{once_next, once_said, IsOnceRefused};
 ghost use Rattle.ss_prompt.specs.PromptState.{state_at};
+ghost use Rattle.ss_prompt.specs.Valued.{Suits};
 
 use crate::desk::PromptDesk;
 use ss_debug::{Command, Debugger, GREATEST_BOUND, Movement, obey};
 use ss_links::SetBoard;
 use std::alloc::{AllocError, Global};
 
-/// Whether a line is a break line.
-fn is_break<S: SetBoard>(
-    alloc: Global,
-    debugger: &Debugger<S>,
-    line: u32,
-) -> Result<bool, AllocError>
-    ensures { IfOk result (λ b. b ≡ is_break_line debugger.now.breaks line) }
-{
-    let lines = debugger.break_lines(alloc)?;
-    Ok(lines.iter().any(|other| *other == line as usize))
-}
-
-/// BREAK of a line.
+/// BREAK of a line, if it is no break line; one that is stays as it is.
 #[tactic(auto, unfolding(ss_debug::specs::AfterRefusal::IsStateAfterRefusal))]
 fn set_once<S: SetBoard>(
     debugger: &mut Debugger<S>,
     line: u32,
+    was: bool,
     said: &mut Vec<u8>,
 ) -> Result<(), AllocError>
     ensures input { debugger.new.machine.input ≡ debugger.old.machine.input }
     ensures place { OnOk result (debugger_state_of debugger.new
-        ≡ debugger_state_after debugger.old.machine.input (debugger_state_of debugger.old)
-        (plain.Break line)) }
-    ensures said { OnOk result (said.new.items
-        ≡ said.old.items ++ plain_answer debugger.old.machine.input
-        (debugger_state_of debugger.old) (plain.Break line)) }
+        ≡ set_unless debugger.old.machine.input (debugger_state_of debugger.old) line was) }
+    ensures said { OnOk result (said.new.items ≡ said.old.items
+        ++ set_said_unless debugger.old.machine.input (debugger_state_of debugger.old) line was) }
     ensures memory { OnErr result (debugger_state_of debugger.new
         ≡ debugger_state_of debugger.old) }
 {
-    obey(debugger, Command::Break(line), said)?;
+    if !was {
+        obey(debugger, Command::Break(line), said)?;
+    }
     Ok(())
 }
 
@@ -78,6 +65,7 @@ impl<'a> PromptDesk<'a> {
         was: bool,
         answer: &mut Vec<u8>,
     ) -> Result<(), AllocError>
+        requires { Suits debugger.old.machine.input.program self.now.symbols }
         ensures place { OnOk result (state_at debugger.new self.now
             ≡ once_stop (state_at debugger.old self.now) line was) }
         ensures said { OnOk result (answer.new.items
@@ -100,6 +88,7 @@ impl<'a> PromptDesk<'a> {
         line: u32,
         answer: &mut Vec<u8>,
     ) -> Result<(), AllocError>
+        requires { Suits debugger.old.machine.input.program self.now.symbols }
         ensures place { OnOk result (state_at debugger.new self.now
             ≡ once_next (state_at debugger.old self.now) line) }
         ensures said { OnOk result (answer.new.items
@@ -108,9 +97,9 @@ impl<'a> PromptDesk<'a> {
             (state_at debugger.new self.now)) }
     {
         let mut said = Vec::new(self.alloc);
-        let was = is_break(self.alloc, debugger, line)?;
-        set_once(debugger, line, &mut said)?;
-        if !is_break(self.alloc, debugger, line)? {
+        let was = debugger.is_break_line(line as usize);
+        set_once(debugger, line, was, &mut said)?;
+        if !debugger.is_break_line(line as usize) {
             return answer.extend_from_slice(&said);
         }
         self.run_to_once(debugger, line, was, answer)

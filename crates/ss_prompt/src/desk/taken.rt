@@ -1,9 +1,13 @@
-//! SHOW TAKEN.
+//! SHOW TAKEN, and SHOW of another sight.
 ghost use Rattle.std.specs.Prelude.{◌≡◌, ◌++◌, OnOk, OnErr};
+ghost use Rattle.ss_machine.specs.Moment.{position};
 ghost use Rattle.ss_prompt.specs.PromptState.{state_at};
 ghost use Rattle.ss_prompt.specs.Plain.{plain_next, plain_said, IsPlainRefused};
+ghost use Rattle.ss_prompt.specs.Sights.{sight_said};
 
 use crate::desk::PromptDesk;
+use crate::seeing::push_sight;
+use crate::sight::Sight;
 use crate::taken::push_next;
 use ss_debug::{Command, Debugger, Question as PlainQuestion, obey};
 use ss_links::SetBoard;
@@ -28,5 +32,18 @@ impl<'a> PromptDesk<'a> {
         let machine = debugger.machine();
         machine.known();
         push_next(answer, self.data_text, machine.taken())
+    }
+
+    /// SHOW of another sight.
+    pub(crate) fn see<S: SetBoard>(
+        &self,
+        debugger: &Debugger<S>,
+        sight: Sight,
+        answer: &mut Vec<u8>,
+    ) -> Result<(), AllocError>
+        ensures { OnOk result (answer.new.items ≡ answer.old.items
+            ++ sight_said sight debugger.now.machine.input (position debugger.now.machine)) }
+    {
+        push_sight(self.alloc, answer, debugger.machine(), sight)
     }
 }

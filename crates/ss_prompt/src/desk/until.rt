@@ -86,7 +86,8 @@ impl<'a> PromptDesk<'a> {
         aim: &ConditionAim,
         answer: &mut Vec<u8>,
     ) -> Result<(), AllocError>
-        requires { IsSoundAim debugger.old.machine.input.program aim.now }
+        requires sound { IsSoundAim debugger.old.machine.input.program aim.now }
+        requires suits { Suits debugger.old.machine.input.program self.now.symbols }
         ensures place { OnOk result (state_at debugger.new self.now
             ≡ seek_next (state_at debugger.old self.now) way aim.now) }
         ensures said { OnOk result (answer.new.items ≡ answer.old.items

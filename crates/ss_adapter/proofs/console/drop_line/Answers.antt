@@ -1,7 +1,7 @@
 use Rattle.std.proofs.Common.{not, rules}
 use Rattle.std.proofs.lemmas.Fn.{filter_same}
 use Rattle.std.specs.Prelude.{nat_eq}
-use Rattle.ss_debug.specs.BreakLines.{without_line}
+use Rattle.ss_debug.specs.LineTable.{without_line}
 use Rattle.ss_adapter.proofs.console.drop_line.Goals as goal
 
 pub returns : goal.returns

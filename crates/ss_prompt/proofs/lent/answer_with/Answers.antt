@@ -7,29 +7,34 @@ use Rattle.ss_prompt.proofs.lent.answer_with.Goals as goal
 
 pub returns-clause-place : goal.returns-clause-place
 returns-clause-place g c =
-    let before : IsDeskOf c.args.model.now c.args.displays.now.items c.swap_displays.new.self =
-    taken _ (map (λ l. l.now) c.args.lines.items) _ _ _ c.new-desk.ensures c.swap_displays.ensures.taken c.requires in
+    let m = c.args.model in
+    let before : IsDeskOf m.text.now m.symbols.now c.args.displays.now.items c.swap_displays.new.self =
+    taken _ _ (map (λ l. l.now) c.args.lines.items) _ _ _ c.new-desk.ensures c.swap_displays.ensures.taken
+    c.requires.lines in
     let none : c.swap_displays.new.self.listed ≡ None =
-    unlisted_still _ (map (λ l. l.now) c.args.lines.items) _ _ _ c.new-desk.ensures c.swap_displays.ensures.taken in
-    let after : IsDeskOf c.args.model.now c.swap_displays-2.new.displays.items c.obey-obeyed.new.self =
-    given _ _ _ _ _ before c.obey-obeyed.ensures.model c.obey-obeyed.ensures.lines c.obey-obeyed.ensures.data_text
+    unlisted_still _ _ (map (λ l. l.now) c.args.lines.items) _ _ _ c.new-desk.ensures c.swap_displays.ensures.taken in
+    let after : IsDeskOf m.text.now m.symbols.now c.swap_displays-2.new.displays.items c.obey-obeyed.new.self =
+    given _ _ _ _ _ _ before c.obey-obeyed.ensures.model c.obey-obeyed.ensures.lines c.obey-obeyed.ensures.data_text
     c.obey-obeyed.ensures.symbols c.swap_displays-2.ensures.given in
-    rw (lent_is c.args.debugger.now _ _ _ before none, lent_unlisted c.obey-obeyed.new.debugger _ _ _ after)
+    rw (lent_is c.args.debugger.now _ _ _ _ before none, lent_unlisted c.obey-obeyed.new.debugger _ _ _ _ after)
     (obeyed_so c.obey-obeyed.result (state_at c.obey-obeyed.new.debugger c.obey-obeyed.new.self)
     (prompt_state_after (state_at c.args.debugger.now c.swap_displays.new.self) c.args.command)
     c.obey-obeyed.ensures.place)
 
 pub returns-clause-memory : goal.returns-clause-memory
 returns-clause-memory g c =
-    let before : IsDeskOf c.args.model.now c.args.displays.now.items c.swap_displays.new.self =
-    taken _ (map (λ l. l.now) c.args.lines.items) _ _ _ c.new-desk.ensures c.swap_displays.ensures.taken c.requires in
+    let m = c.args.model in
+    let before : IsDeskOf m.text.now m.symbols.now c.args.displays.now.items c.swap_displays.new.self =
+    taken _ _ (map (λ l. l.now) c.args.lines.items) _ _ _ c.new-desk.ensures c.swap_displays.ensures.taken
+    c.requires.lines in
     let none : c.swap_displays.new.self.listed ≡ None =
-    unlisted_still _ (map (λ l. l.now) c.args.lines.items) _ _ _ c.new-desk.ensures c.swap_displays.ensures.taken in
-    let after : IsDeskOf c.args.model.now c.swap_displays-2.new.displays.items c.obey-obeyed.new.self =
-    given _ _ _ _ _ before c.obey-obeyed.ensures.model c.obey-obeyed.ensures.lines c.obey-obeyed.ensures.data_text
+    unlisted_still _ _ (map (λ l. l.now) c.args.lines.items) _ _ _ c.new-desk.ensures c.swap_displays.ensures.taken in
+    let after : IsDeskOf m.text.now m.symbols.now c.swap_displays-2.new.displays.items c.obey-obeyed.new.self =
+    given _ _ _ _ _ _ before c.obey-obeyed.ensures.model c.obey-obeyed.ensures.lines c.obey-obeyed.ensures.data_text
     c.obey-obeyed.ensures.symbols c.swap_displays-2.ensures.given in
-    rw (lent_is c.args.debugger.now _ _ _ before none)
+    rw (lent_is c.args.debugger.now _ _ _ _ before none)
     (refused_so c.obey-obeyed.result (state_at c.args.debugger.now c.swap_displays.new.self) c.args.command
-    c.obey-obeyed.new.debugger c.args.model.now c.swap_displays-2.new.displays.items c.obey-obeyed.new.self after
+    c.obey-obeyed.new.debugger m.text.now m.symbols.now c.swap_displays-2.new.displays.items c.obey-obeyed.new.self
+    after
     (none_listed c.obey-obeyed.result c.swap_displays.new.self c.obey-obeyed.new.self none
     c.obey-obeyed.ensures.listed) c.obey-obeyed.ensures.memory)
