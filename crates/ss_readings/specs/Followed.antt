@@ -1,4 +1,4 @@
--- Private: the value of a question that is followed from state to state.
+-- The value of a question that is followed from state to state.
 use Rattle.std.specs.Prelude.{ℕ, ◌≡◌}
 use Rattle.ss_state.specs.Run.{Input}
 use Rattle.ss_trace.specs.Movements.{frames_at}

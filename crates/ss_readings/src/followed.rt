@@ -23,6 +23,7 @@ pub struct Followed {
     pub frames: usize,
     /// Whether the last of them is still open.
     pub is_open: bool,
+    /// The value in the present state.
     pub value: Option<Value>,
     /// The value in the state before this one.
     pub passed: Option<Value>,
@@ -52,7 +53,8 @@ fn value_in_frame<S: SetBoard, R: Reading>(
 }
 
 impl Followed {
-    /// The value of a reading that is asked in the debugger's present state.
+    /// The value of a reading that is asked in the debugger's present state. `AllocError` if memory
+    /// was refused.
     #[tactic(auto, using(crate::proofs::Seeing::open_here, crate::proofs::Seeing::seen_there))]
     pub fn new<S: SetBoard, R: Reading>(
         debugger: &Debugger<S>,
@@ -103,7 +105,8 @@ impl Followed {
     }
 
     /// Follows a reading over the step forward that led to the debugger's present state, and says
-    /// whether it changed there.
+    /// whether it changed there. `AllocError` if memory was refused; then nothing is said of its
+    /// value.
     #[tactic(auto, using(crate::proofs::Seeing::open_on, crate::proofs::Seeing::seen_there, crate::proofs::Seeing::changed_between))]
     pub fn follow_on<S: SetBoard, R: Reading>(
         &mut self,
@@ -129,7 +132,8 @@ impl Followed {
     }
 
     /// Follows a reading over the step back that led to the debugger's present state, and says
-    /// whether it changes in the step from there.
+    /// whether it changes in the step from there. `AllocError` if memory was refused; then nothing
+    /// is said of its value.
     #[tactic(auto, using(crate::proofs::Seeing::open_back, crate::proofs::Seeing::seen_there, crate::proofs::Seeing::changed_back))]
     pub fn follow_back<S: SetBoard, R: Reading>(
         &mut self,

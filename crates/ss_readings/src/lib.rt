@@ -12,6 +12,7 @@ mod table;
 mod value;
 
 pub use change::{back_change, run_change};
+pub use followed::Followed;
 pub use history::{last_change, push_history, push_why};
 pub use reading::Reading;
 pub use step_place::StepPlace;
