@@ -3,6 +3,7 @@
 #![tactic(auto)]
 
 mod answer;
+mod control_flow;
 mod evaluation;
 mod expressions;
 mod members;

@@ -1,41 +1,34 @@
 //! What statements look at, by their kinds.
-ghost use Rattle.std.specs.Prelude.{◌≡◌, ◌++◌, ◌+◌, ◌-◌, ◌≤◌, ◌<◌, ◌^◌, OnOk, option_map, [], ◌∷◌};
+ghost use Rattle.std.specs.Prelude.{◌≡◌, ◌++◌, OnOk, option_map, [], ◌∷◌};
 ghost use Rattle.ss_program.specs.Program.{section_of};
-ghost use Rattle.ss_program.specs.ProgramSound.{IsTarget, AreTargets, AreSoundTellings, AreSoundExprs, IsSoundAssign};
+ghost use Rattle.ss_program.specs.ProgramSound.{IsTarget, AreTargets, AreSoundExprs, IsSoundAssign};
 ghost use Rattle.ss_program.specs.ProgramSound.{IsSoundMaking, IsSoundPosition, IsSoundFiling, IsSoundOutput};
-ghost use Rattle.ss_program.specs.ProgramSound.{IsSoundBranch, IsSoundBegin, IsSoundPhrase, AreSoundQualifiers};
-ghost use Rattle.ss_program.specs.ProgramSound.{IsSoundLooping, IsSoundNotice, IsSoundWhen, IsSoundTiming};
-ghost use Rattle.ss_program.specs.ProgramSound.{IsSoundPlace};
+ghost use Rattle.ss_program.specs.ProgramSound.{IsSoundNotice, IsSoundWhen, IsSoundTiming, IsSoundPlace};
 ghost use Rattle.ss_events.specs.Agenda.{least};
 ghost use Rattle.ss_events.specs.Rules.{rules_of};
-ghost use Rattle.ss_state.specs.Loops.{innermost, loop_of_phrase, loop_variable};
 ghost use Rattle.ss_state.specs.Statements.Timing.{event_section};
 ghost use Rattle.ss_reads.specs.Scenes.{InScene, IsSoundScene};
 ghost use Rattle.ss_reads.specs.SceneView.{scene_of};
-ghost use Rattle.ss_reads.specs.Places.{target_reads, old_reads, targets_reads, tellings_reads, values_reads};
-ghost use Rattle.ss_reads.specs.Places.{assign_reads, making_reads, position_reads, filing_reads, output_reads};
-ghost use Rattle.ss_reads.specs.Places.{branch_reads, begin_reads, entry_reads, qualifiers_reads, turn_reads};
-ghost use Rattle.ss_reads.specs.Places.{phrase_reads, looping_reads, notice_reads, when_reads, schedule_reads};
-ghost use Rattle.ss_reads.specs.Places.{attribute_read, attributes_reads, start_reads, timing_reads, locals_reads, yields_reads};
-ghost use Rattle.ss_reads.specs.Places.{control_reads, place_reads};
+ghost use Rattle.ss_reads.specs.Places.{target_reads, old_reads, targets_reads, values_reads, assign_reads};
+ghost use Rattle.ss_reads.specs.Places.{making_reads, position_reads, filing_reads, output_reads, notice_reads};
+ghost use Rattle.ss_reads.specs.Places.{when_reads, schedule_reads, attribute_read, attributes_reads};
+ghost use Rattle.ss_reads.specs.Places.{start_reads, timing_reads, place_reads};
 
-use crate::expressions::{
-    see_condition, see_expression, see_item, see_list, see_subscript, see_variable,
-};
+use crate::control_flow::{see_branch, see_control, see_looping};
+use crate::expressions::{see_expression, see_item, see_list, see_subscript, see_variable};
 use crate::part::{Item, Part};
 use crate::read::Read;
-use crate::scene::{Given, Scene};
+use crate::scene::Scene;
 use ss_links::SetBoard;
 use ss_machine::Machine;
 use ss_program::{
-    Assign, Begin, Branch, ClassKind, Control, Filing, ForPhrase, Listing, Looping, Making, Notice,
-    Output, Phrase, Place, Position, Program, Qualifiers, Question, Schedule, Section, SectionKind,
-    Target, Targets, Tellings, Timing, Values, Variable, When,
+    Assign, ClassKind, Filing, Listing, Making, Notice, Output, Place, Position, Program, Schedule,
+    Target, Targets, Timing, Values, Variable, When,
 };
 use std::alloc::AllocError;
 
 /// Of a target only what its subscript names is looked at.
-fn see_target<S: SetBoard>(
+pub(crate) fn see_target<S: SetBoard>(
     scene: &Scene<'_, S>,
     reads: &mut Vec<Read>,
     target: &Target,
@@ -90,22 +83,6 @@ fn see_targets<S: SetBoard>(
 {
     for target in &targets.list {
         see_target(scene, reads, target)?;
-    }
-    Ok(())
-}
-
-fn see_tellings<S: SetBoard>(
-    scene: &Scene<'_, S>,
-    reads: &mut Vec<Read>,
-    tellings: &Tellings,
-) -> Result<(), AllocError>
-    requires scene { IsSoundScene (scene_of scene.now) }
-    requires sound { InScene (scene_of scene.now) AreSoundTellings tellings.now }
-    ensures { OnOk result (reads.new.items
-        ≡ reads.old.items ++ tellings_reads (scene_of scene.now) tellings.now) }
-{
-    for telling in &tellings.list {
-        see_target(scene, reads, &telling.target)?;
     }
     Ok(())
 }
@@ -231,166 +208,6 @@ fn see_output<S: SetBoard>(
     match output {
         Output::Print { values, .. } => see_values(scene, reads, values),
         Output::Skip(e) => see_expression(scene, reads, e),
-    }
-}
-
-fn see_branch<S: SetBoard>(
-    scene: &Scene<'_, S>,
-    reads: &mut Vec<Read>,
-    branch: &Branch,
-) -> Result<(), AllocError>
-    requires scene { IsSoundScene (scene_of scene.now) }
-    requires sound { InScene (scene_of scene.now) IsSoundBranch branch.now }
-    ensures { OnOk result (reads.new.items
-        ≡ reads.old.items ++ branch_reads (scene_of scene.now) branch.now) }
-{
-    match branch {
-        Branch::If(Question::Whether(c)) => see_condition(scene, reads, c),
-        Branch::If(Question::WasFound | Question::WasNone) => Ok(()),
-        Branch::Else | Branch::Always => Ok(()),
-    }
-}
-
-fn see_begin<S: SetBoard>(
-    scene: &Scene<'_, S>,
-    reads: &mut Vec<Read>,
-    begin: &Begin,
-) -> Result<(), AllocError>
-    requires scene { IsSoundScene (scene_of scene.now) }
-    requires sound { InScene (scene_of scene.now) IsSoundBegin begin.now }
-    ensures { OnOk result (reads.new.items
-        ≡ reads.old.items ++ begin_reads (scene_of scene.now) begin.now) }
-{
-    match begin {
-        Begin::AtTheEnd => Ok(()),
-        Begin::From(e) | Begin::After(e) => see_expression(scene, reads, e),
-    }
-}
-
-/// A phrase whose loop is not open looks at its bounds, or at its list and the member at which it
-/// begins.
-fn see_entry<S: SetBoard>(
-    scene: &Scene<'_, S>,
-    reads: &mut Vec<Read>,
-    phrase: &Phrase,
-) -> Result<(), AllocError>
-    requires scene { IsSoundScene (scene_of scene.now) }
-    requires sound { InScene (scene_of scene.now) IsSoundPhrase phrase.now }
-    ensures { OnOk result (reads.new.items
-        ≡ reads.old.items ++ entry_reads (scene_of scene.now) phrase.now) }
-{
-    match phrase {
-        Phrase::Counting {
-            first,
-            last,
-            step,
-            ..
-        } => {
-            see_expression(scene, reads, first)?;
-            see_expression(scene, reads, last)?;
-            match step {
-                None => Ok(()),
-                Some(e) => see_expression(scene, reads, e),
-            }
-        }
-        Phrase::Each { count, .. } => see_variable(scene, reads, Variable::Global(*count)),
-        Phrase::Walking { set, begin, .. } => {
-            see_list(scene, reads, set)?;
-            see_begin(scene, reads, begin)
-        }
-    }
-}
-
-/// The variable of a loop.
-fn loop_variable(phrase: &Phrase) -> Variable
-    ensures { result ≡ loop_variable phrase.now }
-{
-    match phrase {
-        Phrase::Counting { variable, .. }
-        | Phrase::Each { variable, .. }
-        | Phrase::Walking { variable, .. } => *variable,
-    }
-}
-
-fn see_qualifiers<S: SetBoard>(
-    scene: &Scene<'_, S>,
-    reads: &mut Vec<Read>,
-    qualifiers: &Qualifiers,
-) -> Result<(), AllocError>
-    requires scene { IsSoundScene (scene_of scene.now) }
-    requires sound { InScene (scene_of scene.now) AreSoundQualifiers qualifiers.now }
-    ensures { OnOk result (reads.new.items
-        ≡ reads.old.items ++ qualifiers_reads (scene_of scene.now) qualifiers.now) }
-{
-    for qualifier in &qualifiers.list {
-        see_condition(scene, reads, &qualifier.condition)?;
-    }
-    Ok(())
-}
-
-/// A phrase whose loop is open looks at the candidate that comes next, then at what its qualifiers
-/// name with that candidate in the loop's variable.
-#[tactic(auto, using(crate::proofs::Statements::phrase_settable))]
-fn see_turn<S: SetBoard>(
-    scene: &Scene<'_, S>,
-    reads: &mut Vec<Read>,
-    phrase: &ForPhrase,
-    candidate: Option<i64>,
-) -> Result<(), AllocError>
-    requires scene { IsSoundScene (scene_of scene.now) }
-    requires phrase { InScene (scene_of scene.now) IsSoundPhrase phrase.now.phrase }
-    requires qualifiers { InScene (scene_of scene.now) AreSoundQualifiers
-        phrase.now.qualifiers }
-    ensures { OnOk result (reads.new.items
-        ≡ reads.old.items ++ turn_reads (scene_of scene.now) phrase.now candidate) }
-{
-    let variable = loop_variable(&phrase.phrase);
-    reads.push(Read::Candidate(variable, candidate))?;
-    let Some(value) = candidate else {
-        return Ok(());
-    };
-    let turn = Scene {
-        machine: scene.machine,
-        given: Some(Given { variable, value }),
-    };
-    see_qualifiers(&turn, reads, &phrase.qualifiers)
-}
-
-fn see_phrase<S: SetBoard>(
-    scene: &Scene<'_, S>,
-    reads: &mut Vec<Read>,
-    phrase: &ForPhrase,
-) -> Result<(), AllocError>
-    requires scene { IsSoundScene (scene_of scene.now) }
-    requires phrase { InScene (scene_of scene.now) IsSoundPhrase phrase.now.phrase }
-    requires qualifiers { InScene (scene_of scene.now) AreSoundQualifiers
-        phrase.now.qualifiers }
-    ensures { OnOk result (reads.new.items ≡ reads.old.items
-        ++ phrase_reads (scene_of scene.now) phrase.now
-        (loop_of_phrase scene.now.machine.now.state.frame.place
-        (innermost scene.now.machine.now.state.frame.loops))) }
-{
-    match scene.machine.candidate_here() {
-        None => see_entry(scene, reads, &phrase.phrase),
-        Some(candidate) => see_turn(scene, reads, phrase, candidate),
-    }
-}
-
-fn see_looping<S: SetBoard>(
-    scene: &Scene<'_, S>,
-    reads: &mut Vec<Read>,
-    looping: &Looping,
-) -> Result<(), AllocError>
-    requires scene { IsSoundScene (scene_of scene.now) }
-    requires sound { InScene (scene_of scene.now) IsSoundLooping looping.now }
-    ensures { OnOk result (reads.new.items
-        ≡ reads.old.items ++ looping_reads (scene_of scene.now) looping.now) }
-{
-    match looping {
-        Looping::For(phrase) => see_phrase(scene, reads, phrase.value()),
-        Looping::Loop | Looping::Find => Ok(()),
-        Looping::Gather(e) => see_expression(scene, reads, e.value()),
-        Looping::Tell(tellings) => see_tellings(scene, reads, tellings),
     }
 }
 
@@ -554,60 +371,6 @@ fn see_timing<S: SetBoard>(
         Timing::Schedule(schedule) => see_schedule(scene, reads, schedule),
         Timing::Cancel { notice, .. } => see_expression(scene, reads, notice),
         Timing::Start => see_start(scene.machine, reads),
-    }
-}
-
-/// Looks at a local variable.
-fn see_local(reads: &mut Vec<Read>, local: usize) -> Result<(), AllocError>
-    ensures { OnOk result (reads.new.items ≡ reads.old.items ++ locals_reads local 1) }
-{
-    reads.push(Read::Part(Part::Variable(Variable::Local(local))))?;
-    Ok(())
-}
-
-/// Looks at local variables, from one number on and before another.
-fn see_locals(reads: &mut Vec<Read>, first: usize, end: usize) -> Result<(), AllocError>
-    requires { first ≤ end }
-    ensures { OnOk result (reads.new.items
-        ≡ reads.old.items ++ locals_reads first (end - first)) }
-{
-    for local in first..end {
-        see_local(reads, local)?;
-    }
-    Ok(())
-}
-
-/// The end of a routine looks at what it yields.
-fn see_yields(reads: &mut Vec<Read>, section: &Section) -> Result<(), AllocError>
-    requires { section.now.given + section.now.yielded < 2 ^ 64 }
-    ensures { OnOk result (reads.new.items ≡ reads.old.items ++ yields_reads section.now) }
-{
-    match section.kind {
-        SectionKind::Main | SectionKind::Event => Ok(()),
-        SectionKind::Routine => {
-            see_locals(reads, section.given, section.given + section.yielded)
-        }
-    }
-}
-
-#[tactic(auto, using(crate::proofs::Statements::few_parameters))]
-fn see_control<S: SetBoard>(
-    scene: &Scene<'_, S>,
-    reads: &mut Vec<Read>,
-    control: Control,
-) -> Result<(), AllocError>
-    requires scene { IsSoundScene (scene_of scene.now) }
-    ensures { OnOk result (reads.new.items
-        ≡ reads.old.items ++ control_reads (scene_of scene.now) control) }
-{
-    match control {
-        Control::Stop => Ok(()),
-        Control::Return | Control::End => {
-            let program = scene.machine.program();
-            program.known();
-            let (section, _) = scene.machine.place();
-            see_yields(reads, program.section(section))
-        }
     }
 }
 

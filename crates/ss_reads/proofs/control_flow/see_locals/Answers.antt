@@ -1,7 +1,7 @@
 use Rattle.std.proofs.Common.{◌≡◌, ◌++◌, ◌<◌, arith}
 use Rattle.ss_reads.specs.Places.{locals_reads}
 use Rattle.ss_reads.proofs.Notices.{more_locals}
-use Rattle.ss_reads.proofs.places.see_locals.Goals as goal
+use Rattle.ss_reads.proofs.control_flow.see_locals.Goals as goal
 
 pub loop-local-preserved : goal.loop-local-preserved
 loop-local-preserved c =

@@ -3,7 +3,7 @@ use Rattle.ss_program.specs.ProgramSound.{AreSoundTellings}
 use Rattle.ss_reads.specs.Scenes.{scope_of}
 use Rattle.ss_reads.specs.SceneView.{scene_of}
 use Rattle.ss_reads.specs.Places.{tellings_reads}
-use Rattle.ss_reads.proofs.places.see_tellings.Given as goal
+use Rattle.ss_reads.proofs.control_flow.see_tellings.Given as goal
 
 -- what those that are left name is missing
 abbrev pub invariant-loop-telling : goal.invariant-loop-telling

@@ -3,7 +3,7 @@ use Rattle.ss_program.specs.ProgramSound.{AreSoundQualifiers}
 use Rattle.ss_reads.specs.Scenes.{scope_of}
 use Rattle.ss_reads.specs.SceneView.{scene_of}
 use Rattle.ss_reads.specs.Places.{qualifiers_reads}
-use Rattle.ss_reads.proofs.places.see_qualifiers.Given as goal
+use Rattle.ss_reads.proofs.control_flow.see_qualifiers.Given as goal
 
 -- what those that are left name is missing
 abbrev pub invariant-loop-qualifier : goal.invariant-loop-qualifier

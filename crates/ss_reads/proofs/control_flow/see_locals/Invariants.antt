@@ -1,6 +1,6 @@
 use Rattle.std.proofs.Common.{◌≡◌, ◌++◌, ◌-◌}
 use Rattle.ss_reads.specs.Places.{locals_reads}
-use Rattle.ss_reads.proofs.places.see_locals.Given as goal
+use Rattle.ss_reads.proofs.control_flow.see_locals.Given as goal
 
 -- the locals that are left are missing
 abbrev pub invariant-loop-local : goal.invariant-loop-local
