@@ -27,7 +27,8 @@ abbrev pub point_told : ProgramTable → List ℕ → Counting → ℕ → Bool 
 point_told program path counting line true false =
     event (codes "breakpoint")
     (new_point_body (line + MOST_WATCHED) (has_place program line) line path counting) ∷ []
-point_told program path counting line false true = event (codes "breakpoint") (removed_point_body (line + MOST_WATCHED)) ∷ []
+point_told program path counting line false true =
+    event (codes "breakpoint") (removed_point_body (line + MOST_WATCHED)) ∷ []
 point_told program path counting line _ _ = []
 
 -- the lines that requests set; a line that became a break line counts as set by a request for lines

@@ -9,7 +9,8 @@ ghost use Rattle.ss_debug.specs.Turn.{debugger_state_after_forget, forget_answer
 ghost use Rattle.ss_debug.specs.Turn.{debugger_state_after, answer, go_of, is_silent};
 ghost use Rattle.ss_debug.specs.Answer.{break_text, break_when_text, clear_text};
 ghost use Rattle.ss_debug.specs.BreakCondition.{IsSoundOf, IsSoundIfAny};
-ghost use Rattle.ss_debug.specs.BreakLines.{breaks_with, breaks_after_set, without_break, is_break_line, is_full, break_lines};
+ghost use Rattle.ss_debug.specs.BreakLines.{breaks_with, breaks_after_set, without_break, is_break_line};
+ghost use Rattle.ss_debug.specs.BreakLines.{is_full, break_lines};
 ghost use Rattle.ss_debug.specs.BreakTable.{shown_break};
 ghost use Rattle.ss_debug.specs.View.{debugger_state_of, condition_in};
 ghost use Rattle.ss_debug.specs.AfterRefusal.{IsStateAfterRefusedMovement, IsStateAfterRefusal};

@@ -42,7 +42,8 @@ use Rattle.ss_prompt.specs.declared.commands.PromptCommand.TheVariants.{Plain, T
 use Rattle.ss_prompt.specs.declared.commands.PromptCommand.TheVariants.{BreakSection, BreakWhen, ClearSection, ClearAll}
 use Rattle.ss_prompt.specs.declared.commands.PromptCommand.TheVariants.{Breaks, Once, Cause}
 use Rattle.ss_prompt.specs.declared.commands.PromptCommand.TheVariants.{Changed, Missing, NoPlace}
-use Rattle.ss_prompt.specs.declared.commands.PromptCommand.TheVariants.{LinesBetween, UndisplayOne, Unread, Value, Until, Meant}
+use Rattle.ss_prompt.specs.declared.commands.PromptCommand.TheVariants.{LinesBetween, UndisplayOne, Unread}
+use Rattle.ss_prompt.specs.declared.commands.PromptCommand.TheVariants.{Value, Until, Meant}
 use Rattle.ss_prompt.specs.declared.commands.PromptCommand.TheVariants.{Ask, See, Why, History, Display, Undisplay}
 use Rattle.ss_prompt.specs.declared.commands.PromptCommand.TheVariants.{Names, Warnings, Help}
 use Rattle.ss_prompt.specs.declared.commands.PromptCommand.TheVariants.{Reads}

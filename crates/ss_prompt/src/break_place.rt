@@ -1,7 +1,8 @@
 //! The places at which BREAK with a condition sets a break line.
 ghost use Rattle.std.specs.Prelude.{◌≡◌, ◌<◌, length, position, slice_get, codes, Some, IfSome};
 ghost use Rattle.ss_program.specs.Program.{section_of};
-ghost use Rattle.ss_prompt.specs.BreakPlaces.{has_place_on, section_on, first_point, point_at, line_at_place, break_word};
+ghost use Rattle.ss_prompt.specs.BreakPlaces.{has_place_on, section_on, first_point, point_at};
+ghost use Rattle.ss_prompt.specs.BreakPlaces.{line_at_place, break_word};
 
 use crate::line::name_of_word;
 use crate::sections::{first_line, taken_line_of};

@@ -1,5 +1,6 @@
 //! The steps at which a reading changes, the newest first: HISTORY and WHY.
-ghost use Rattle.std.specs.Prelude.{◌≡◌, ◌++◌, ◌∷◌, ◌+◌, ◌<◌, ◌≤◌, [], OnOk, OnErr, IfOk, MatchBool, take, length, option_map};
+ghost use Rattle.std.specs.Prelude.{◌≡◌, ◌++◌, ◌∷◌, ◌+◌, ◌<◌, ◌≤◌, [], OnOk, OnErr, IfOk, MatchBool};
+ghost use Rattle.std.specs.Prelude.{take, length, option_map};
 ghost use Rattle.ss_machine.specs.Moment.{position};
 ghost use Rattle.ss_debug.specs.View.{debugger_state_of};
 ghost use Rattle.ss_trace.specs.History.{why_head, why_line};

@@ -1,6 +1,6 @@
 -- Which words could come in a text that asks for a value at the prompt.
-use Rattle.std.specs.Prelude.{ℕ, ◌-◌, ◌&&◌, Bool, true, false, nat_lt, bytes_eq, List, [], ◌∷◌, ◌++◌, length, drop, map, codes}
-use Rattle.std.specs.Prelude.{Option, Some, None}
+use Rattle.std.specs.Prelude.{ℕ, ◌-◌, ◌&&◌, Bool, true, false, nat_lt, bytes_eq, List, [], ◌∷◌, ◌++◌, length, drop}
+use Rattle.std.specs.Prelude.{map, codes, Option, Some, None}
 use Rattle.ss_words.specs.Words.{Kind, WordAt}
 use Rattle.ss_words.specs.Plain.{Plain, PlainAt, plains}
 use Rattle.ss_words.specs.PlainRules.{plain_words_of}

@@ -128,7 +128,8 @@ sentence_at keyword is_condition ws m =
 abbrev pub words_said : List ℕ → List ℕ → List ℕ → Bool → List WordAt → Misfit → List ℕ
 words_said front keyword text is_condition ws m =
     let column = word_column front text ws m.word in
-    column_text column ++ sentence_at keyword is_condition ws m ++ codes "\n" ++ typed_text (front ++ text) column ++ after_sentence ws m.rule m.word
+    column_text column ++ sentence_at keyword is_condition ws m ++ codes "\n" ++ typed_text (front ++ text) column
+    ++ after_sentence ws m.rule m.word
 
 -- ---- a text
 

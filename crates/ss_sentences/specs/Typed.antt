@@ -1,5 +1,6 @@
 -- A line of the prompt as it was typed: the words of a command, and then a text.
-use Rattle.std.specs.Prelude.{ℕ, zero, suc, ◌+◌, ◌-◌, ◌||◌, ◌==◌, Bool, true, false, List, [], ◌∷◌, take, drop, map, Option}
+use Rattle.std.specs.Prelude.{ℕ, zero, suc, ◌+◌, ◌-◌, ◌||◌, ◌==◌, Bool, true, false, List, [], ◌∷◌}
+use Rattle.std.specs.Prelude.{take, drop, map, Option}
 use Rattle.std.specs.Char.{to_ascii_uppercase}
 use Rattle.ss_words.specs.declared.characters.TheConstants.{BLANK, CARRIAGE_RETURN, TAB}
 use Rattle.ss_sentences.specs.Misread.{misread}

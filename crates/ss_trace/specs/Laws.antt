@@ -131,6 +131,7 @@ pub record IsBehindReadyUntil (input : Input) (debugger : DebuggerState) (test :
   -- after GO FIRST
   pub first : StandsBehindReady input (state_after_first input debugger test)
 
+-- from a kept position after states that are ready, they pass no end
 abbrev pub UntilsPassNoEnd : Type 0
 UntilsPassNoEnd =
     (t : Input) (d : DebuggerState) (test : ℕ → Bool) → StandsBehindReady t d → IsBehindReadyUntil t d test

@@ -6,7 +6,8 @@ ghost use Rattle.ss_debug.specs.Move.{line_at};
 ghost use Rattle.ss_debug.specs.Answer.{section_at};
 ghost use Rattle.ss_trace.specs.Question.{question_text};
 ghost use Rattle.ss_trace.specs.Value.{value_in};
-ghost use Rattle.ss_trace.specs.History.{to_right, to_left, row, head_of, head_row, no_change_head, no_change_text, change_line};
+ghost use Rattle.ss_trace.specs.History.{to_right, to_left, row, head_of, head_row, no_change_head};
+ghost use Rattle.ss_trace.specs.History.{no_change_text, change_line};
 
 use crate::answer::push_asked;
 use crate::question::Question;
