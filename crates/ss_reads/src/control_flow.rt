@@ -21,6 +21,7 @@ use ss_program::{
 };
 use std::alloc::AllocError;
 
+/// A branch looks at what its condition names.
 pub(crate) fn see_branch<S: SetBoard>(
     scene: &Scene<'_, S>,
     reads: &mut Vec<Read>,
@@ -179,6 +180,7 @@ fn see_tellings<S: SetBoard>(
     Ok(())
 }
 
+/// A phrase looks at what its loop comes to, COMPUTE at what it gathers and at its targets.
 pub(crate) fn see_looping<S: SetBoard>(
     scene: &Scene<'_, S>,
     reads: &mut Vec<Read>,
@@ -230,6 +232,7 @@ fn see_yields(reads: &mut Vec<Read>, section: &Section) -> Result<(), AllocError
     }
 }
 
+/// The end of a routine looks at what it yields, STOP at nothing.
 #[tactic(auto, using(crate::proofs::Statements::few_parameters))]
 pub(crate) fn see_control<S: SetBoard>(
     scene: &Scene<'_, S>,
