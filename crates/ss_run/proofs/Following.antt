@@ -200,7 +200,7 @@ set_value q s x owner None answer = refl
 set_value q s x owner (Some n) answer = owned_value q s x n (owner_asked q s owner (set_of q n).owner) answer
 
 -- the value by the kept glance and answer
-value_is : (t : Input) (x : Question) (p : ℕ) → value_kept x (glance_at t x p) (answer_kept t x p) ≡ value_at t x p
+pub value_is : (t : Input) (x : Question) (p : ℕ) → value_kept x (glance_at t x p) (answer_kept t x p) ≡ value_at t x p
 value_is t (Shown shown.Report) p = report_value_is t p
 value_is t (Shown (shown.Set name owner)) p =
     set_value t.program (run t p) (Shown (shown.Set name owner)) owner (set_named t.program name)
@@ -255,8 +255,3 @@ changed_is t x p place f seen now k s n h =
     let left : (is_same (glance_at t x p) (glance_at t x (p + 1)) && is_quiet x place) ≡ false =
     rw (ap (λ both. both.0) k, s) at h in
     rw (ap (λ both. both.1) k, n) (changed_by t x p place (is_report x) refl left)
-
--- its value
-pub kept_value : (t : Input) (x : Question) (p : ℕ) (f : Followed) → kept_in f ≡ kept_at t x p →
-    value_kept x f.glance f.answer.items ≡ value_at t x p
-kept_value t x p f h = ap (λ kept. value_kept x kept.0 kept.1) h ∙ value_is t x p

@@ -8,3 +8,4 @@ pub mod HistoryRows
 pub mod Unfit
 pub mod Turns
 pub mod Following
+pub mod Keeping

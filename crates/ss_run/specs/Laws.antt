@@ -1,5 +1,6 @@
 -- Laws: a run has one end; the rows of a trace are the history of the whole run; values that did not fit are counted.
 use Rattle.std.specs.Prelude.{ℕ, ℤ, ◌+◌, ◌≡◌, ◌⊎◌, List, [], ◌∷◌, ◌++◌, length, replicate, nat_le, if◌then◌else◌}
+use Rattle.std.specs.Prelude.{Some}
 use Rattle.std.specs.Fmt.{signed_decimal}
 use Rattle.std.specs.List.{flat_map}
 use Rattle.ss_words.specs.declared.characters.TheConstants.{LINE_FEED}
@@ -8,10 +9,13 @@ use Rattle.ss_store.specs.Store.{AreInRange}
 use Rattle.ss_state.specs.Run.{Input}
 use Rattle.ss_trace.specs.declared.question.Question.{Question}
 use Rattle.ss_trace.specs.History.{history}
+use Rattle.ss_readings.specs.Seen.{changes_until}
+use Rattle.ss_expressions.specs.Meanings.{Meaning, subject_of}
 use Rattle.ss_run.specs.Fields.{unfit_values}
 use Rattle.ss_run.specs.Report.{IsRunEnd}
 use Rattle.ss_run.specs.Rows.{csv_row}
 use Rattle.ss_run.specs.Trace.{step_fields, rows_before}
+use Rattle.ss_run.specs.Watched.{Watched, question, formula}
 
 -- ---- ends
 
@@ -30,15 +34,20 @@ abbrev pub oldest_first : List ℕ → List ℕ
 oldest_first [] = []
 oldest_first (q ∷ qs) = oldest_first qs ++ q ∷ []
 
--- the rows of a question for some steps
-abbrev pub rows_at : Input → Question → List ℕ → List ℕ
-rows_at input question qs = flat_map (λ q. csv_row (step_fields input question q)) qs
+-- the rows of what is traced for some steps
+abbrev pub rows_at : Input → Watched → List ℕ → List ℕ
+rows_at input x qs = flat_map (λ q. csv_row (step_fields input x q)) qs
 
--- the rows of one question are those of the steps in its history, all of which is kept, the oldest first
-abbrev pub RowsAreTheHistory : Type 0
-RowsAreTheHistory =
-    (input : Input) (question : Question) (p : ℕ) →
-    rows_before input (question ∷ []) p ≡ rows_at input question (oldest_first (history input question 0 p))
+-- the rows are the history of the whole run, all of which is kept, the oldest step first
+pub record RowsAreTheHistory : Type 0 where
+  -- those of one question
+  pub asked : (input : Input) (x : Question) (p : ℕ) →
+      rows_before input (question x ∷ []) p ≡ rows_at input (question x) (oldest_first (history input x 0 p))
+  -- those of one text with a meaning, asked in state 0
+  pub meant : (input : Input) (text : List ℕ) (meaning : Meaning) (p : ℕ) →
+      let x : Watched = formula text (Some meaning) in
+      rows_before input (x ∷ []) p
+      ≡ rows_at input x (oldest_first (changes_until input (subject_of meaning input.program) 0 0 p))
 
 -- ---- values that did not fit
 

@@ -12,6 +12,8 @@ pub mod Trace
 pub mod Tracing
 pub mod Warned
 pub mod Watched
+pub mod WatchedView
 pub mod Laws
 pub mod Glance
 pub mod Followed
+pub mod Kept

@@ -10,21 +10,23 @@ use Rattle.ss_machine.specs.Moment.{Moment, position}
 use Rattle.ss_state.specs.Run.{Input, run}
 use Rattle.ss_debug.specs.Move.{is_ready_at, line_at}
 use Rattle.ss_debug.specs.Answer.{section_name}
-use Rattle.ss_trace.specs.declared.question.Question.{Question}
-use Rattle.ss_trace.specs.Question.{question_text}
 use Rattle.ss_session.specs.Texts.{OutletState}
 use Rattle.ss_session.specs.Written.{WritesPart}
-use Rattle.ss_run.specs.declared.followed.Followed.{Followed}
+use Rattle.ss_run.specs.declared.measure.Measure.{Measure}
+use Rattle.ss_run.specs.declared.last_seen.LastSeen.{LastSeen}
+use Rattle.ss_run.specs.declared.watched.Watched.{Watched as Code}
 use Rattle.ss_run.specs.declared.here.Here.{Here}
 use Rattle.ss_run.specs.declared.whole_run.RunCut.{RunCut}
 use Rattle.ss_run.specs.declared.whole_run.RunCut.TheVariants.{Write, Memory}
 use Rattle.ss_run.specs.declared.whole_run.WholeRun.{WholeRun}
 use Rattle.ss_run.specs.Advance.{MakesRun, HasAdvanced}
-use Rattle.ss_run.specs.Followed.{kept_in, kept_at}
+use Rattle.ss_run.specs.Kept.{kept_in, kept_at}
 use Rattle.ss_run.specs.Results.{Wanted}
 use Rattle.ss_run.specs.Rows.{csv_row}
 use Rattle.ss_run.specs.Trace.{step_rows, rows_before, Reaches, cut_failures}
 use Rattle.ss_run.specs.Trace.{WritesNothing, IsTraced, IsTracedInPart}
+use Rattle.ss_run.specs.Watched.{Watched, watched_text, watched_all}
+use Rattle.ss_run.specs.WatchedView.{watched_view, AreSound}
 
 -- it describes state q
 pub record IsHere (input : Input) (q : ℕ) (here : Here) : Type 0 where
@@ -43,19 +45,22 @@ pub record IsHere (input : Input) (q : ℕ) (here : Here) : Type 0 where
   -- the line of its place
   pub line : here.line ≡ line_at input q
 
--- the row of a question that has this value after a step from there
-abbrev pub row_of : ProgramTable → Here → Question → List ℕ → List ℕ
-row_of program here question value =
+-- the row of what has this value after a step from there
+abbrev pub row_of : ProgramTable → Here → Watched → List ℕ → List ℕ
+row_of program here x value =
     csv_row (decimal here.position ∷ signed_decimal here.clock
-    ∷ section_name (slice_get program.sections here.section) ∷ decimal here.line ∷ question_text question
+    ∷ section_name (slice_get program.sections here.section) ∷ decimal here.line ∷ watched_text x
     ∷ value ∷ [])
 
--- the glances and answers of some questions are those of state p
-abbrev pub AreKept : Input → List Question → ℕ → List Followed → Type 0
-AreKept input xs p fs = map kept_in fs ≡ map (λ x. kept_at input x p) xs
+-- what is kept of all that is traced
+pub record AreKept (input : Input) (xs : List Code) (p : ℕ) (fs : List LastSeen) : Type 0 where
+  -- it is that of state p
+  pub kept : map kept_in fs ≡ map (λ x. kept_at input (watched_view x) p) xs
+  -- what is traced names only what exists
+  pub sound : AreSound input.program xs
 
 -- the rows of the steps from state p to state q are written
-pub record HasTraced (input : Input) (xs : List Question) (p q : ℕ) (old new : OutletState) : Type 0 where
+pub record HasTraced (input : Input) (xs : List Watched) (p q : ℕ) (old new : OutletState) : Type 0 where
   -- the rows
   pub rows : List ℕ
   -- they are those
@@ -66,13 +71,13 @@ pub record HasTraced (input : Input) (xs : List Question) (p q : ℕ) (old new :
   pub failures : new.failures ≡ old.failures
 
 -- a run was traced from its start to its present position
-pub record TracesSoFar (a b : Moment) (xs : List Question) (fs : List Followed) (old new : OutletState) : Type 0 where
+pub record TracesSoFar (a b : Moment) (xs : List Code) (fs : List LastSeen) (old new : OutletState) : Type 0 where
   -- it has made as many steps as its position says
   pub advanced : HasAdvanced Moved (position b) a b
-  -- the kept glances and answers are those of now
+  -- what is kept is that of now
   pub kept : AreKept a.input xs (position b) fs
   -- the rows are written
-  pub traced : HasTraced a.input xs 0 (position b) old new
+  pub traced : HasTraced a.input (map watched_view xs) 0 (position b) old new
 
 -- the part of a cut text that is written: none if memory is refused, else some, by a failed call
 abbrev pub CutsText : RunCut → List ℕ → OutletState → OutletState → Type 0
@@ -81,21 +86,23 @@ CutsText Write text old new = WritesPart text old.taken new.taken × (new.failur
 
 -- the part of the rows of the step from state p that is written if the trace is cut: none if memory
 -- is refused, else some, by a call that failed; then the step was made
-abbrev pub CutsStep : RunCut → Input → List Question → ℕ → OutletState → OutletState → Type 0
+abbrev pub CutsStep : RunCut → Input → List Watched → ℕ → OutletState → OutletState → Type 0
 CutsStep Memory input xs p old new = Appends old.taken new.taken [] × (new.failures ≡ old.failures)
 CutsStep Write input xs p old new =
     (is_ready_at input p ≡ true) × (p < LAST_POSITION) × CutsText Write (step_rows input xs p) old new
 
 -- the part of the rows of a run that is written if the trace is cut
-abbrev pub CutsRows : RunCut → Input → List Question → OutletState → OutletState → Type 0
+abbrev pub CutsRows : RunCut → Input → List Watched → OutletState → OutletState → Type 0
 CutsRows cut input xs old new =
     (p : ℕ) × Reaches input p × WritesPart (rows_before input xs p) old.taken new.taken
     × (new.failures ≡ old.failures + cut_failures cut)
 
 -- a run over some data is made and traced: the whole trace is written, and the report as without
 -- it, or the trace was cut, and nothing of the report is written
-unfoldable pub MakesTrace : Result WholeRun RunCut → List ℕ → Input → List Question → Wanted → OutletState →
+unfoldable pub MakesTrace : Result WholeRun RunCut → List ℕ → Input → List Measure → Wanted → OutletState →
     OutletState → OutletState → OutletState → Type 0
-MakesTrace result data_text input xs asked old new trace traced =
-    (MakesRun result data_text input asked old new × IsTraced input xs trace traced)
-    ⊎ ((cut : RunCut) × (result ≡ Err cut) × WritesNothing old new × IsTracedInPart cut input xs trace traced)
+MakesTrace result data_text input ms asked old new trace traced =
+    (MakesRun result data_text input asked old new
+    × IsTraced input (watched_all asked.symbols input.program ms) trace traced)
+    ⊎ ((cut : RunCut) × (result ≡ Err cut) × WritesNothing old new
+    × IsTracedInPart cut input (watched_all asked.symbols input.program ms) trace traced)

@@ -8,7 +8,8 @@ pub fn run_has_one_end()
     ensures one { EndsAtOnePosition }
 {}
 
-/// The rows of one question are its history over the whole run, the oldest step first.
+/// The rows of one question, or of one text, are its history over the whole run, the oldest step
+/// first.
 #[tactic(auto, using(crate::proofs::HistoryRows::rows_told))]
 pub fn rows_are_the_history()
     ensures { RowsAreTheHistory }

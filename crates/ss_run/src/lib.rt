@@ -1,4 +1,4 @@
-//! A whole run: model and data in, the report out, and a trace of questions in addition.
+//! A whole run: model and data in, the report out; in addition a trace and results.
 #![tactic(auto)]
 
 mod explained;
@@ -6,6 +6,7 @@ mod fields;
 mod followed;
 mod glance;
 mod here;
+mod last_seen;
 mod laws;
 mod measure;
 mod results;
@@ -21,5 +22,4 @@ pub use measure::{Formula, Measure, push_measure};
 pub use results::{Asked, results_head};
 pub use traced::trace_model;
 pub use warned::model_warnings;
-pub use watched::push_question;
 pub use whole_run::{Progress, RunCut, RunEnd, WholeRun, report, run_model, run_status};

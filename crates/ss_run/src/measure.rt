@@ -1,4 +1,5 @@
-//! What is measured at the end of a run: a question, an expression, a condition or a list.
+//! What is measured of a run, in a trace or at its end: a question, an expression, a condition or a
+//! list.
 ghost use Rattle.std.specs.Prelude.{◌≡◌, IfOk, OnOk};
 ghost use Rattle.ss_machine.specs.Moment.{position};
 ghost use Rattle.ss_check.specs.Asked.{IsSymbolsOf};
@@ -43,7 +44,7 @@ impl Formula {
     }
 }
 
-/// What is measured in the last state of a run (docs/RUNS.md, "Results").
+/// What is measured: in a trace, or in the last state of a run (docs/RUNS.md, "Traces", "Results").
 #[derive(Drop)]
 pub enum Measure {
     /// A question, as a trace asks it.
@@ -131,7 +132,7 @@ fn is_measured(alloc: Global, measures: &[Measure], text: &[u8]) -> Result<bool,
 }
 
 /// Appends a measure to some others, if none of them is asked in the same words: one that is named
-/// twice has one column.
+/// twice is traced once and has one column.
 ///
 /// `AllocError` if a growth was refused; then the contract says nothing about `measures`.
 pub fn push_measure(measures: &mut Vec<Measure>, measure: Measure) -> Result<(), AllocError>

@@ -13,14 +13,13 @@ use itoa::Buffer;
 use ss_check::SymbolTable;
 use ss_debug::Debugger;
 use ss_links::SetBoard;
-use ss_trace::Question;
 use std::alloc::{AllocError, Global};
 
 /// The questions to a whole run, in addition to its report.
 #[derive(Clone, Copy)]
 pub struct Asked<'a> {
-    /// The questions that are traced, if there is a trace.
-    pub watched: &'a [Question],
+    /// What is traced, if there is a trace.
+    pub watched: &'a [Measure],
     /// The name of the run's data, as the row of results has it.
     pub name: &'a [u8],
     /// The measures whose values in the last state are the results.
@@ -31,7 +30,7 @@ pub struct Asked<'a> {
 /// read.
 #[derive(Clone, Copy)]
 pub(crate) struct Wanted<'a> {
-    pub(crate) watched: &'a [Question],
+    pub(crate) watched: &'a [Measure],
     pub(crate) name: &'a [u8],
     pub(crate) results: &'a [Measure],
     pub(crate) symbols: &'a SymbolTable,

@@ -3,17 +3,19 @@ ghost use Rattle.std.specs.Prelude.{◌≡◌, ◌++◌, ◌+◌, ◌<◌, lengt
 ghost use Rattle.ss_machine.specs.Moment.{position};
 ghost use Rattle.ss_run.specs.Rows.{csv_row};
 ghost use Rattle.ss_run.specs.Trace.{column_names, change_row, step_rows};
-ghost use Rattle.ss_run.specs.Followed.{kept_in, kept_at};
+ghost use Rattle.ss_run.specs.Kept.{kept_in, kept_at};
 ghost use Rattle.ss_run.specs.Tracing.{IsHere, AreKept, row_of};
+ghost use Rattle.ss_run.specs.Watched.{IsSoundWatched};
+ghost use Rattle.ss_run.specs.WatchedView.{watched_view, AreSound};
 
-use crate::followed::Followed;
 use crate::here::Here;
+use crate::last_seen::LastSeen;
+use crate::watched::{Watched, push_watched};
 use csv::WriterBuilder;
 use itoa::Buffer;
 use ss_debug::Debugger;
 use ss_links::SetBoard;
 use ss_program::Program;
-use ss_trace::{Question, push_asked};
 use std::alloc::{AllocError, Global};
 
 /// The names of the columns of a trace.
@@ -47,20 +49,20 @@ pub fn head_row(alloc: Global) -> Result<Vec<u8>, AllocError>
     csv_row(alloc, &COLUMN_NAMES)
 }
 
-/// The row of a question that has this value after a step from `here`.
+/// The row of what has this value after a step from `here`.
 fn row_of(
     alloc: Global,
     program: &Program,
     here: Here,
-    question: &Question,
+    watched: &Watched<'_>,
     value: &[u8],
 ) -> Result<Vec<u8>, AllocError>
     requires { here.section < length program.now.sections }
     ensures { IfOk result (λ row. row.items
-        ≡ row_of program.now here question.now value.now) }
+        ≡ row_of program.now here (watched_view watched.now) value.now) }
 {
     let mut asked = Vec::new(alloc);
-    push_asked(question, &mut asked)?;
+    push_watched(watched, &mut asked)?;
     let (mut state, mut clock, mut line) = (Buffer::new(), Buffer::new(), Buffer::new());
     csv_row(
         alloc,
@@ -75,69 +77,72 @@ fn row_of(
     )
 }
 
-/// Follows a question over the step that led to a debugger's position, and appends its row if it
-/// changed there.
+/// Follows what is traced over the step that led to a debugger's position, and appends its row if
+/// it changed there.
 fn push_change<S: SetBoard>(
     rows: &mut Vec<u8>,
     debugger: &Debugger<S>,
     here: Here,
-    question: &Question,
-    followed: &mut Followed,
+    watched: &Watched<'_>,
+    kept: &mut LastSeen,
 ) -> Result<(), AllocError>
     requires here { IsHere debugger.now.machine.input here.position here }
     requires step { position debugger.now.machine ≡ here.position + 1 }
-    requires kept { kept_in followed.old
-        ≡ kept_at debugger.now.machine.input question.now here.position }
-    ensures kept { OnOk result (kept_in followed.new
-        ≡ kept_at debugger.now.machine.input question.now (here.position + 1)) }
+    requires sound { IsSoundWatched debugger.now.machine.input.program
+        (watched_view watched.now) }
+    requires kept { kept_in kept.old
+        ≡ kept_at debugger.now.machine.input (watched_view watched.now) here.position }
+    ensures kept { OnOk result (kept_in kept.new
+        ≡ kept_at debugger.now.machine.input (watched_view watched.now) (here.position + 1)) }
     ensures row { OnOk result (rows.new.items ≡ rows.old.items
-        ++ change_row debugger.now.machine.input here.position question.now) }
+        ++ change_row debugger.now.machine.input here.position (watched_view watched.now)) }
 {
     let alloc = *rows.allocator();
-    if !followed.follow(alloc, debugger, question, here)? {
+    if !kept.follow(alloc, debugger, watched, here)? {
         return Ok(());
     }
     let mut value = Vec::new(alloc);
-    followed.push_value(question, &mut value)?;
-    let row = row_of(alloc, debugger.machine().program(), here, question, &value)?;
+    kept.push_value(watched, &mut value)?;
+    let row = row_of(alloc, debugger.machine().program(), here, watched, &value)?;
     rows.extend_from_slice(&row)
 }
 
-/// Follows some questions over the step that led to a debugger's position, and appends the rows of
-/// that step.
-pub fn push_changes<S: SetBoard>(
+/// Follows all that is traced over the step that led to a debugger's position, and appends the rows
+/// of that step.
+pub(crate) fn push_changes<S: SetBoard>(
     rows: &mut Vec<u8>,
     debugger: &Debugger<S>,
     here: Here,
-    questions: &[Question],
-    followed: &mut [Followed],
+    watched: &[Watched<'_>],
+    kept: &mut [LastSeen],
 ) -> Result<(), AllocError>
     requires here { IsHere debugger.now.machine.input here.position here }
     requires step { position debugger.now.machine ≡ here.position + 1 }
-    requires kept { AreKept debugger.now.machine.input questions.now here.position followed.old }
-    ensures kept { OnOk result (AreKept debugger.now.machine.input questions.now
-        (here.position + 1) followed.new) }
+    requires kept { AreKept debugger.now.machine.input watched.now here.position kept.old }
+    ensures kept { OnOk result (AreKept debugger.now.machine.input watched.now
+        (here.position + 1) kept.new) }
     ensures rows { OnOk result (rows.new.items ≡ rows.old.items
-        ++ step_rows debugger.now.machine.input questions.now here.position) }
+        ++ step_rows debugger.now.machine.input (map watched_view watched.now) here.position) }
 {
-    for k in 0..questions.len() {
-        push_change(rows, debugger, here, &questions[k], &mut followed[k])?;
+    for k in 0..watched.len() {
+        push_change(rows, debugger, here, &watched[k], &mut kept[k])?;
     }
     Ok(())
 }
 
-/// The glances and answers of some questions at a debugger's position.
-pub fn follow_all<S: SetBoard>(
+/// What is kept at the start of a run of all that is traced.
+pub(crate) fn keep_all<S: SetBoard>(
     alloc: Global,
     debugger: &Debugger<S>,
-    questions: &[Question],
-) -> Result<Vec<Followed>, AllocError>
-    ensures { IfOk result (λ followed. AreKept debugger.now.machine.input questions.now
-        (position debugger.now.machine) followed.items) }
+    watched: &[Watched<'_>],
+) -> Result<Vec<LastSeen>, AllocError>
+    requires start { position debugger.now.machine ≡ 0 }
+    requires sound { AreSound debugger.now.machine.input.program watched.now }
+    ensures { IfOk result (λ kept. AreKept debugger.now.machine.input watched.now 0 kept.items) }
 {
-    let mut followed = Vec::new(alloc);
-    for question in questions {
-        followed.push(Followed::new(alloc, debugger, question)?)?;
+    let mut kept = Vec::new(alloc);
+    for one in watched {
+        kept.push(LastSeen::new(alloc, debugger, one)?)?;
     }
-    Ok(followed)
+    Ok(kept)
 }

@@ -1,5 +1,5 @@
-//! A whole run whose questions are traced.
-ghost use Rattle.std.specs.Prelude.{◌≡◌, ◌+◌, ◌-◌, ◌<◌, ◌^◌, IfOk, OnOk, IfErr};
+//! A whole run that is traced.
+ghost use Rattle.std.specs.Prelude.{◌≡◌, ◌+◌, ◌-◌, ◌<◌, ◌^◌, map, IfOk, OnOk, IfErr};
 ghost use Rattle.std.specs.Io.KnownBytes.{Appends};
 ghost use Rattle.ss_check.specs.Asked.{IsSymbolsOf};
 ghost use Rattle.ss_machine.specs.Moment.{position};
@@ -9,11 +9,13 @@ ghost use Rattle.ss_run.specs.Advance.{HasAdvanced};
 ghost use Rattle.ss_run.specs.Trace.{step_rows, IsTraced, IsTracedInPart, TraceSays};
 ghost use Rattle.ss_run.specs.Tracing.{IsHere, AreKept, HasTraced, CutsText, CutsStep};
 ghost use Rattle.ss_run.specs.Tracing.{CutsRows, MakesTrace};
+ghost use Rattle.ss_run.specs.WatchedView.{watched_view, AreSound};
 
-use crate::followed::Followed;
 use crate::here::{Here, read_here};
+use crate::last_seen::LastSeen;
 use crate::results::{Asked, Wanted, with_symbols};
-use crate::rows::{follow_all, head_row, push_changes};
+use crate::rows::{head_row, keep_all, push_changes};
+use crate::watched::{Watched, watched_all};
 use crate::whole_run::{
     MOST_KEPT, Progress, RunCut, STEPS_BETWEEN, WholeRun, refusal, write_report,
 };
@@ -22,7 +24,6 @@ use ss_links::{LinkedSets, SetBoard};
 use ss_machine::Machine;
 use ss_session::{Loaded, Outlet, load_with_symbols, machine, put_all};
 use ss_state::Stepped;
-use ss_trace::Question;
 use std::alloc::{AllocError, Global};
 
 /// Forgets the steps back if they have become many.
@@ -53,32 +54,32 @@ fn put_text<T: Outlet>(trace: &mut T, text: &[u8]) -> Result<(), RunCut>
     }
 }
 
-/// Follows some questions over the step that led to a debugger's position, and writes its rows.
+/// Follows all that is traced over the step that led to a debugger's position, and writes its rows.
 fn trace_change<S: SetBoard, T: Outlet>(
     alloc: Global,
     debugger: &Debugger<S>,
     here: Here,
-    questions: &[Question],
-    followed: &mut Vec<Followed>,
+    watched: &[Watched<'_>],
+    kept: &mut Vec<LastSeen>,
     trace: &mut T,
 ) -> Result<(), RunCut>
     requires here { IsHere debugger.now.machine.input here.position here }
     requires step { position debugger.now.machine ≡ here.position + 1 }
-    requires kept { AreKept debugger.now.machine.input questions.now here.position
-        followed.old.items }
+    requires kept { AreKept debugger.now.machine.input watched.now here.position
+        kept.old.items }
     requires room { T.failures trace.old < 2 ^ 64 - 1 }
-    ensures kept { OnOk result (AreKept debugger.now.machine.input questions.now
-        (here.position + 1) followed.new.items) }
+    ensures kept { OnOk result (AreKept debugger.now.machine.input watched.now
+        (here.position + 1) kept.new.items) }
     ensures rows { OnOk result (Appends (T.taken trace.old) (T.taken trace.new)
-        (step_rows debugger.now.machine.input questions.now here.position)
+        (step_rows debugger.now.machine.input (map watched_view watched.now) here.position)
         × (T.failures trace.new ≡ T.failures trace.old)) }
     ensures cut { IfErr result (λ cut. CutsText cut
-        (step_rows debugger.now.machine.input questions.now here.position)
+        (step_rows debugger.now.machine.input (map watched_view watched.now) here.position)
         (record { taken = T.taken trace.old; failures = T.failures trace.old })
         (record { taken = T.taken trace.new; failures = T.failures trace.new })) }
 {
     let mut rows = Vec::new(alloc);
-    push_changes(&mut rows, debugger, here, questions, followed)?;
+    push_changes(&mut rows, debugger, here, watched, kept)?;
     put_text(trace, &rows)
 }
 
@@ -86,23 +87,24 @@ fn trace_change<S: SetBoard, T: Outlet>(
 fn trace_step<S: SetBoard, T: Outlet>(
     alloc: Global,
     debugger: &mut Debugger<S>,
-    questions: &[Question],
-    followed: &mut Vec<Followed>,
+    watched: &[Watched<'_>],
+    kept: &mut Vec<LastSeen>,
     trace: &mut T,
 ) -> Result<Stepped, RunCut>
-    requires kept { AreKept debugger.old.machine.input questions.now
-        (position debugger.old.machine) followed.old.items }
+    requires kept { AreKept debugger.old.machine.input watched.now
+        (position debugger.old.machine) kept.old.items }
     requires room { T.failures trace.old < 2 ^ 64 - 1 }
     ensures step { IfOk result (λ stepped. HasAdvanced stepped 1 debugger.old.machine
         debugger.new.machine) }
-    ensures kept { OnOk result (AreKept debugger.old.machine.input questions.now
-        (position debugger.new.machine) followed.new.items) }
-    ensures rows { OnOk result (HasTraced debugger.old.machine.input questions.now
+    ensures kept { OnOk result (AreKept debugger.old.machine.input watched.now
+        (position debugger.new.machine) kept.new.items) }
+    ensures rows { OnOk result (HasTraced debugger.old.machine.input
+        (map watched_view watched.now)
         (position debugger.old.machine) (position debugger.new.machine)
         (record { taken = T.taken trace.old; failures = T.failures trace.old })
         (record { taken = T.taken trace.new; failures = T.failures trace.new })) }
-    ensures cut { IfErr result (λ cut. CutsStep cut debugger.old.machine.input questions.now
-        (position debugger.old.machine)
+    ensures cut { IfErr result (λ cut. CutsStep cut debugger.old.machine.input
+        (map watched_view watched.now) (position debugger.old.machine)
         (record { taken = T.taken trace.old; failures = T.failures trace.old })
         (record { taken = T.taken trace.new; failures = T.failures trace.new })) }
 {
@@ -111,7 +113,7 @@ fn trace_step<S: SetBoard, T: Outlet>(
     let stepped = debugger.step_forward()?;
     debugger.machine().known();
     if let Stepped::Moved = stepped {
-        trace_change(alloc, debugger, here, questions, followed, trace)?;
+        trace_change(alloc, debugger, here, watched, kept, trace)?;
     }
     Ok(stepped)
 }
@@ -128,28 +130,31 @@ fn tell_progress<S: SetBoard, P: Progress>(debugger: &Debugger<S>, progress: &mu
 fn trace_to_end<S: SetBoard, P: Progress, T: Outlet>(
     alloc: Global,
     debugger: &mut Debugger<S>,
-    questions: &[Question],
+    watched: &[Watched<'_>],
     progress: &mut P,
     trace: &mut T,
 ) -> Result<(), RunCut>
     requires start { position debugger.old.machine ≡ 0 }
+    requires sound { AreSound debugger.old.machine.input.program watched.now }
     requires room { T.failures trace.old < 2 ^ 64 - 1 }
     ensures input { OnOk result (debugger.new.machine.input ≡ debugger.old.machine.input) }
     ensures end { OnOk result (IsRunEnd debugger.old.machine.input
         (position debugger.new.machine)) }
-    ensures rows { OnOk result (HasTraced debugger.old.machine.input questions.now 0
+    ensures rows { OnOk result (HasTraced debugger.old.machine.input
+        (map watched_view watched.now) 0
         (position debugger.new.machine)
         (record { taken = T.taken trace.old; failures = T.failures trace.old })
         (record { taken = T.taken trace.new; failures = T.failures trace.new })) }
-    ensures cut { IfErr result (λ cut. CutsRows cut debugger.old.machine.input questions.now
+    ensures cut { IfErr result (λ cut. CutsRows cut debugger.old.machine.input
+        (map watched_view watched.now)
         (record { taken = T.taken trace.old; failures = T.failures trace.old })
         (record { taken = T.taken trace.new; failures = T.failures trace.new })) }
 {
     debugger.machine().known();
-    let mut followed = follow_all(alloc, debugger, questions)?;
+    let mut kept = keep_all(alloc, debugger, watched)?;
     loop {
         forget_many(alloc, debugger)?;
-        match trace_step(alloc, debugger, questions, &mut followed, trace)? {
+        match trace_step(alloc, debugger, watched, &mut kept, trace)? {
             Stepped::Moved => tell_progress(debugger, progress),
             Stepped::AtEnd => return Ok(()),
         }
@@ -160,25 +165,28 @@ fn trace_to_end<S: SetBoard, P: Progress, T: Outlet>(
 fn trace_all<S: SetBoard, P: Progress, T: Outlet>(
     alloc: Global,
     debugger: &mut Debugger<S>,
-    questions: &[Question],
+    watched: &[Watched<'_>],
     progress: &mut P,
     trace: &mut T,
 ) -> Result<(), RunCut>
     requires start { position debugger.old.machine ≡ 0 }
+    requires sound { AreSound debugger.old.machine.input.program watched.now }
     requires room { T.failures trace.old < 2 ^ 64 - 1 }
     ensures input { OnOk result (debugger.new.machine.input ≡ debugger.old.machine.input) }
     ensures end { OnOk result (IsRunEnd debugger.old.machine.input
         (position debugger.new.machine)) }
-    ensures ok { OnOk result (IsTraced debugger.old.machine.input questions.now
+    ensures ok { OnOk result (IsTraced debugger.old.machine.input
+        (map watched_view watched.now)
         (record { taken = T.taken trace.old; failures = T.failures trace.old })
         (record { taken = T.taken trace.new; failures = T.failures trace.new })) }
-    ensures cut { IfErr result (λ cut. IsTracedInPart cut debugger.old.machine.input questions.now
+    ensures cut { IfErr result (λ cut. IsTracedInPart cut debugger.old.machine.input
+        (map watched_view watched.now)
         (record { taken = T.taken trace.old; failures = T.failures trace.old })
         (record { taken = T.taken trace.new; failures = T.failures trace.new })) }
 {
     let head = head_row(alloc)?;
     put_text(trace, &head)?;
-    trace_to_end(alloc, debugger, questions, progress, trace)
+    trace_to_end(alloc, debugger, watched, progress, trace)
 }
 
 /// Makes the run of a debugger's machine over its data and its trace, and writes its report.
@@ -207,7 +215,8 @@ fn trace_report<S: SetBoard, P: Progress, T: Outlet, W: Outlet>(
         (record { taken = T.taken trace.old; failures = T.failures trace.old })
         (record { taken = T.taken trace.new; failures = T.failures trace.new }) }
 {
-    trace_all(alloc, debugger, asked.watched, progress, trace)?;
+    let watched = watched_all(alloc, debugger, asked.symbols, asked.watched)?;
+    trace_all(alloc, debugger, &watched, progress, trace)?;
     write_report(alloc, debugger, data_text, asked, out)
 }
 
@@ -278,13 +287,14 @@ fn trace_program<P: Progress, T: Outlet, W: Outlet>(
     }
 }
 
-/// As `run_model`, and writes a trace of the watched questions as the run goes.
+/// As `run_model`, and writes a trace of what is watched as the run goes.
 ///
 /// The trace has comma-separated values: a row of the names of the columns, and then a row for each
-/// step at which the answer to a question changes. That row has the state before the step, its
-/// clock, section and line, the question and its value after the step (docs/RUNS.md). Only the last
-/// answer to each question is kept. For the report only its length is kept, so that a trace of it
-/// takes no longer than the run.
+/// step at which the answer to a question, or the value of an expression, changes. That row has the
+/// state before the step, its clock, section and line, the question or the text and its value after
+/// the step (docs/RUNS.md). An expression is read by the names of MAIN; one that has no meaning there
+/// has no row. Only the last answer or value is kept. For the report only its length is kept, so that
+/// a trace of it takes no longer than the run.
 ///
 /// `Ok` if all of report and trace was written; nothing is written for a refused model. `Write` if
 /// `out` counted a failure, and then the trace is whole; or if `trace` counted one, and then a part

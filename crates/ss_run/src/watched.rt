@@ -1,44 +1,89 @@
-//! The questions that are traced.
-ghost use Rattle.std.specs.Prelude.{◌≡◌, IfOk, OnOk};
-ghost use Rattle.ss_trace.specs.Question.{question_text};
-ghost use Rattle.ss_run.specs.Watched.{is_among, with_question};
+//! What is traced of a run: questions; and texts, with their meanings by the names of MAIN.
+ghost use Rattle.std.specs.Prelude.{◌≡◌, ◌++◌, map, IfOk, OnOk};
+ghost use Rattle.ss_words.specs.Reading.{option_view};
+ghost use Rattle.ss_check.specs.Asked.{IsSymbolsOf};
+ghost use Rattle.ss_expressions.specs.MeaningsView.{meant_view};
+ghost use Rattle.ss_run.specs.Watched as spec;
+ghost use Rattle.ss_run.specs.WatchedView.{watched_view, AreSound};
 
+use crate::measure::Measure;
+use ss_check::SymbolTable;
+use ss_debug::Debugger;
+use ss_expressions::{Meaning, Meant, meaning_of};
+use ss_links::SetBoard;
 use ss_trace::{Question, push_asked};
 use std::alloc::{AllocError, Global};
 
-/// A question as it is asked.
-fn asked(alloc: Global, question: &Question) -> Result<Vec<u8>, AllocError>
-    ensures { IfOk result (λ text. text.items ≡ question_text question.now) }
-{
-    let mut text = Vec::new(alloc);
-    push_asked(question, &mut text)?;
-    Ok(text)
+/// What is traced.
+#[derive(Drop)]
+pub(crate) enum Watched<'a> {
+    /// A question.
+    Question(&'a Question),
+    /// A text, and its meaning by the names of MAIN, if it has one.
+    Formula(&'a [u8], Option<Meaning>),
 }
 
-/// Whether one of some questions is asked as a text asks.
-fn is_among(alloc: Global, questions: &[Question], text: &[u8]) -> Result<bool, AllocError>
-    ensures { IfOk result (λ is_there. is_there ≡ is_among questions.now text.now) }
+/// A meaning, if there is one.
+fn meaning_if(meant: Option<Meant>) -> Option<Meaning>
+    ensures { result ≡ spec.meaning_if (option_view meant_view meant) }
 {
-    let mut is_there = false;
-    for question in questions {
-        let asked = asked(alloc, question)?;
-        is_there = is_there || asked.as_slice() == text;
+    match meant {
+        Some(Meant::As(meaning)) => Some(meaning),
+        _ => None,
     }
-    Ok(is_there)
 }
 
-/// Appends a question to those that are traced, if none of them is the same: one that is named
-/// twice is traced once.
-///
-/// `AllocError` if a growth was refused; then the contract says nothing about `questions`.
-pub fn push_question(questions: &mut Vec<Question>, question: Question) -> Result<(), AllocError>
-    ensures { OnOk result (questions.new.items ≡ with_question questions.old.items question) }
+/// What is traced if this is to be traced.
+fn watched_of<'a, S: SetBoard>(
+    alloc: Global,
+    debugger: &Debugger<S>,
+    symbols: &SymbolTable,
+    measure: &'a Measure,
+) -> Result<Watched<'a>, AllocError>
+    requires { IsSymbolsOf debugger.now.machine.input.program symbols.now }
+    ensures watched { IfOk result (λ x. watched_view x
+        ≡ spec.watched_of symbols.now debugger.now.machine.input.program measure.now) }
+    ensures sound { IfOk result (λ x. spec.IsSoundWatched debugger.now.machine.input.program
+        (watched_view x)) }
 {
-    let alloc = *questions.allocator();
-    let text = asked(alloc, &question)?;
-    if is_among(alloc, questions, &text)? {
-        return Ok(());
+    match measure {
+        Measure::Question(question) => Ok(Watched::Question(question)),
+        Measure::Formula(formula) => {
+            let machine = debugger.machine();
+            let main = machine.program().main();
+            let meant = meaning_of(alloc, machine, symbols, main, formula.text())?;
+            Ok(Watched::Formula(formula.text(), meaning_if(meant)))
+        }
     }
-    questions.push(question)?;
-    Ok(())
+}
+
+/// What is traced if these are to be traced.
+pub(crate) fn watched_all<'a, S: SetBoard>(
+    alloc: Global,
+    debugger: &Debugger<S>,
+    symbols: &SymbolTable,
+    measures: &'a [Measure],
+) -> Result<Vec<Watched<'a>>, AllocError>
+    requires { IsSymbolsOf debugger.now.machine.input.program symbols.now }
+    ensures watched { IfOk result (λ xs. map watched_view xs.items
+        ≡ spec.watched_all symbols.now debugger.now.machine.input.program measures.now) }
+    ensures sound { IfOk result
+        (λ xs. AreSound debugger.now.machine.input.program xs.items) }
+{
+    let mut watched = Vec::new(alloc);
+    for measure in measures {
+        watched.push(watched_of(alloc, debugger, symbols, measure)?)?;
+    }
+    Ok(watched)
+}
+
+/// Appends what is traced as it is asked.
+pub(crate) fn push_watched(watched: &Watched<'_>, text: &mut Vec<u8>) -> Result<(), AllocError>
+    ensures { OnOk result (text.new.items
+        ≡ text.old.items ++ spec.watched_text (watched_view watched.now)) }
+{
+    match watched {
+        Watched::Question(question) => push_asked(question, text),
+        Watched::Formula(formula, _) => text.extend_from_slice(formula),
+    }
 }

@@ -1,4 +1,4 @@
--- The measures that are the results of a run, as they are named.
+-- The measures of a run, in its trace or in its results, as they are named.
 use Rattle.std.specs.Prelude.{ℕ, ◌≡◌, Bool, true, false, List, [], ◌∷◌, ◌++◌, map, fold}
 use Rattle.std.specs.Prelude.{Option, Some, None, Result, Ok, Err}
 use Rattle.std.specs.Char.{to_ascii_uppercase}
@@ -17,7 +17,7 @@ use Rattle.ss_run.specs.declared.measure.Measure.TheVariants as measure
 use Rattle.ss_run.specs.Measure.{with_measure}
 use Rattle.ssrun.specs.declared.cause.Cause.{Cause}
 use Rattle.ssrun.specs.declared.cause.Cause.TheVariants.{Stop, NoQuestion, Unnamed}
-use Rattle.ssrun.specs.Questions.{watched_of}
+use Rattle.ssrun.specs.Questions.{question_of}
 
 -- what a text asks for: a measure; or none, and the lines that say why; or nothing that is known
 pub data Sought : Type 0 where
@@ -59,7 +59,7 @@ question_or_formula None formula = formula
 
 -- what a text asks for
 abbrev pub sought_of : ProgramTable → Symbols → List ℕ → Sought
-sought_of program symbols text = question_or_formula (watched_of program text) (formula_of program symbols text)
+sought_of program symbols text = question_or_formula (question_of program text) (formula_of program symbols text)
 
 -- some measures, and the one that a text asks for, if none of them is asked in the same words
 abbrev pub with_sought : List Measure → Sought → List Measure

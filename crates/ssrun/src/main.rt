@@ -1,5 +1,5 @@
-//! `ssrun [--watch QUESTION --trace FILE] [--result EXPRESSION --results FILE] MODEL [DATA]`: runs a
-//! model to its end and writes its report, a trace of questions, and a row of results.
+//! `ssrun [--watch EXPRESSION --trace FILE] [--result EXPRESSION --results FILE] MODEL [DATA]`: runs
+//! a model to its end and writes its report, a trace, and a row of results.
 #![tactic(auto)]
 
 ghost use Rattle.std.specs.Prelude.{◌≡◌};
@@ -19,14 +19,12 @@ use clap::Error;
 use clap::error::ErrorKind;
 use measures::read_measures;
 use meter::Meter;
-use questions::read_questions;
 use ss_host::{Stop, Stream, explain, read_arguments, read_file, read_or, stop_by, tell};
 use ss_run::{
     Asked, Measure, RunCut, RunEnd, WholeRun, model_warnings, results_head, run_model, run_status,
     trace_model, unfit_words,
 };
-use ss_session::{LoadFault, Loaded, drop_symbols, load_program, load_with_symbols};
-use ss_trace::Question;
+use ss_session::{LoadFault, Loaded, drop_symbols, load_with_symbols};
 use std::alloc::Global;
 use std::fs::{self, File};
 use std::io::{self, IsTerminal, Write};
@@ -39,27 +37,7 @@ type Ran = (Result<WholeRun, RunCut>, Vec<u8>);
 
 /// The words that the program takes.
 const USAGE: &str =
-    "ssrun [--watch QUESTION --trace FILE] [--result EXPRESSION --results FILE] MODEL [DATA]";
-
-/// The questions that some words name of a model; none if it is refused.
-fn questions_of<'a>(
-    alloc: Global,
-    model: &[u8],
-    texts: &[&'a str],
-) -> Result<Vec<Question>, Cause<'a>> {
-    if texts.is_empty() {
-        return Ok(Vec::new(alloc));
-    }
-    match load_program(alloc, model) {
-        Ok(program) => {
-            let questions = read_questions(alloc, &program, texts);
-            program.end();
-            questions
-        }
-        Err(LoadFault::Memory) => Err(Cause::Stop(Stop::Memory)),
-        Err(_) => Ok(Vec::new(alloc)),
-    }
-}
+    "ssrun [--watch EXPRESSION --trace FILE] [--result EXPRESSION --results FILE] MODEL [DATA]";
 
 /// The measures that some words name of a model; none if it is refused.
 fn measures_of<'a>(
@@ -99,7 +77,7 @@ fn created<'a>(rt: &HostRuntime, path: &'a str) -> Result<File, Stop<'a>> {
     }
 }
 
-/// Runs a model over its data, and writes the trace of some questions to the file of a path.
+/// Runs a model over its data, and writes its trace to the file of a path.
 fn run_traced<'a>(
     rt: &HostRuntime,
     model: &[u8],
@@ -123,11 +101,11 @@ fn run_traced<'a>(
 
 /// Reads model and data, in that order, and runs the model; gives its warnings too.
 ///
-/// The model runs only if both were read and each question and expression has a meaning in it.
+/// The model runs only if both were read and all that is watched or measured has a meaning in it.
 fn run<'a>(rt: &HostRuntime, words: &Words<'a>) -> Result<Ran, Cause<'a>> {
     let model = read_file(rt, words.model).map_err(Cause::Stop)?;
     let input = read_or(rt, words.input, b"").map_err(Cause::Stop)?;
-    let watched = questions_of(rt.alloc(), &model, &words.watched)?;
+    let watched = measures_of(rt.alloc(), &model, &words.watched)?;
     let results = measures_of(rt.alloc(), &model, &words.measured)?;
     let asked = Asked {
         watched: &watched,

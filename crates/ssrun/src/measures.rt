@@ -1,5 +1,5 @@
-//! The measures that `--result` names: questions as `--watch` takes them, or else expressions and
-//! conditions by the names of MAIN.
+//! The measures that `--watch` and `--result` name: questions, or else expressions, conditions and
+//! lists by the names of MAIN.
 ghost use Rattle.std.specs.Prelude.{◌≡◌, false, map, IfOk, OnOk, IfErr};
 ghost use Rattle.ss_words.specs.Reading.{option_view};
 ghost use Rattle.ss_expressions.specs.ValuedView.{judgement_view};
@@ -7,7 +7,7 @@ ghost use Rattle.ssrun.specs.Measures as spec;
 ghost use Rattle.ssrun.specs.MeasuresView.{sought_view};
 
 use crate::cause::Cause;
-use crate::questions::watched;
+use crate::questions::question_of;
 use ss_check::SymbolTable;
 use ss_expressions::{Judgement, judged_text};
 use ss_program::Program;
@@ -88,8 +88,8 @@ fn formula_or_missing(
     Ok(Sought::Refused(lines))
 }
 
-/// What a text asks for: a question as `--watch` takes it, if the program has its names; or else an
-/// expression or a condition that has a meaning in MAIN.
+/// What a text asks for: a question, if the program has its names; or else an expression, a
+/// condition or a list that has a meaning in MAIN.
 fn asked_for(
     alloc: Global,
     program: &Program,
@@ -98,7 +98,7 @@ fn asked_for(
 ) -> Result<Sought, AllocError>
     ensures { IfOk result (λ x. sought_view x ≡ spec.sought_of program.now symbols.now text.now) }
 {
-    match watched(alloc, program, text)? {
+    match question_of(alloc, program, text)? {
         Some(Ok(question)) => Ok(Sought::Measure(Measure::Question(question))),
         Some(Err(missing)) => {
             let formula = formula_in(alloc, program, symbols, text)?;

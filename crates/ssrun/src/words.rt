@@ -12,7 +12,7 @@ pub struct Words<'a> {
     pub model: &'a str,
     /// The path of its data, if one is named.
     pub input: Option<&'a str>,
-    /// The questions that are traced.
+    /// The expressions, conditions and questions that are traced.
     pub watched: Vec<&'a str>,
     /// The path of their trace, if one is named.
     pub trace: Option<&'a str>,
@@ -22,14 +22,14 @@ pub struct Words<'a> {
     pub results: Option<&'a str>,
 }
 
-/// The program, with the option that names a question to be traced.
+/// The program, with the option that names what is traced.
 fn with_watch<'a>(alloc: Global) -> Result<Command<'a>, Error> {
     let watch = Arg::new(alloc, "watch")
         .long("watch")
-        .value_name("QUESTION")
+        .value_name("EXPRESSION")
         .action(ArgAction::Append)
         .requires_arg("trace")?
-        .help("a question that is traced, as VAR v or COUNT s; may be repeated");
+        .help("an expression, condition or question that is traced; may be repeated");
     let command = Command::new(alloc, "ssrun")
         .version("1")
         .about("Runs a model to its end and writes its report")

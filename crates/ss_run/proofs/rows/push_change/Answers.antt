@@ -1,10 +1,10 @@
 use Rattle.std.proofs.Common.{◌≡◌, ◌+◌, ◌++◌, ◌∙◌, [], true, false, sym, ap, append-nil, rules}
-use Rattle.ss_trace.specs.Question.{changes_at}
-use Rattle.ss_trace.specs.Value.{value_at}
-use Rattle.ss_run.specs.Followed.{value_kept}
+use Rattle.ss_run.specs.Kept.{kept_in, kept_value}
+use Rattle.ss_run.specs.Watched.{watched_changes, watched_value}
+use Rattle.ss_run.specs.WatchedView.{watched_view}
 use Rattle.ss_run.specs.Trace.{change_row}
 use Rattle.ss_run.specs.Tracing.{row_of}
-use Rattle.ss_run.proofs.Following.{kept_value}
+use Rattle.ss_run.proofs.Keeping.{kept_value_is}
 use Rattle.ss_run.proofs.Traces.{row_is, row_of_same, row_of_other}
 use Rattle.ss_run.proofs.rows.push_change.Goals as goal
 
@@ -12,8 +12,8 @@ pub returns-then-not-branch-clause-row : goal.returns-then-not-branch-clause-row
 returns-then-not-branch-clause-row g c =
     let t = c.args.debugger.now.machine.input in
     let p = c.args.here.position in
-    let x = c.args.question.now in
-    let same : changes_at t x p ≡ false = sym c.in_ok-follow.ensures.changed ∙ c.if-not-branch.true in
+    let x = watched_view c.args.watched.now in
+    let same : watched_changes t x p ≡ false = sym c.in_ok-follow.ensures.changed ∙ c.if-not-branch.true in
     let none : change_row t p x ≡ [] = row_of_same t p x same in
     rw none (sym (append-nil _))
 
@@ -21,12 +21,12 @@ pub returns-clause-row : goal.returns-clause-row
 returns-clause-row g c =
     let t = c.args.debugger.now.machine.input in
     let p = c.args.here.position in
-    let x = c.args.question.now in
-    let f = c.follow.new.self in
-    let other : changes_at t x p ≡ true = sym c.in_ok-follow.ensures.changed ∙ c.if-not-branch.false in
-    let value : c.push_value.new.bytes.items ≡ value_at t x (p + 1) =
-    c.in_ok-push_value.ensures ∙ ap (λ text. text ++ value_kept x f.glance f.answer.items) c.new-value.ensures.items
-    ∙ kept_value t x (p + 1) f c.in_ok-follow.ensures.kept in
+    let x = watched_view c.args.watched.now in
+    let f = kept_in c.follow.new.self in
+    let other : watched_changes t x p ≡ true = sym c.in_ok-follow.ensures.changed ∙ c.if-not-branch.false in
+    let value : c.push_value.new.bytes.items ≡ watched_value t x (p + 1) =
+    c.in_ok-push_value.ensures ∙ ap (λ text. text ++ kept_value x f) c.new-value.ensures.items
+    ∙ kept_value_is t x (p + 1) f c.in_ok-follow.ensures.kept in
     let row : c.in_ok-row.row.items ≡ row_of t.program c.args.here x c.deref.result.now =
     rw (c.program.ensures, c.machine.ensures) at c.in_ok-row.ensures in
     let told : c.in_ok-row.row.items ≡ change_row t p x =

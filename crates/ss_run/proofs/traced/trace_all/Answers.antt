@@ -1,6 +1,7 @@
-use Rattle.std.proofs.Common.{◌≡◌, Err, rules}
+use Rattle.std.proofs.Common.{◌≡◌, Err, rules, map}
 use Rattle.ss_machine.specs.Moment.{position}
 use Rattle.ss_session.specs.Texts.{OutletState}
+use Rattle.ss_run.specs.WatchedView.{watched_view}
 use Rattle.ss_run.proofs.Traces.{head_in_part, traced_if_ok, cut_if_err}
 use Rattle.ss_run.proofs.traced.trace_all.Goals as goal
 
@@ -13,7 +14,7 @@ returns-in_err-put_text-clause-cut g c =
     let cut = c.in_err-put_text.field-0.0 in
     let h = rw (c.deref.ensures.value, c.in_ok-head.ensures) at c.in_err-put_text.ensures.err in
     let e : c.from_residual-in_err-put_text.result ≡ Err cut = search rules in
-    rw e (head_in_part cut c.args.debugger.now.machine.input c.args.questions.now a b h)
+    rw e (head_in_part cut c.args.debugger.now.machine.input (map watched_view c.args.watched.now) a b h)
 
 pub returns-clause-ok : goal.returns-clause-ok
 returns-clause-ok g c =
@@ -24,7 +25,7 @@ returns-clause-ok g c =
     let d : OutletState =
     record { taken = g.T.Outlet.taken c.trace_to_end.new.trace; failures = g.T.Outlet.failures c.trace_to_end.new.trace } in
     let h = rw (c.deref.ensures.value, c.in_ok-head.ensures) at c.in_ok-put_text.ensures.ok in
-    traced_if_ok c.trace_to_end.result c.args.debugger.now.machine.input c.args.questions.now
+    traced_if_ok c.trace_to_end.result c.args.debugger.now.machine.input (map watched_view c.args.watched.now)
     (position c.trace_to_end.new.debugger.machine) a b d h.0 h.1 c.trace_to_end.ensures.end c.trace_to_end.ensures.rows
 
 pub returns-clause-cut : goal.returns-clause-cut
@@ -36,5 +37,5 @@ returns-clause-cut g c =
     let d : OutletState =
     record { taken = g.T.Outlet.taken c.trace_to_end.new.trace; failures = g.T.Outlet.failures c.trace_to_end.new.trace } in
     let h = rw (c.deref.ensures.value, c.in_ok-head.ensures) at c.in_ok-put_text.ensures.ok in
-    cut_if_err c.trace_to_end.result c.args.debugger.now.machine.input c.args.questions.now a b d h.0 h.1
+    cut_if_err c.trace_to_end.result c.args.debugger.now.machine.input (map watched_view c.args.watched.now) a b d h.0 h.1
     c.trace_to_end.ensures.cut

@@ -4,6 +4,7 @@ use Rattle.ss_session.specs.Texts.{OutletState}
 use Rattle.ss_session.proofs.Pieces.{appends_none}
 use Rattle.ss_run.specs.declared.whole_run.RunCut.TheVariants.{Memory}
 use Rattle.ss_run.specs.Tracing.{MakesTrace}
+use Rattle.ss_run.specs.Watched.{watched_all}
 use Rattle.ss_run.proofs.Traces.{nothing_traced}
 use Rattle.ss_run.proofs.traced.trace_program.Goals as goal
 
@@ -13,4 +14,5 @@ returns g c =
     let a : OutletState =
     record { taken = g.T.Outlet.taken c.args.trace.now; failures = g.T.Outlet.failures c.args.trace.now } in
     let t = input_with c.args.loaded.program c.args.data_text.now in
-    inr (Memory, refl, (appends_none _, refl), nothing_traced t c.args.asked.watched.now a a (appends_none _, refl))
+    let xs = watched_all c.args.loaded.symbols t.program c.args.asked.watched.now in
+    inr (Memory, refl, (appends_none _, refl), nothing_traced t xs a a (appends_none _, refl))
