@@ -1,6 +1,7 @@
 -- What is kept of what is traced, over a step.
-use Rattle.std.proofs.Common.{◌≡◌, ℕ, zero, suc, ◌+◌, ◌<◌, List, [], ◌∷◌, ◌++◌, length, map, get_or, Bool, Option, Some, None}
-use Rattle.std.proofs.Common.{refl, sym, ap, ◌∙◌, arith, append_assoc}
+use Rattle.std.proofs.Common.{◌≡◌, ℕ, zero, suc, ◌+◌, ◌<◌, List, [], ◌∷◌, ◌++◌, length, map, get_or}
+use Rattle.std.proofs.Common.{Bool, true, false, Option, Some, None}
+use Rattle.std.proofs.Common.{refl, ap, ◌∙◌, arith}
 use Rattle.std.specs.List.{flat_map}
 use Rattle.ss_program.specs.Program.{ProgramTable}
 use Rattle.ss_state.specs.Run.{Input}
@@ -14,6 +15,8 @@ use Rattle.ss_readings.specs.Followed.{IsFollowed}
 use Rattle.ss_expressions.specs.Meanings.{Meaning, subject_of}
 use Rattle.ss_run.specs.declared.followed.Followed.{Followed}
 use Rattle.ss_run.specs.declared.watched.Watched.{Watched as Code}
+use Rattle.ss_run.specs.declared.glance.Glance.{Glance}
+use Rattle.ss_run.specs.declared.glance.Glance.TheVariants as glance
 use Rattle.ss_run.specs.Followed as followed
 use Rattle.ss_run.specs.Glance.{glance_at}
 use Rattle.ss_run.specs.Kept.{Kept, answer, value, nothing, value_in, value_at, kept_at, kept_value}
@@ -52,7 +55,7 @@ frames_in _ = 0
 
 abbrev opened_in : Kept → Bool
 opened_in (value asked frames opened v) = opened
-opened_in _ = Bool.false
+opened_in _ = false
 
 abbrev seen_in : Kept → Option values.Value
 seen_in (value asked frames opened v) = v
@@ -80,6 +83,27 @@ value_there t m p f asked h =
     let opened : f.is_open ≡ is_open t 0 p = rw asked at h.opened in
     let same : value_if f.value ≡ seen t (subject_of m t.program) 0 p = rw asked at h.value in
     rw (asked, frames, opened, same) refl
+
+-- ---- a followed question
+
+abbrev glance_in : Kept → Glance
+glance_in (answer g text) = g
+glance_in _ = glance.Nothing
+
+abbrev text_in : Kept → List ℕ
+text_in (answer g text) = text
+text_in _ = []
+
+pub answer_there : (t : Input) (x : Question) (p : ℕ) (f : Followed) → followed.kept_in f ≡ followed.kept_at t x p →
+    answer f.glance f.answer.items ≡ kept_at t (question x) p
+answer_there t x p f h = ap (λ both. answer both.0 both.1) h
+
+pub answered_to : (t : Input) (x : Question) (p : ℕ) (f : Followed) →
+    answer f.glance f.answer.items ≡ kept_at t (question x) p → followed.kept_in f ≡ followed.kept_at t x p
+answered_to t x p f h =
+    let seen : f.glance ≡ glance_at t x p = ap glance_in h in
+    let text : f.answer.items ≡ followed.answer_kept t x p = ap text_in h in
+    rw (seen, text) refl
 
 -- ---- the value by what is kept
 
