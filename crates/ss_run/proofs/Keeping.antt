@@ -1,7 +1,8 @@
 -- What is kept of what is traced, over a step.
 use Rattle.std.proofs.Common.{◌≡◌, ℕ, zero, suc, ◌+◌, ◌<◌, List, [], ◌∷◌, ◌++◌, length, map, get_or}
 use Rattle.std.proofs.Common.{Bool, true, false, Option, Some, None}
-use Rattle.std.proofs.Common.{refl, ap, ◌∙◌, arith}
+use Rattle.std.proofs.Common.{refl, sym, ap, ◌∙◌, ◌≤◌, arith, take}
+use Rattle.std.proofs.lemmas.List.{take_all, map-append, map_more}
 use Rattle.std.specs.List.{flat_map}
 use Rattle.ss_program.specs.Program.{ProgramTable}
 use Rattle.ss_state.specs.Run.{Input}
@@ -119,3 +120,18 @@ pub flat_over : {X Y A : Type 0} → (f : Y → List A) (g : X → Y) (xs : List
     flat_map f (map g xs) ≡ flat_map (λ x. f (g x)) xs
 flat_over f g [] = refl
 flat_over f g (x ∷ xs) = ap (λ zs. f (g x) ++ zs) (flat_over f g xs)
+
+-- the rows of all, if those of as many as there are were appended
+pub all_rows_told : {X Y A : Type 0} → (f : Y → List A) (g : X → Y) (xs : List X) (k : ℕ) (first rows : List A) →
+    length xs ≤ k → rows ≡ first ++ flat_map (λ x. f (g x)) (take k xs) → rows ≡ first ++ flat_map f (map g xs)
+all_rows_told f g xs k first rows l h =
+    h ∙ ap (λ ys. first ++ flat_map (λ x. f (g x)) ys) (take_all k xs l)
+    ∙ ap (λ zs. first ++ zs) (sym (flat_over f g xs))
+
+-- one more that was made
+pub more_made : {X Y W : Type 0} → (f : X → W) (h : Y → W) (xs : List X) (ys zs : List Y) (k : ℕ) (x : X) (y : Y) →
+    k < length xs → x ≡ get_or xs k x → map h ys ≡ map f (take k xs) → h y ≡ f x → zs ≡ ys ++ y ∷ [] →
+    map h zs ≡ map f (take (k + 1) xs)
+more_made f h xs ys zs k x y l e m t z =
+    rw z (map-append h ys (y ∷ []) ∙ ap (λ ws. ws ++ h y ∷ []) m
+    ∙ ap (λ w. map f (take k xs) ++ w ∷ []) (t ∙ ap f e) ∙ sym (map_more f xs k x l))

@@ -6,7 +6,8 @@ ghost use Rattle.ss_readings.specs.Seen.{changes_in};
 ghost use Rattle.ss_expressions.specs.Meanings.{IsSoundMeaning, subject_of};
 ghost use Rattle.ss_run.specs.Kept.{kept_in, kept_at, kept_value, value_in, value_at};
 ghost use Rattle.ss_run.specs.Tracing.{IsHere};
-ghost use Rattle.ss_run.specs.Watched.{watched_changes, question, IsSoundWatched};
+ghost use Rattle.ss_run.specs.Watched as spec;
+ghost use Rattle.ss_run.specs.Watched.{watched_changes, IsSoundWatched};
 ghost use Rattle.ss_run.specs.WatchedView.{watched_view};
 
 use crate::followed::Followed;
@@ -85,9 +86,9 @@ impl LastSeen {
         requires here { IsHere debugger.now.machine.input here.position here }
         requires step { position debugger.now.machine ≡ here.position + 1 }
         requires kept { kept_in self.old
-            ≡ kept_at debugger.now.machine.input (question question.now) here.position }
+            ≡ kept_at debugger.now.machine.input (spec.question question.now) here.position }
         ensures kept { OnOk result (kept_in self.new
-            ≡ kept_at debugger.now.machine.input (question question.now) (here.position + 1)) }
+            ≡ kept_at debugger.now.machine.input (spec.question question.now) (here.position + 1)) }
         ensures changed { IfOk result (λ changed. changed
             ≡ changes_at debugger.now.machine.input question.now here.position) }
     {

@@ -131,6 +131,7 @@ pub(crate) fn push_changes<S: SetBoard>(
 }
 
 /// What is kept at the start of a run of all that is traced.
+#[tactic(auto, using(crate::proofs::Keeping::sound_at))]
 pub(crate) fn keep_all<S: SetBoard>(
     alloc: Global,
     debugger: &Debugger<S>,

@@ -58,6 +58,7 @@ fn watched_of<'a, S: SetBoard>(
 }
 
 /// What is traced if these are to be traced.
+#[tactic(auto, using(crate::proofs::Keeping::sound_none))]
 pub(crate) fn watched_all<'a, S: SetBoard>(
     alloc: Global,
     debugger: &Debugger<S>,
@@ -72,7 +73,8 @@ pub(crate) fn watched_all<'a, S: SetBoard>(
 {
     let mut watched = Vec::new(alloc);
     for measure in measures {
-        watched.push(watched_of(alloc, debugger, symbols, measure)?)?;
+        let one = watched_of(alloc, debugger, symbols, measure)?;
+        watched.push(one)?;
     }
     Ok(watched)
 }

@@ -1,9 +1,18 @@
-use Rattle.std.proofs.Common.{◌≡◌, Err, rules, map}
+use Rattle.std.proofs.Common.{◌≡◌, Err, refl, rules, map}
 use Rattle.ss_machine.specs.Moment.{position}
 use Rattle.ss_session.specs.Texts.{OutletState}
+use Rattle.ss_session.proofs.Pieces.{appends_none}
+use Rattle.ss_run.specs.declared.whole_run.RunCut.TheVariants.{Memory}
 use Rattle.ss_run.specs.WatchedView.{watched_view}
-use Rattle.ss_run.proofs.Traces.{head_in_part, traced_if_ok, cut_if_err}
+use Rattle.ss_run.proofs.Traces.{head_in_part, nothing_traced, traced_if_ok, cut_if_err}
 use Rattle.ss_run.proofs.traced.trace_all.Goals as goal
+
+pub returns-in_err-head-clause-cut : goal.returns-in_err-head-clause-cut
+returns-in_err-head-clause-cut g c =
+    let a : OutletState =
+    record { taken = g.T.Outlet.taken c.args.trace.now; failures = g.T.Outlet.failures c.args.trace.now } in
+    let e : c.from_residual.result ≡ Err Memory = search rules in
+    rw e (nothing_traced c.args.debugger.now.machine.input (map watched_view c.args.watched.now) a a (appends_none _, refl))
 
 pub returns-in_err-put_text-clause-cut : goal.returns-in_err-put_text-clause-cut
 returns-in_err-put_text-clause-cut g c =

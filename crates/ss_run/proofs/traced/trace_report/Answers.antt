@@ -14,14 +14,14 @@ returns-in_err-watched g c =
     record { taken = g.T.Outlet.taken c.args.trace.now; failures = g.T.Outlet.failures c.args.trace.now } in
     let t = c.args.debugger.now.machine.input in
     let xs = watched_all c.args.asked.symbols.now t.program c.args.asked.watched.now in
-    let e : c.from_residual-in_err-watched.result ≡ Err Memory = search rules in
+    let e : c.from_residual.result ≡ Err Memory = search rules in
     rw e (inr (Memory, refl, (appends_none _, refl), nothing_traced t xs a a (appends_none _, refl)))
 
 pub returns-in_err-trace_all : goal.returns-in_err-trace_all
 unfolding MakesTrace
 returns-in_err-trace_all g c =
     let cut = c.in_err-trace_all.field-0.0 in
-    let e : c.from_residual.result ≡ Err cut = search rules in
+    let e : c.from_residual-in_err-trace_all.result ≡ Err cut = search rules in
     let said = rw (c.deref.ensures.value, c.in_ok-watched.ensures.watched) at c.in_err-trace_all.ensures.cut in
     rw e (inr (cut, refl, (appends_none _, refl), said))
 
