@@ -4,6 +4,7 @@ ghost use Rattle.ss_prompt.specs.Causes.{why_cause_said, back_cause_next, back_c
 ghost use Rattle.ss_prompt.specs.Causes.{IsBackCauseRefused, cause_next, cause_said, IsCauseRefused};
 ghost use Rattle.ss_prompt.specs.Histories.{HasLookedBack};
 ghost use Rattle.ss_prompt.specs.PromptState.{state_at};
+ghost use Rattle.ss_prompt.specs.Valued.{Suits};
 
 use crate::causes::CauseCommand;
 use crate::desk::PromptDesk;
@@ -43,6 +44,7 @@ impl<'a> PromptDesk<'a> {
         debugger: &mut Debugger<S>,
         answer: &mut Vec<u8>,
     ) -> Result<(), AllocError>
+        requires { Suits debugger.old.machine.input.program self.now.symbols }
         ensures place { OnOk result (state_at debugger.new self.now
             ≡ back_cause_next (state_at debugger.old self.now)) }
         ensures said { OnOk result (answer.new.items
@@ -61,6 +63,7 @@ impl<'a> PromptDesk<'a> {
         command: CauseCommand,
         answer: &mut Vec<u8>,
     ) -> Result<(), AllocError>
+        requires { Suits debugger.old.machine.input.program self.now.symbols }
         ensures place { OnOk result (state_at debugger.new self.now
             ≡ cause_next (state_at debugger.old self.now) command) }
         ensures said { OnOk result (answer.new.items
