@@ -6,7 +6,7 @@ ghost use Rattle.ss_debug.specs.View.{debugger_state_of};
 ghost use Rattle.ss_debug.specs.Turn.{debugger_state_with};
 ghost use Rattle.ss_messages.specs.Bodies.{set_item, unset_item};
 ghost use Rattle.ss_adapter.specs.Places.{nearer_line, next_line, first_place_line, named_line};
-ghost use Rattle.ss_adapter.specs.Places.{breaks_left, with_break};
+ghost use Rattle.ss_adapter.specs.Places.{breaks_left, unless_kept, with_break};
 ghost use Rattle.ss_adapter.specs.Places.{with_next, with_condition, with_point, with_named};
 ghost use Rattle.ss_adapter.specs.Places.{unset_items, setting_of, section_setting_of};
 ghost use Rattle.ss_adapter.specs.Places.{IsSetting};
@@ -95,9 +95,27 @@ fn named_line(program: &Program, name: &[u8]) -> Option<u32>
     }
 }
 
+/// Makes a line no break line, unless a request of the other kind set it.
+#[tactic(auto, unfolding(ss_debug::proofs::Unfoldings::turns))]
+fn clear_unless_kept<S: SetBoard>(
+    debugger: &mut Debugger<S>,
+    line: u32,
+    kept: &[u32],
+    scrap: &mut Vec<u8>,
+) -> Result<(), AllocError>
+    ensures input { debugger.new.machine.input ≡ debugger.old.machine.input }
+    ensures state { OnOk result (debugger_state_of debugger.new
+        ≡ debugger_state_with (debugger_state_of debugger.old)
+        (unless_kept kept.now debugger.old.breaks line)) }
+{
+    if !kept.iter().any(|k| *k == line) {
+        obey(debugger, Command::Clear(line), scrap)?;
+    }
+    Ok(())
+}
+
 /// Makes the lines of an earlier request no break lines, unless requests of the other kind set
 /// them.
-#[tactic(auto, unfolding(ss_debug::proofs::Unfoldings::turns))]
 fn clear<S: SetBoard>(
     alloc: Global,
     debugger: &mut Debugger<S>,
@@ -111,9 +129,7 @@ fn clear<S: SetBoard>(
 {
     let mut scrap = Vec::new(alloc);
     for line in set {
-        if !kept.iter().any(|k| *k == *line) {
-            obey(debugger, Command::Clear(*line), &mut scrap)?;
-        }
+        clear_unless_kept(debugger, *line, kept, &mut scrap)?;
     }
     Ok(())
 }
