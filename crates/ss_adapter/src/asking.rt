@@ -98,12 +98,18 @@ fn ask<S: SetBoard>(
         (answer_to_asked (adapter_state_of debugger.now desk.now) text.now
         (asked_of debugger.now.machine.input.program text.now))) }
 {
-    let reason: &'static [u8] = match asked(post.alloc(), debugger.machine().program(), text)? {
-        Some(Ok(question)) => return answer_question(debugger, request, post, &question),
-        Some(Err(_)) => b"nothing has this name",
-        None => b"no question",
-    };
-    answer_text(debugger, desk, request, post, text, reason)
+    match asked(post.alloc(), debugger.machine().program(), text)? {
+        Some(Ok(question)) => answer_question(debugger, request, post, &question),
+        Some(Err(_)) => answer_text(
+            debugger,
+            desk,
+            request,
+            post,
+            text,
+            b"nothing has this name",
+        ),
+        None => answer_text(debugger, desk, request, post, text, b"no question"),
+    }
 }
 
 /// Answers with the fault at the position of the run.
