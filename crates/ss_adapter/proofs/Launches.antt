@@ -1,9 +1,18 @@
--- The messages that answer launch, one after the other.
-use Rattle.std.proofs.Common.{◌≡◌, ℕ, List, [], ◌∷◌, codes, sym}
+-- The messages that answer launch, one after the other; and the run that is launched.
+use Rattle.std.proofs.Common.{◌≡◌, ℕ, List, [], ◌∷◌, codes, refl, sym}
+use Rattle.ss_check.specs.Symbols.{Symbols}
+use Rattle.ss_state.specs.Run.{input_with}
+use Rattle.ss_debug.specs.View.{DebuggerView, debugger_state_of}
+use Rattle.ss_debug.specs.Turn.{initial_debugger_state}
+use Rattle.ss_session.specs.Model.{IsOfModel}
+use Rattle.ss_messages.specs.declared.counting.Counting.{Counting}
+use Rattle.ss_messages.specs.declared.request.Stops.{Stops}
 use Rattle.ss_messages.specs.declared.request.Request.{Request}
 use Rattle.ss_messages.specs.Messages.{PostView, posted_with, posted_all, reply, event}
 use Rattle.ss_messages.proofs.Posts.{posted_both}
-use Rattle.ss_adapter.specs.Before.{warning_events, answer_to_launch}
+use Rattle.ss_adapter.specs.Before.{warning_events, answer_to_launch, IsLaunched}
+use Rattle.ss_adapter.specs.Desk.{DeskView}
+use Rattle.ss_adapter.specs.Turn.{AdapterState, adapter_state_of}
 
 -- the event after the reply and the warnings of the model: that the adapter is ready
 pub accepted : (r : Request) (p replied warned : PostView) (warnings : List ℕ) →
@@ -13,3 +22,23 @@ unfolding posted_all
 accepted r p replied warned warnings e f =
     rw (f, e) (sym (posted_both r (posted_with r p (reply (codes "{}"))) (warning_events warnings)
     (event (codes "initialized") (codes "{}") ∷ [])))
+
+-- a debugger at the start of the run, and a desk on which nothing is set
+pub launched : (model text path p m : List ℕ) (counting : Counting) (stops : Stops) (symbols : Symbols)
+    (debugger : DebuggerView) (desk : DeskView) (run : AdapterState) → run ≡ adapter_state_of debugger desk →
+    desk ≡ record {
+      path = p;
+      model = m;
+      symbols = symbols;
+      displays = [];
+      set = [];
+      sections = [];
+      watched = [];
+      told = 0;
+      counting = counting;
+      stops = stops;
+    } → p ≡ path → m ≡ model → IsOfModel model debugger.machine.input.program symbols →
+    debugger.machine.input ≡ input_with debugger.machine.input.program text →
+    debugger_state_of debugger ≡ initial_debugger_state → IsLaunched model text path counting stops run
+launched model text path p m counting stops symbols debugger desk run e d h k o i s =
+    rw (e, d, h, k) (record { program = o; input = i; start = s; desk = refl })
