@@ -1,5 +1,6 @@
 //! The break lines of a request.
-ghost use Rattle.std.specs.Prelude.{◌≡◌, ◌+◌, ◌++◌, [], ◌∷◌, fold, map, slice_get, Some, OnOk};
+ghost use Rattle.std.specs.Prelude.{◌≡◌, ◌+◌, ◌++◌, [], ◌∷◌, fold, map, slice_get, nat_eq, Some, OnOk};
+ghost use Rattle.std.specs.List.{list_any};
 ghost use Rattle.ss_check.specs.Asked.{IsSymbolsOf};
 ghost use Rattle.ss_debug.specs.BreakCondition.{IsSoundOf};
 ghost use Rattle.ss_debug.specs.View.{debugger_state_of};
@@ -95,6 +96,13 @@ fn named_line(program: &Program, name: &[u8]) -> Option<u32>
     }
 }
 
+/// Whether a line is one of those that are kept.
+fn is_kept(kept: &[u32], line: u32) -> bool
+    ensures { result ≡ list_any (λ k. nat_eq k line) kept.now }
+{
+    kept.iter().any(|k| *k == line)
+}
+
 /// Makes a line no break line, unless a request of the other kind set it.
 #[tactic(auto, unfolding(ss_debug::proofs::Unfoldings::turns))]
 fn clear_unless_kept<S: SetBoard>(
@@ -108,9 +116,10 @@ fn clear_unless_kept<S: SetBoard>(
         ≡ debugger_state_with (debugger_state_of debugger.old)
         (unless_kept kept.now debugger.old.breaks line)) }
 {
-    if !kept.iter().any(|k| *k == line) {
-        obey(debugger, Command::Clear(line), scrap)?;
+    if is_kept(kept, line) {
+        return Ok(());
     }
+    obey(debugger, Command::Clear(line), scrap)?;
     Ok(())
 }
 

@@ -3,7 +3,7 @@ use Rattle.ss_adapter.proofs.Launches.{launched}
 use Rattle.ss_adapter.proofs.opening.launch.Goals as goal
 
 pub returns-in-Ok-tell_opened : goal.returns-in-Ok-tell_opened
-returns-in-Ok-tell_opened g c =
+returns-in-Ok-tell_opened c =
     let path : c.in_ok-path.path.items ≡ c.args.source.path.now = search rules in
     let bytes : c.in_ok-bytes.bytes.items ≡ c.args.model.now = search rules in
     let program : c.new.result.input.program ≡ c.in-Ok.debugger.machine.input.program =
