@@ -11,9 +11,9 @@ returns-in-Ok-tell_opened c =
     record {
       run = (
         launched c.args.model.now c.args.text.now c.args.source.path.now c.in_ok-path.path.items
-            c.in_ok-bytes.bytes.items c.args.source.counting c.args.stops _ _
+            c.in_ok-bytes.bytes.items c.args.source.counting c.args.stops _ c.in-Ok.field-0.debugger
             c.new-desk.result c.new.result c.new.ensures c.new-desk.ensures path bytes c.in-Ok.ensures.symbols
             c.in-Ok.ensures.input c.in-Ok.ensures.start,
-        rw program (search rules),
+        rw program (rw (c.program.ensures, c.machine.ensures) at c.in-Ok-tell_opened.ensures),
       );
     }
