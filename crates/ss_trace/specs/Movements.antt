@@ -1,11 +1,11 @@
 -- The ends of the movements over and out of sections, to a time and to a position.
-use Rattle.std.specs.Prelude.{ℕ, zero, suc, ◌+◌, ◌-◌, pos, int_lt, Bool, not, ◌&&◌, ◌||◌, List, length, codes}
+use Rattle.std.specs.Prelude.{ℕ, zero, suc, ◌+◌, ◌-◌, pos, int_lt, Bool, false, not, ◌&&◌, ◌||◌, List, length, codes}
 use Rattle.std.specs.Prelude.{None, if◌then◌else◌, nat_lt, nat_le}
-use Rattle.ss_state.specs.declared.limits.TheConstants.{LAST_POSITION}
 use Rattle.ss_state.specs.Run.{Input, run}
 use Rattle.ss_debug.specs.BreakLines.{BreakPoint}
 use Rattle.ss_debug.specs.Move.{StopCondition, is_on_break, forward_end, search_back_end, step_condition}
 use Rattle.ss_debug.specs.Move.{MovementShape, forward, back, search_back}
+use Rattle.ss_trace.specs.declared.movement.TheConstants.{GREATEST_JOURNEY}
 use Rattle.ss_trace.specs.declared.movement.Movement.{Movement}
 use Rattle.ss_trace.specs.declared.movement.Movement.TheVariants.{Over, Out, BackOver, BackOut, BackTo, Go, GoEnd}
 use Rattle.ss_trace.specs.declared.movement.Movement.TheVariants.{RunChange, BackChange}
@@ -103,6 +103,10 @@ pub data Shape : Type 0 where
 abbrev pub go_shape : ℕ → ℕ → MovementShape
 go_shape p q = if nat_lt q p then back (p - q) else forward step_condition (q - p)
 
+-- GO END stops nowhere before its bound
+abbrev pub end_condition : StopCondition
+end_condition = record { time = None; test = λ p. false; word = codes "DONE"; bound_word = codes "BOUND" }
+
 -- the effect of each movement
 unfoldable pub shape_of : Input → ℕ → Movement → Shape
 shape_of input p (Over k) = over_by k
@@ -111,6 +115,6 @@ shape_of input p (BackOver k) = back_over_by k
 shape_of input p BackOut = debugger_shape (search_back (is_outside input (frames_at input p)) (codes "DONE"))
 shape_of input p (BackTo time) = debugger_shape (search_back (is_before input time) (codes "TIME"))
 shape_of input p (Go q) = debugger_shape (go_shape p q)
-shape_of input p GoEnd = debugger_shape (forward step_condition (LAST_POSITION + 1))
+shape_of input p GoEnd = debugger_shape (forward end_condition GREATEST_JOURNEY)
 shape_of input p (RunChange x) = ahead (has_changed input x) (codes "CHANGE")
 shape_of input p (BackChange x) = seek_back (changes_at input x) (codes "CHANGE")

@@ -1,11 +1,14 @@
 //! The movements over and out of sections, to a time, to a position and to a change.
 use crate::question::Question;
 
+/// The most steps of GO END (docs/PROMPT.md, "To a time, to a state").
+pub const GREATEST_JOURNEY: u64 = 100_000_000;
+
 /// A movement in addition to those of the debugger (docs/DEBUGGER.md).
 ///
 /// Those forward end at a state that isn't ready, and, but for `Go` and `GoEnd`, at a break line;
 /// those back end at the earliest kept position. All but `Go` and `GoEnd` are bounded by
-/// `GREATEST_BOUND` steps.
+/// `GREATEST_BOUND` steps; `GoEnd` is by `GREATEST_JOURNEY`.
 #[derive(Drop)]
 pub enum Movement {
     /// OVER: this number of times forward to a state with no more frames.
@@ -21,7 +24,7 @@ pub enum Movement {
     BackTo(u64),
     /// GO: to this position, forward or back.
     Go(u64),
-    /// GO END: forward to the first state that isn't ready.
+    /// GO END: forward to the first state that isn't ready, if the bound does not come before.
     GoEnd,
     /// RUN CHANGE: forward to the state after a step at which this question changes.
     RunChange(Question),

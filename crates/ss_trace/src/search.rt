@@ -2,13 +2,14 @@
 ghost use Rattle.std.specs.Prelude.{◌≡◌, ◌++◌, OnOk, OnErr, ℕ, List, codes};
 ghost use Rattle.ss_state.specs.Run.{Input};
 ghost use Rattle.ss_debug.specs.BreakLines.{BreakPoint};
-ghost use Rattle.ss_debug.specs.Move.{search_back, shape_of as standing_shape};
+ghost use Rattle.ss_debug.specs.Move.{forward, search_back, shape_of as standing_shape};
 ghost use Rattle.ss_debug.specs.Turn.{debugger_state_after_movement, movement_answer};
 ghost use Rattle.ss_debug.specs.AfterRefusal.{IsStateAfterRefusedMovement};
 ghost use Rattle.ss_debug.specs.View.{debugger_state_of};
 ghost use Rattle.ss_trace.specs.Question.{changes_at};
 ghost use Rattle.ss_trace.specs.Movements.{debugger_shape, ahead, seek_back, over_by, back_over_by, go_shape};
-ghost use Rattle.ss_trace.specs.Movements.{has_changed};
+ghost use Rattle.ss_trace.specs.Movements.{end_condition, has_changed};
+ghost use Rattle.ss_trace.specs.declared.movement.TheConstants.{GREATEST_JOURNEY};
 ghost use Rattle.ss_trace.specs.Turn.{state_after, answer, IsStateAfterRefusal};
 ghost use Rattle.ss_trace.specs.Turn.{state_after_shape, shape_answer, IsAfterRefusedShape};
 ghost use Rattle.ss_trace.specs.View.{sought_test};
@@ -17,13 +18,12 @@ use crate::ahead::ahead;
 use crate::back::back_to;
 use crate::change_search::{ahead_to_change, back_to_change};
 use crate::counted::{back_over, frames, over};
-use crate::movement::Movement;
+use crate::movement::{GREATEST_JOURNEY, Movement};
 use crate::question::Question;
-use crate::sought::{Sought, is_found};
+use crate::sought::{Sought, is_found, is_ready_now};
 use crate::text::{backward_word, forward_word};
 use ss_debug::{Command, Debugger, GREATEST_BOUND, Movement as Standing, obey};
 use ss_links::SetBoard;
-use ss_state::LAST_POSITION;
 use std::alloc::AllocError;
 
 /// A movement of the debugger, and its answer.
@@ -95,6 +95,30 @@ fn go_over<S: SetBoard>(
     let from = debugger.machine().position();
     let left = over(debugger, count)?;
     debugger.push_movement(forward_word(debugger, b"DONE", from, left == 0), bytes)
+}
+
+/// GO END, and its answer.
+fn go_to_end<S: SetBoard>(debugger: &mut Debugger<S>, bytes: &mut Vec<u8>) -> Result<(), AllocError>
+    ensures input { debugger.new.machine.input ≡ debugger.old.machine.input }
+    ensures place { OnOk result (debugger_state_of debugger.new
+        ≡ state_after_shape debugger.old.machine.input (debugger_state_of debugger.old)
+        (debugger_shape (forward end_condition GREATEST_JOURNEY))) }
+    ensures said { OnOk result (bytes.new.items ≡ bytes.old.items
+        ++ shape_answer debugger.old.machine.input (debugger_state_of debugger.old)
+        (debugger_shape (forward end_condition GREATEST_JOURNEY))) }
+    ensures memory { OnErr result ((bytes.new.items ≡ bytes.old.items)
+        × IsAfterRefusedShape debugger.old.machine.input (debugger_state_of debugger.old)
+        (debugger_shape (forward end_condition GREATEST_JOURNEY))
+        (debugger_state_of debugger.new)) }
+{
+    let mut said = Vec::new(*bytes.allocator());
+    make_standing(debugger, Standing::Step(GREATEST_JOURNEY), &mut said)?;
+    let word: &'static [u8] = if is_ready_now(debugger) {
+        b"BOUND"
+    } else {
+        b"HALTED"
+    };
+    debugger.push_movement(word, bytes)
 }
 
 /// A movement back to a state that is looked for, and its answer.
@@ -226,7 +250,7 @@ pub fn make_movement<S: SetBoard>(
             let steps = go_steps(debugger.machine().position(), position);
             make_standing(debugger, steps, bytes)
         }
-        Movement::GoEnd => make_standing(debugger, Standing::Step(LAST_POSITION + 1), bytes),
+        Movement::GoEnd => go_to_end(debugger, bytes),
         Movement::RunChange(question) => go_to_change(debugger, &question, bytes),
         Movement::BackChange(question) => go_back_to_change(debugger, &question, bytes),
     }
