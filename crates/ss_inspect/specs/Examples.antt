@@ -1,12 +1,13 @@
 -- Small programs whose states are seen.
 use Rattle.std.specs.Prelude.{ℕ, ◌+◌, List, [], ◌∷◌, codes, false, None}
+use Rattle.ss_words.specs.declared.terms.Rank.TheVariants.{High, Low}
 use Rattle.ss_words.specs.declared.terms.TermSign.TheVariants.{Plus}
 use Rattle.ss_program.specs.declared.target.Target.TheVariants.{Variable as ToVariable, Attribute}
 use Rattle.ss_program.specs.declared.making.Making.TheVariants.{Create, CreateEvery}
 use Rattle.ss_program.specs.declared.filing.Position.TheVariants.{ByRule}
 use Rattle.ss_program.specs.declared.filing.Filing.TheVariants.{File}
 use Rattle.ss_program.specs.declared.kinds.ClassKind.TheVariants.{Permanent, Temporary, Event as OfEvent}
-use Rattle.ss_program.specs.declared.kinds.Discipline.TheVariants.{Fifo}
+use Rattle.ss_program.specs.declared.kinds.Discipline.TheVariants.{Fifo, Lifo, Ranked}
 use Rattle.ss_program.specs.declared.kinds.Owner.TheVariants.{System, OwnedBy}
 use Rattle.ss_program.specs.declared.kinds.SectionKind.{SectionKind}
 use Rattle.ss_program.specs.declared.kinds.SectionKind.TheVariants.{Main, Routine, Event}
@@ -114,3 +115,40 @@ desks = record {
 -- its run over data
 abbrev pub desks_run : Input
 desks_run = input_with desks (codes "3\n")
+
+-- queues of jobs: QUEUE RANKED BY HIGH URGENCY THEN BY LOW SIZE, one of each desk; LATE RANKED BY LOW SIZE, the
+-- system's; DONE a LIFO set of the system
+abbrev pub queues : ProgramTable
+queues = record {
+  globals = codes "DESK" ∷ codes "N.DESK" ∷ codes "JOB" ∷ [];
+  classes =
+      record { name = codes "DESK"; kind = Permanent 1; variable = 0; attributes = [] }
+      ∷ record {
+        name = codes "JOB";
+        kind = Temporary;
+        variable = 2;
+        attributes = codes "SIZE" ∷ codes "URGENCY" ∷ [];
+      }
+      ∷ [];
+  sets =
+      record {
+        name = codes "QUEUE";
+        discipline = Ranked (record { rank = High; attribute = 1 } ∷ record { rank = Low; attribute = 0 } ∷ []);
+        owner = OwnedBy 0;
+        member = 1;
+      }
+      ∷ record {
+        name = codes "LATE";
+        discipline = Ranked (record { rank = Low; attribute = 0 } ∷ []);
+        owner = System;
+        member = 1;
+      }
+      ∷ record { name = codes "DONE"; discipline = Lifo; owner = System; member = 1 }
+      ∷ [];
+  priority = [];
+  sections = section (codes "MAIN") Main 8 0 0 [] (end_place ∷ []) ∷ [];
+}
+
+-- its run
+abbrev pub queues_run : Input
+queues_run = input_with queues []

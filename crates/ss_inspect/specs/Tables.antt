@@ -1,5 +1,8 @@
 -- The texts that show the tables of a program: classes, sets, sections.
 use Rattle.std.specs.Prelude.{ℕ, List, [], ◌∷◌, ◌++◌, length, codes, decimal}
+use Rattle.ss_words.specs.declared.terms.Rank.{Rank}
+use Rattle.ss_words.specs.declared.terms.Rank.TheVariants.{High, Low}
+use Rattle.ss_program.specs.declared.keys.Key.{Key}
 use Rattle.ss_program.specs.declared.kinds.ClassKind.{ClassKind}
 use Rattle.ss_program.specs.declared.kinds.ClassKind.TheVariants.{Permanent, Temporary, Event as OfEvent}
 use Rattle.ss_program.specs.declared.kinds.Discipline.{Discipline}
@@ -11,7 +14,7 @@ use Rattle.ss_program.specs.declared.kinds.SectionKind.TheVariants.{Main, Routin
 use Rattle.ss_program.specs.Program.{ProgramTable, class_of, set_of, section_of}
 use Rattle.ss_store.specs.Store.{Store}
 use Rattle.ss_state.specs.Run.{Input, run}
-use Rattle.ss_inspect.specs.Texts.{texts_below, lines_or}
+use Rattle.ss_inspect.specs.Texts.{texts_below, lines_or, name_at}
 use Rattle.ss_inspect.specs.Living.{living_numbers}
 
 -- the word of a class's kind
@@ -31,11 +34,30 @@ unfoldable pub classes_text : Input → ℕ → List ℕ
 classes_text input p =
     lines_or (codes "NO CLASSES\n") (class_line input.program (run input p).store) (length input.program.classes)
 
--- the word of a discipline
-abbrev pub discipline_word : Discipline → List ℕ
-discipline_word Fifo = codes "FIFO"
-discipline_word Lifo = codes "LIFO"
-discipline_word (Ranked keys) = codes "RANKED"
+-- the word of a rank
+abbrev pub rank_word : Rank → List ℕ
+rank_word High = codes "HIGH"
+rank_word Low = codes "LOW"
+
+-- a key as it is declared, after a blank: BY, its rank, and the name of its attribute
+abbrev pub key_words : List (List ℕ) → Key → List ℕ
+key_words attributes key = codes " BY " ++ rank_word key.rank ++ codes " " ++ name_at attributes key.attribute
+
+-- further keys, each after THEN
+abbrev pub further_keys : List (List ℕ) → List Key → List ℕ
+further_keys attributes [] = []
+further_keys attributes (k ∷ ks) = codes " THEN" ++ key_words attributes k ++ further_keys attributes ks
+
+-- the keys of a ranking as they are declared, the one that decides first at the front
+abbrev pub keys_words : List (List ℕ) → List Key → List ℕ
+keys_words attributes [] = []
+keys_words attributes (k ∷ ks) = key_words attributes k ++ further_keys attributes ks
+
+-- a discipline as it is declared, of a set whose members have these attributes
+abbrev pub discipline_words : List (List ℕ) → Discipline → List ℕ
+discipline_words attributes Fifo = codes "FIFO"
+discipline_words attributes Lifo = codes "LIFO"
+discipline_words attributes (Ranked keys) = codes "RANKED" ++ keys_words attributes keys
 
 -- the name of an owner
 abbrev pub owner_name : ProgramTable → Owner → List ℕ
@@ -45,7 +67,8 @@ owner_name program (OwnedBy c) = (class_of program c).name
 -- set number s, its discipline, whose its lists are, and the class of its members
 abbrev pub set_line : ProgramTable → ℕ → List ℕ
 set_line program s =
-    (set_of program s).name ++ codes " " ++ discipline_word (set_of program s).discipline
+    (set_of program s).name ++ codes " "
+    ++ discipline_words (class_of program (set_of program s).member).attributes (set_of program s).discipline
     ++ codes " OWNER " ++ owner_name program (set_of program s).owner
     ++ codes " MEMBER " ++ (class_of program (set_of program s).member).name ++ 10 ∷ []
 

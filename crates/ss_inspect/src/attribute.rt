@@ -22,9 +22,10 @@ fn tells(name: &[u8], line: &[u8]) -> bool
     line.starts_with(name) && line[name.len()..].starts_with(b" = ")
 }
 
-/// The first of some lines that gives the attribute of this name.
+/// The first of some lines that gives the attribute of this name, without its end; `None` if none
+/// does. The lines of an entity give its attributes, kept ones too.
 #[tactic(auto, using(crate::proofs::Telling::told_first, crate::proofs::Telling::none_told))]
-fn line_telling<'a>(name: &[u8], lines: &'a [u8]) -> Option<&'a [u8]>
+pub fn line_telling<'a>(name: &[u8], lines: &'a [u8]) -> Option<&'a [u8]>
     ensures { option_map (λ line. line.now) result ≡ line_telling name.now lines.now }
 {
     let mut rest = lines;

@@ -1,7 +1,7 @@
 //! Small runs and the answers that show them: each function is a law, proved by computing.
 #![tactic(auto, unfolding(crate::proofs::Unfoldings::answers_together))]
 
-ghost use Rattle.std.specs.Prelude.{◌≡◌, codes, pos, Some, None};
+ghost use Rattle.std.specs.Prelude.{◌≡◌, ◌++◌, codes, pos, Some, None};
 ghost use Rattle.ss_inspect.specs.Frames.{calls_text, locals_text, globals_text};
 ghost use Rattle.ss_inspect.specs.Living.{living_text};
 ghost use Rattle.ss_inspect.specs.Attribute.{by_variable_text};
@@ -52,6 +52,10 @@ fn lists_are_seen()
 fn tables_are_seen()
     ensures classes { classes_text e.desks_run 5 ≡ codes "DESK PERMANENT: 3\nJOB TEMPORARY: 1\n" }
     ensures sets { sets_text e.desks_run ≡ codes "ROW FIFO OWNER DESK MEMBER JOB\n" }
+    ensures ranked_sets { sets_text e.queues_run
+        ≡ codes "QUEUE RANKED BY HIGH URGENCY THEN BY LOW SIZE OWNER DESK MEMBER JOB\n"
+        ++ codes "LATE RANKED BY LOW SIZE OWNER SYSTEM MEMBER JOB\n"
+        ++ codes "DONE LIFO OWNER SYSTEM MEMBER JOB\n" }
     ensures no_sets { sets_text e.ticks_run ≡ codes "NO SETS\n" }
     ensures sections { sections_text e.jobs_run ≡ codes "MAIN LINE 6\nMORE ROUTINE LINE 12\n" }
 {}

@@ -2,7 +2,8 @@
 ghost use Rattle.std.specs.Prelude.{◌≡◌, ◌++◌, ◌<◌, length, OnOk};
 ghost use Rattle.ss_program.specs.Program.{class_of, set_of};
 ghost use Rattle.ss_machine.specs.Moment.{position};
-ghost use Rattle.ss_inspect.specs.Tables.{kind_word, class_line, classes_text, discipline_word, owner_name};
+ghost use Rattle.ss_inspect.specs.Tables.{kind_word, class_line, classes_text, owner_name};
+ghost use Rattle.ss_inspect.specs.Tables.{rank_word, key_words, further_keys, keys_words, discipline_words};
 ghost use Rattle.ss_inspect.specs.Tables.{set_line, sets_text, section_word, section_line, sections_text};
 ghost use Rattle.ss_inspect.specs.Texts.{texts_below};
 
@@ -10,7 +11,7 @@ use crate::entities::count_living;
 use ss_debug::push_number;
 use ss_links::SetBoard;
 use ss_machine::Machine;
-use ss_program::{ClassKind, Discipline, Owner, Program, SectionKind};
+use ss_program::{ClassKind, Discipline, Key, Name, Owner, Program, Rank, SectionKind, name_at};
 use std::alloc::AllocError;
 
 /// The word of the kind of the class with this number.
@@ -71,16 +72,70 @@ pub fn push_classes<S: SetBoard>(text: &mut Vec<u8>, machine: &Machine<S>) -> Re
     push_all_classes(text, machine)
 }
 
-/// The word of the discipline of the set with this number.
+/// The word of a rank.
+fn rank_word(rank: Rank) -> &'static [u8]
+    ensures { result.now ≡ rank_word rank }
+{
+    match rank {
+        Rank::High => b"HIGH",
+        Rank::Low => b"LOW",
+    }
+}
+
+/// Appends a key as it is declared: BY, its rank, and the name of its attribute.
+fn push_key(text: &mut Vec<u8>, attributes: &[Name], key: Key) -> Result<(), AllocError>
+    ensures { OnOk result (text.new.items ≡ text.old.items ++ key_words attributes.now key) }
+{
+    text.extend_from_slice(b" BY ")?;
+    text.extend_from_slice(rank_word(key.rank))?;
+    text.extend_from_slice(b" ")?;
+    text.extend_from_slice(name_at(attributes, key.attribute))
+}
+
+/// Appends keys, each after THEN.
+fn push_further_keys(
+    text: &mut Vec<u8>,
+    attributes: &[Name],
+    keys: &[Key],
+) -> Result<(), AllocError>
+    ensures { OnOk result (text.new.items
+        ≡ text.old.items ++ further_keys attributes.now keys.now) }
+{
+    for key in keys {
+        text.extend_from_slice(b" THEN")?;
+        push_key(text, attributes, *key)?;
+    }
+    Ok(())
+}
+
+/// Appends the keys of a ranking as they are declared, the one that decides first at the front.
+fn push_keys(text: &mut Vec<u8>, attributes: &[Name], keys: &[Key]) -> Result<(), AllocError>
+    ensures { OnOk result (text.new.items
+        ≡ text.old.items ++ keys_words attributes.now keys.now) }
+{
+    let Some(first) = keys.first() else {
+        return Ok(());
+    };
+    push_key(text, attributes, *first)?;
+    push_further_keys(text, attributes, &keys[1..])
+}
+
+/// Appends the discipline of the set with this number as it is declared.
 #[tactic(auto, using(ss_debug::proofs::Tables::row_at))]
-fn discipline_word(program: &Program, set: usize) -> &'static [u8]
+fn push_discipline(text: &mut Vec<u8>, program: &Program, set: usize) -> Result<(), AllocError>
     requires { set < length program.now.sets }
-    ensures { result.now ≡ discipline_word (set_of program.now set).discipline }
+    ensures { OnOk result (text.new.items ≡ text.old.items
+        ++ discipline_words (class_of program.now (set_of program.now set).member).attributes
+        (set_of program.now set).discipline) }
 {
     match &program.sets[set].discipline {
-        Discipline::Fifo => b"FIFO",
-        Discipline::Lifo => b"LIFO",
-        Discipline::Ranked(_) => b"RANKED",
+        Discipline::Fifo => text.extend_from_slice(b"FIFO"),
+        Discipline::Lifo => text.extend_from_slice(b"LIFO"),
+        Discipline::Ranked(keys) => {
+            text.extend_from_slice(b"RANKED")?;
+            let members = program.member_class(set);
+            push_keys(text, program.attributes(members), &keys.list)
+        }
     }
 }
 
@@ -101,7 +156,7 @@ fn push_set(text: &mut Vec<u8>, program: &Program, set: usize) -> Result<(), All
 {
     text.extend_from_slice(program.set_name(set))?;
     text.extend_from_slice(b" ")?;
-    text.extend_from_slice(discipline_word(program, set))?;
+    push_discipline(text, program, set)?;
     text.extend_from_slice(b" OWNER ")?;
     text.extend_from_slice(owner_name(program, set))?;
     text.extend_from_slice(b" MEMBER ")?;
@@ -121,7 +176,8 @@ fn push_all_sets(text: &mut Vec<u8>, program: &Program) -> Result<(), AllocError
 }
 
 /// Appends the answer to SHOW SETS: a line for each set in order of declaration, with its
-/// discipline, its owner's class or SYSTEM, and the class of its members, or `NO SETS`.
+/// discipline as it is declared, its owner's class or SYSTEM, and the class of its members, or
+/// `NO SETS`.
 #[tactic(auto, unfolding(crate::specs::Tables::sets_text))]
 pub fn push_sets<S: SetBoard>(text: &mut Vec<u8>, machine: &Machine<S>) -> Result<(), AllocError>
     ensures { OnOk result (text.new.items ≡ text.old.items ++ sets_text machine.now.input) }
