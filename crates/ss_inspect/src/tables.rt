@@ -120,23 +120,32 @@ fn push_keys(text: &mut Vec<u8>, attributes: &[Name], keys: &[Key]) -> Result<()
     push_further_keys(text, attributes, &keys[1..])
 }
 
-/// Appends the discipline of the set with this number as it is declared.
-#[tactic(auto, using(ss_debug::proofs::Tables::row_at))]
-fn push_discipline(text: &mut Vec<u8>, program: &Program, set: usize) -> Result<(), AllocError>
-    requires { set < length program.now.sets }
-    ensures { OnOk result (text.new.items ≡ text.old.items
-        ++ discipline_words (class_of program.now (set_of program.now set).member).attributes
-        (set_of program.now set).discipline) }
+/// Appends a discipline as it is declared, of a set whose members have these attributes.
+fn push_discipline(
+    text: &mut Vec<u8>,
+    attributes: &[Name],
+    discipline: &Discipline,
+) -> Result<(), AllocError>
+    ensures { OnOk result (text.new.items
+        ≡ text.old.items ++ discipline_words attributes.now discipline.now) }
 {
-    match &program.sets[set].discipline {
+    match discipline {
         Discipline::Fifo => text.extend_from_slice(b"FIFO"),
         Discipline::Lifo => text.extend_from_slice(b"LIFO"),
         Discipline::Ranked(keys) => {
             text.extend_from_slice(b"RANKED")?;
-            let members = program.member_class(set);
-            push_keys(text, program.attributes(members), &keys.list)
+            push_keys(text, attributes, &keys.list)
         }
     }
+}
+
+/// The discipline of the set with this number.
+#[tactic(auto, using(ss_debug::proofs::Tables::row_at))]
+fn discipline_of(program: &Program, set: usize) -> &Discipline
+    requires { set < length program.now.sets }
+    ensures { result.now ≡ (set_of program.now set).discipline }
+{
+    &program.sets[set].discipline
 }
 
 /// The name of the owner of the set with this number.
@@ -156,7 +165,8 @@ fn push_set(text: &mut Vec<u8>, program: &Program, set: usize) -> Result<(), All
 {
     text.extend_from_slice(program.set_name(set))?;
     text.extend_from_slice(b" ")?;
-    push_discipline(text, program, set)?;
+    let attributes = program.attributes(program.member_class(set));
+    push_discipline(text, attributes, discipline_of(program, set))?;
     text.extend_from_slice(b" OWNER ")?;
     text.extend_from_slice(owner_name(program, set))?;
     text.extend_from_slice(b" MEMBER ")?;
