@@ -15,22 +15,25 @@ use ss_debug::Debugger;
 use ss_links::SetBoard;
 use std::alloc::{AllocError, Global};
 
-/// The questions to a whole run, in addition to its report.
+/// What is asked of a whole run: its data, and the questions to it in addition to its report.
 #[derive(Clone, Copy)]
 pub struct Asked<'a> {
     /// What is traced, if there is a trace.
     pub watched: &'a [Measure],
+    /// The text of the run's data.
+    pub data_text: &'a [u8],
     /// The name of the run's data, as the row of results has it.
     pub name: &'a [u8],
     /// The measures whose values in the last state are the results.
     pub results: &'a [Measure],
 }
 
-/// The questions to a whole run, with the symbol table by which expressions and conditions are
+/// What is asked of a whole run, with the symbol table by which expressions and conditions are
 /// read.
 #[derive(Clone, Copy)]
 pub(crate) struct Wanted<'a> {
     pub(crate) watched: &'a [Measure],
+    pub(crate) data_text: &'a [u8],
     pub(crate) name: &'a [u8],
     pub(crate) results: &'a [Measure],
     pub(crate) symbols: &'a SymbolTable,
@@ -39,12 +42,14 @@ pub(crate) struct Wanted<'a> {
 /// What is asked, by a symbol table.
 pub(crate) fn with_symbols<'a>(asked: Asked<'a>, symbols: &'a SymbolTable) -> Wanted<'a>
     ensures watched { result.watched.now ≡ asked.entry.watched.now }
+    ensures data_text { result.data_text.now ≡ asked.entry.data_text.now }
     ensures name { result.name.now ≡ asked.entry.name.now }
     ensures results { result.results.now ≡ asked.entry.results.now }
     ensures symbols { result.symbols.now ≡ symbols.now }
 {
     Wanted {
         watched: asked.watched,
+        data_text: asked.data_text,
         name: asked.name,
         results: asked.results,
         symbols,

@@ -26,6 +26,15 @@ use ss_session::{Loaded, Outlet, load_with_symbols, machine, put_all};
 use ss_state::Stepped;
 use std::alloc::{AllocError, Global};
 
+/// The outlets of a run that is traced.
+#[derive(Drop)]
+pub struct Outlets<T, W> {
+    /// That of the trace.
+    pub trace: T,
+    /// That of the report.
+    pub report: W,
+}
+
 /// Forgets the steps back if they have become many.
 fn forget_many<S: SetBoard>(alloc: Global, debugger: &mut Debugger<S>) -> Result<(), AllocError>
     ensures input { debugger.new.machine.input ≡ debugger.old.machine.input }
@@ -56,7 +65,6 @@ fn put_text<T: Outlet>(trace: &mut T, text: &[u8]) -> Result<(), RunCut>
 
 /// Follows all that is traced over the step that led to a debugger's position, and writes its rows.
 fn trace_change<S: SetBoard, T: Outlet>(
-    alloc: Global,
     debugger: &Debugger<S>,
     here: Here,
     watched: &[Watched<'_>],
@@ -78,7 +86,7 @@ fn trace_change<S: SetBoard, T: Outlet>(
         (record { taken = T.taken trace.old; failures = T.failures trace.old })
         (record { taken = T.taken trace.new; failures = T.failures trace.new })) }
 {
-    let mut rows = Vec::new(alloc);
+    let mut rows = Vec::new(*kept.allocator());
     push_changes(&mut rows, debugger, here, watched, kept)?;
     put_text(trace, &rows)
 }
@@ -113,7 +121,7 @@ fn trace_step<S: SetBoard, T: Outlet>(
     let stepped = debugger.step_forward()?;
     debugger.machine().known();
     if let Stepped::Moved = stepped {
-        trace_change(alloc, debugger, here, watched, kept, trace)?;
+        trace_change(debugger, here, watched, kept, trace)?;
     }
     Ok(stepped)
 }
@@ -193,60 +201,57 @@ fn trace_all<S: SetBoard, P: Progress, T: Outlet>(
 fn trace_report<S: SetBoard, P: Progress, T: Outlet, W: Outlet>(
     alloc: Global,
     debugger: &mut Debugger<S>,
-    data_text: &[u8],
     asked: Wanted<'_>,
     progress: &mut P,
-    trace: &mut T,
-    out: &mut W,
+    outlets: &mut Outlets<T, W>,
 ) -> Result<WholeRun, RunCut>
     requires symbols { IsSymbolsOf debugger.old.machine.input.program
         asked.symbols.now }
     requires start { position debugger.old.machine ≡ 0 }
-    requires trace_room { T.failures trace.old < 2 ^ 64 - 1 }
-    requires room { W.failures out.old < 2 ^ 64 - 1 }
-    ensures { MakesTrace result data_text.now debugger.old.machine.input asked.entry.watched.now
+    requires trace_room { T.failures outlets.old.trace < 2 ^ 64 - 1 }
+    requires room { W.failures outlets.old.report < 2 ^ 64 - 1 }
+    ensures { MakesTrace result asked.entry.data_text.now debugger.old.machine.input
+        asked.entry.watched.now
         (record {
           name = asked.entry.name.now;
           results = asked.entry.results.now;
           symbols = asked.entry.symbols.now;
         })
-        (record { taken = W.taken out.old; failures = W.failures out.old })
-        (record { taken = W.taken out.new; failures = W.failures out.new })
-        (record { taken = T.taken trace.old; failures = T.failures trace.old })
-        (record { taken = T.taken trace.new; failures = T.failures trace.new }) }
+        (record { taken = W.taken outlets.old.report; failures = W.failures outlets.old.report })
+        (record { taken = W.taken outlets.new.report; failures = W.failures outlets.new.report })
+        (record { taken = T.taken outlets.old.trace; failures = T.failures outlets.old.trace })
+        (record { taken = T.taken outlets.new.trace; failures = T.failures outlets.new.trace }) }
 {
     let watched = watched_all(alloc, debugger, asked.symbols, asked.watched)?;
-    trace_all(alloc, debugger, &watched, progress, trace)?;
-    write_report(alloc, debugger, data_text, asked, out)
+    trace_all(alloc, debugger, &watched, progress, &mut outlets.trace)?;
+    write_report(alloc, debugger, asked, &mut outlets.report)
 }
 
 /// Makes the run of a machine over its data and its trace, and writes its report.
 fn trace_run<S: SetBoard, P: Progress, T: Outlet, W: Outlet>(
     alloc: Global,
     machine: Machine<S>,
-    data_text: &[u8],
     asked: Wanted<'_>,
     progress: &mut P,
-    trace: &mut T,
-    out: &mut W,
+    outlets: &mut Outlets<T, W>,
 ) -> Result<WholeRun, RunCut>
     requires symbols { IsSymbolsOf machine.input.program asked.symbols.now }
     requires start { position machine ≡ 0 }
-    requires trace_room { T.failures trace.old < 2 ^ 64 - 1 }
-    requires room { W.failures out.old < 2 ^ 64 - 1 }
-    ensures { MakesTrace result data_text.now machine.input asked.entry.watched.now
+    requires trace_room { T.failures outlets.old.trace < 2 ^ 64 - 1 }
+    requires room { W.failures outlets.old.report < 2 ^ 64 - 1 }
+    ensures { MakesTrace result asked.entry.data_text.now machine.input asked.entry.watched.now
         (record {
           name = asked.entry.name.now;
           results = asked.entry.results.now;
           symbols = asked.entry.symbols.now;
         })
-        (record { taken = W.taken out.old; failures = W.failures out.old })
-        (record { taken = W.taken out.new; failures = W.failures out.new })
-        (record { taken = T.taken trace.old; failures = T.failures trace.old })
-        (record { taken = T.taken trace.new; failures = T.failures trace.new }) }
+        (record { taken = W.taken outlets.old.report; failures = W.failures outlets.old.report })
+        (record { taken = W.taken outlets.new.report; failures = W.failures outlets.new.report })
+        (record { taken = T.taken outlets.old.trace; failures = T.failures outlets.old.trace })
+        (record { taken = T.taken outlets.new.trace; failures = T.failures outlets.new.trace }) }
 {
     let mut debugger = Debugger::new(alloc, machine);
-    let written = trace_report(alloc, &mut debugger, data_text, asked, progress, trace, out);
+    let written = trace_report(alloc, &mut debugger, asked, progress, outlets);
     debugger.end();
     written
 }
@@ -255,33 +260,31 @@ fn trace_run<S: SetBoard, P: Progress, T: Outlet, W: Outlet>(
 fn trace_program<P: Progress, T: Outlet, W: Outlet>(
     alloc: Global,
     loaded: Loaded,
-    data_text: &[u8],
     asked: Asked<'_>,
     progress: &mut P,
-    trace: &mut T,
-    out: &mut W,
+    outlets: &mut Outlets<T, W>,
 ) -> Result<WholeRun, RunCut>
     requires symbols { IsSymbolsOf loaded.program loaded.symbols }
-    requires trace_room { T.failures trace.old < 2 ^ 64 - 1 }
-    requires room { W.failures out.old < 2 ^ 64 - 1 }
-    ensures { MakesTrace result data_text.now (input_with loaded.program data_text.now)
-        asked.entry.watched.now
+    requires trace_room { T.failures outlets.old.trace < 2 ^ 64 - 1 }
+    requires room { W.failures outlets.old.report < 2 ^ 64 - 1 }
+    ensures { MakesTrace result asked.entry.data_text.now
+        (input_with loaded.program asked.entry.data_text.now) asked.entry.watched.now
         (record {
           name = asked.entry.name.now;
           results = asked.entry.results.now;
           symbols = loaded.symbols;
         })
-        (record { taken = W.taken out.old; failures = W.failures out.old })
-        (record { taken = W.taken out.new; failures = W.failures out.new })
-        (record { taken = T.taken trace.old; failures = T.failures trace.old })
-        (record { taken = T.taken trace.new; failures = T.failures trace.new }) }
+        (record { taken = W.taken outlets.old.report; failures = W.failures outlets.old.report })
+        (record { taken = W.taken outlets.new.report; failures = W.failures outlets.new.report })
+        (record { taken = T.taken outlets.old.trace; failures = T.failures outlets.old.trace })
+        (record { taken = T.taken outlets.new.trace; failures = T.failures outlets.new.trace }) }
 {
     let Loaded { program, symbols } = loaded;
     let (sets, pending) = (LinkedSets::new(alloc), LinkedSets::new(alloc));
-    match machine(alloc, program, data_text, sets, pending) {
+    match machine(alloc, program, asked.data_text, sets, pending) {
         Ok(machine) => {
             let wanted = with_symbols(asked, &symbols);
-            trace_run(alloc, machine, data_text, wanted, progress, trace, out)
+            trace_run(alloc, machine, wanted, progress, outlets)
         }
         Err(_) => Err(RunCut::Memory),
     }
@@ -297,29 +300,27 @@ fn trace_program<P: Progress, T: Outlet, W: Outlet>(
 /// a trace of it takes no longer than the run.
 ///
 /// `Ok` if all of report and trace was written; nothing is written for a refused model. `Write` if
-/// `out` counted a failure, and then the trace is whole; or if `trace` counted one, and then a part
-/// of the trace is written, and nothing of the report. `Memory` if a growth was refused: nothing of
-/// the report is written, and a part of the trace.
+/// the outlet of the report counted a failure, and then the trace is whole; or if that of the trace
+/// counted one, and then a part of the trace is written, and nothing of the report. `Memory` if a
+/// growth was refused: nothing of the report is written, and a part of the trace.
 pub fn trace_model<P: Progress, T: Outlet, W: Outlet>(
     alloc: Global,
     model: &[u8],
-    data_text: &[u8],
     asked: Asked<'_>,
     progress: &mut P,
-    trace: &mut T,
-    out: &mut W,
+    outlets: &mut Outlets<T, W>,
 ) -> Result<WholeRun, RunCut>
-    requires trace_room { T.failures trace.old < 2 ^ 64 - 1 }
-    requires room { W.failures out.old < 2 ^ 64 - 1 }
-    ensures { TraceSays result model.now data_text.now asked.entry.watched.now
+    requires trace_room { T.failures outlets.old.trace < 2 ^ 64 - 1 }
+    requires room { W.failures outlets.old.report < 2 ^ 64 - 1 }
+    ensures { TraceSays result model.now asked.entry.data_text.now asked.entry.watched.now
         (record { name = asked.entry.name.now; results = asked.entry.results.now })
-        (record { taken = W.taken out.old; failures = W.failures out.old })
-        (record { taken = W.taken out.new; failures = W.failures out.new })
-        (record { taken = T.taken trace.old; failures = T.failures trace.old })
-        (record { taken = T.taken trace.new; failures = T.failures trace.new }) }
+        (record { taken = W.taken outlets.old.report; failures = W.failures outlets.old.report })
+        (record { taken = W.taken outlets.new.report; failures = W.failures outlets.new.report })
+        (record { taken = T.taken outlets.old.trace; failures = T.failures outlets.old.trace })
+        (record { taken = T.taken outlets.new.trace; failures = T.failures outlets.new.trace }) }
 {
     match load_with_symbols(alloc, model) {
-        Ok(loaded) => { trace_program(alloc, loaded, data_text, asked, progress, trace, out) }
+        Ok(loaded) => trace_program(alloc, loaded, asked, progress, outlets),
         Err(fault) => refusal(alloc, model, fault),
     }
 }

@@ -190,7 +190,6 @@ fn end_of_run<S: SetBoard>(alloc: Global, debugger: &mut Debugger<S>) -> Result<
 fn tell_end<S: SetBoard>(
     alloc: Global,
     debugger: &mut Debugger<S>,
-    data_text: &[u8],
     asked: Wanted<'_>,
 ) -> Result<WholeRun, AllocError>
     requires symbols { IsSymbolsOf debugger.old.machine.input.program
@@ -199,7 +198,8 @@ fn tell_end<S: SetBoard>(
     ensures position { position debugger.new.machine ≡ position debugger.old.machine }
     ensures end { IfOk result (λ whole. SaysEnd debugger.old.machine.input
         (position debugger.old.machine) whole.end) }
-    ensures beside { IfOk result (λ whole. TellsEnd whole data_text.now debugger.old.machine.input
+    ensures beside { IfOk result (λ whole. TellsEnd whole asked.entry.data_text.now
+        debugger.old.machine.input
         (record {
           name = asked.entry.name.now;
           results = asked.entry.results.now;
@@ -211,7 +211,7 @@ fn tell_end<S: SetBoard>(
     let results = results_row(alloc, debugger, end_status(&end), asked)?;
     let machine = debugger.machine();
     machine.known();
-    let explanation = end_explanation(alloc, machine, data_text)?;
+    let explanation = end_explanation(alloc, machine, asked.data_text)?;
     let unfit = unfit_values(machine.report());
     Ok(WholeRun {
         end,
@@ -225,7 +225,6 @@ fn tell_end<S: SetBoard>(
 pub(crate) fn write_report<S: SetBoard, W: Outlet>(
     alloc: Global,
     debugger: &mut Debugger<S>,
-    data_text: &[u8],
     asked: Wanted<'_>,
     out: &mut W,
 ) -> Result<WholeRun, RunCut>
@@ -233,7 +232,7 @@ pub(crate) fn write_report<S: SetBoard, W: Outlet>(
         asked.symbols.now }
     requires end { IsRunEnd debugger.old.machine.input (position debugger.old.machine) }
     requires room { W.failures out.old < 2 ^ 64 - 1 }
-    ensures { MakesRun result data_text.now debugger.old.machine.input
+    ensures { MakesRun result asked.entry.data_text.now debugger.old.machine.input
         (record {
           name = asked.entry.name.now;
           results = asked.entry.results.now;
@@ -242,7 +241,7 @@ pub(crate) fn write_report<S: SetBoard, W: Outlet>(
         (record { taken = W.taken out.old; failures = W.failures out.old })
         (record { taken = W.taken out.new; failures = W.failures out.new }) }
 {
-    let whole = tell_end(alloc, debugger, data_text, asked)?;
+    let whole = tell_end(alloc, debugger, asked)?;
     let machine = debugger.machine();
     machine.known();
     match put_all(out, machine.report()) {
@@ -259,7 +258,6 @@ pub(crate) fn write_report<S: SetBoard, W: Outlet>(
 fn write_run<S: SetBoard, P: Progress, W: Outlet>(
     alloc: Global,
     machine: Machine<S>,
-    data_text: &[u8],
     asked: Wanted<'_>,
     progress: &mut P,
     out: &mut W,
@@ -267,7 +265,7 @@ fn write_run<S: SetBoard, P: Progress, W: Outlet>(
     requires symbols { IsSymbolsOf machine.input.program asked.symbols.now }
     requires start { position machine ≡ 0 }
     requires room { W.failures out.old < 2 ^ 64 - 1 }
-    ensures { MakesRun result data_text.now machine.input
+    ensures { MakesRun result asked.entry.data_text.now machine.input
         (record {
           name = asked.entry.name.now;
           results = asked.entry.results.now;
@@ -280,7 +278,7 @@ fn write_run<S: SetBoard, P: Progress, W: Outlet>(
     let ran = run_to_end(&mut machine, progress);
     let mut debugger = Debugger::new(alloc, machine);
     let written = match ran {
-        Ok(()) => write_report(alloc, &mut debugger, data_text, asked, out),
+        Ok(()) => write_report(alloc, &mut debugger, asked, out),
         Err(_) => Err(RunCut::Memory),
     };
     debugger.end();
@@ -336,14 +334,14 @@ pub(crate) fn refusal(alloc: Global, model: &[u8], fault: LoadFault) -> Result<W
 fn run_program<P: Progress, W: Outlet>(
     alloc: Global,
     loaded: Loaded,
-    data_text: &[u8],
     asked: Asked<'_>,
     progress: &mut P,
     out: &mut W,
 ) -> Result<WholeRun, RunCut>
     requires symbols { IsSymbolsOf loaded.program loaded.symbols }
     requires room { W.failures out.old < 2 ^ 64 - 1 }
-    ensures { MakesRun result data_text.now (input_with loaded.program data_text.now)
+    ensures { MakesRun result asked.entry.data_text.now
+        (input_with loaded.program asked.entry.data_text.now)
         (record {
           name = asked.entry.name.now;
           results = asked.entry.results.now;
@@ -354,15 +352,8 @@ fn run_program<P: Progress, W: Outlet>(
 {
     let Loaded { program, symbols } = loaded;
     let (sets, pending) = (LinkedSets::new(alloc), LinkedSets::new(alloc));
-    let machine = machine(alloc, program, data_text, sets, pending)?;
-    write_run(
-        alloc,
-        machine,
-        data_text,
-        with_symbols(asked, &symbols),
-        progress,
-        out,
-    )
+    let machine = machine(alloc, program, asked.data_text, sets, pending)?;
+    write_run(alloc, machine, with_symbols(asked, &symbols), progress, out)
 }
 
 /// Runs a model over its data to the end of the run, without a bound, and writes only its report.
@@ -379,19 +370,18 @@ fn run_program<P: Progress, W: Outlet>(
 pub fn run_model<P: Progress, W: Outlet>(
     alloc: Global,
     model: &[u8],
-    data_text: &[u8],
     asked: Asked<'_>,
     progress: &mut P,
     out: &mut W,
 ) -> Result<WholeRun, RunCut>
     requires { W.failures out.old < 2 ^ 64 - 1 }
-    ensures { RunSays result model.now data_text.now
+    ensures { RunSays result model.now asked.entry.data_text.now
         (record { name = asked.entry.name.now; results = asked.entry.results.now })
         (record { taken = W.taken out.old; failures = W.failures out.old })
         (record { taken = W.taken out.new; failures = W.failures out.new }) }
 {
     match load_with_symbols(alloc, model) {
-        Ok(loaded) => run_program(alloc, loaded, data_text, asked, progress, out),
+        Ok(loaded) => run_program(alloc, loaded, asked, progress, out),
         Err(fault) => refusal(alloc, model, fault),
     }
 }
@@ -417,10 +407,11 @@ pub fn report<P: Progress, W: Outlet>(
 {
     let asked = Asked {
         watched: &[],
+        data_text,
         name: b"",
         results: &[],
     };
-    match run_model(alloc, model, data_text, asked, progress, out) {
+    match run_model(alloc, model, asked, progress, out) {
         Ok(whole) => Ok(whole.end),
         Err(cut) => Err(cut),
     }

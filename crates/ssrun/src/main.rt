@@ -21,8 +21,8 @@ use measures::read_measures;
 use meter::Meter;
 use ss_host::{Stop, Stream, explain, read_arguments, read_file, read_or, stop_by, tell};
 use ss_run::{
-    Asked, Measure, RunCut, RunEnd, WholeRun, model_warnings, results_head, run_model, run_status,
-    trace_model, unfit_words,
+    Asked, Measure, Outlets, RunCut, RunEnd, WholeRun, model_warnings, results_head, run_model,
+    run_status, trace_model, unfit_words,
 };
 use ss_session::{LoadFault, Loaded, drop_symbols, load_with_symbols};
 use std::alloc::Global;
@@ -81,22 +81,15 @@ fn created<'a>(rt: &HostRuntime, path: &'a str) -> Result<File, Stop<'a>> {
 fn run_traced<'a>(
     rt: &HostRuntime,
     model: &[u8],
-    input: &[u8],
     asked: Asked<'_>,
     path: &'a str,
 ) -> Result<Result<WholeRun, RunCut>, Stop<'a>> {
-    let mut trace = Stream::new(created(rt, path)?);
-    let mut out = Stream::new(io::writer(rt));
+    let mut outlets = Outlets {
+        trace: Stream::new(created(rt, path)?),
+        report: Stream::new(io::writer(rt)),
+    };
     let mut meter = Meter::new(rt, rt.stderr().is_terminal());
-    Ok(trace_model(
-        rt.alloc(),
-        model,
-        input,
-        asked,
-        &mut meter,
-        &mut trace,
-        &mut out,
-    ))
+    Ok(trace_model(rt.alloc(), model, asked, &mut meter, &mut outlets))
 }
 
 /// Reads model and data, in that order, and runs the model; gives its warnings too.
@@ -109,10 +102,11 @@ fn run<'a>(rt: &HostRuntime, words: &Words<'a>) -> Result<Ran, Cause<'a>> {
     let results = measures_of(rt.alloc(), &model, &words.measured)?;
     let asked = Asked {
         watched: &watched,
+        data_text: &input,
         name: data_name(words.input).as_bytes(),
         results: &results,
     };
-    let outcome = run_measured(rt, words, asked, &model, &input).map_err(Cause::Stop)?;
+    let outcome = run_measured(rt, words, asked, &model).map_err(Cause::Stop)?;
     let warnings = warnings_of(rt.alloc(), &model, &outcome);
     Ok((outcome, warnings))
 }
@@ -123,13 +117,12 @@ fn run_measured<'a>(
     words: &Words<'a>,
     asked: Asked<'_>,
     model: &[u8],
-    input: &[u8],
 ) -> Result<Result<WholeRun, RunCut>, Stop<'a>> {
     let Some(path) = words.results else {
-        return run_over(rt, words, asked, model, input);
+        return run_over(rt, words, asked, model);
     };
     let mut file = created(rt, path)?;
-    match run_over(rt, words, asked, model, input)? {
+    match run_over(rt, words, asked, model)? {
         Ok(whole) => Ok(with_results(rt.alloc(), &mut file, asked.results, whole)),
         Err(cut) => Ok(Err(cut)),
     }
@@ -160,14 +153,13 @@ fn run_over<'a>(
     words: &Words<'a>,
     asked: Asked<'_>,
     model: &[u8],
-    input: &[u8],
 ) -> Result<Result<WholeRun, RunCut>, Stop<'a>> {
     if let Some(path) = words.trace {
-        return run_traced(rt, model, input, asked, path);
+        return run_traced(rt, model, asked, path);
     }
     let mut out = Stream::new(io::writer(rt));
     let mut meter = Meter::new(rt, rt.stderr().is_terminal());
-    Ok(run_model(rt.alloc(), model, input, asked, &mut meter, &mut out))
+    Ok(run_model(rt.alloc(), model, asked, &mut meter, &mut out))
 }
 
 /// The warnings of a model that was run; none if memory was refused.
