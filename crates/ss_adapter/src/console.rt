@@ -122,7 +122,7 @@ fn say<S: SetBoard>(
         text: &desk.model,
         symbols: &desk.symbols,
     };
-    answer_command(alloc, debugger, model, &mut desk.displays, command, answer)?;
+    answer_command(debugger, model, &mut desk.displays, command, answer)?;
     let body = result_body(alloc, answer)?;
     post.reply(request, &body)
 }

@@ -30,6 +30,7 @@ mod until;
 mod valued;
 
 use crate::advice::push_unread;
+use crate::asked_text::AskedText;
 use crate::commands::PromptCommand;
 use crate::displays::push_answers;
 use crate::help::push_help;
@@ -330,19 +331,23 @@ impl<'a> PromptDesk<'a> {
         let done = match command {
             PromptCommand::Plain(command) => return self.obey_plain(debugger, command, answer),
             PromptCommand::Value(text, is_numbered) => {
-                self.show_value(debugger, &text, is_numbered, answer)?;
+                let asked = AskedText { text, is_numbered };
+                self.show_value(debugger, &asked, answer)?;
                 return Ok(Go::On);
             }
             PromptCommand::Until(way, text, is_numbered) => {
-                self.go_until(debugger, way, &text, is_numbered, answer)?;
+                let asked = AskedText { text, is_numbered };
+                self.go_until(debugger, way, &asked, answer)?;
                 return Ok(Go::On);
             }
             PromptCommand::Meant(manner, text, is_numbered) => {
-                self.follow_text(debugger, manner, text, is_numbered, answer)?;
+                let asked = AskedText { text, is_numbered };
+                self.follow_text(debugger, manner, asked, answer)?;
                 return Ok(Go::On);
             }
             PromptCommand::BreakWhen(place, text, is_numbered) => {
-                self.break_when(debugger, &place, &text, is_numbered, answer)?;
+                let asked = AskedText { text, is_numbered };
+                self.break_when(debugger, &place, &asked, answer)?;
                 return Ok(Go::On);
             }
             PromptCommand::Cause(command) => {

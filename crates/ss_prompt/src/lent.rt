@@ -1,10 +1,9 @@
 //! A command is obeyed with a debugger that is lent.
-ghost use Rattle.std.specs.Prelude.{◌≡◌, ◌⊎◌, ◌++◌, map, OnOk, OnErr, IfOk};
+ghost use Rattle.std.specs.Prelude.{◌≡◌, ◌⊎◌, ◌++◌, OnOk, OnErr, IfOk};
 ghost use Rattle.ss_check.specs.Asked.{IsSymbolsOf};
 ghost use Rattle.ss_console.specs.Going.{go_of};
 ghost use Rattle.ss_prompt.specs.PromptState.{lent_state, unlisted};
 ghost use Rattle.ss_prompt.specs.Prompting.{prompt_answer, prompt_state_after, IsRefused, is_quit};
-ghost use Rattle.ss_prompt.specs.Source.{source_lines};
 
 use crate::commands::PromptCommand;
 use crate::desk::PromptDesk;
@@ -14,7 +13,7 @@ use ss_check::SymbolTable;
 use ss_console::Go;
 use ss_debug::Debugger;
 use ss_links::SetBoard;
-use std::alloc::{AllocError, Global};
+use std::alloc::AllocError;
 
 /// The model in whose run a debugger is lent.
 #[derive(Clone, Copy)]
@@ -25,39 +24,6 @@ pub struct LentModel<'a> {
     pub symbols: &'a SymbolTable,
 }
 
-/// Does the work of a command, in the run of a model with these lines.
-fn answer_with<'a, S: SetBoard>(
-    alloc: Global,
-    debugger: &mut Debugger<S>,
-    model: LentModel<'a>,
-    lines: Vec<&'a [u8]>,
-    displays: &mut Vec<Shown>,
-    command: PromptCommand,
-    answer: &mut Vec<u8>,
-) -> Result<Go, AllocError>
-    requires symbols { IsSymbolsOf debugger.old.machine.input.program model.symbols.now }
-    requires lines { map (λ l. l.now) lines.items ≡ source_lines model.text.now }
-    ensures input { debugger.new.machine.input ≡ debugger.old.machine.input }
-    ensures place { OnOk result (lent_state debugger.new model.entry.text.now
-        model.entry.symbols.now displays.new.items
-        ≡ unlisted (prompt_state_after (lent_state debugger.old model.entry.text.now
-        model.entry.symbols.now displays.old.items) command)) }
-    ensures said { OnOk result (answer.new.items ≡ answer.old.items
-        ++ prompt_answer (lent_state debugger.old model.entry.text.now
-        model.entry.symbols.now displays.old.items) command) }
-    ensures go { IfOk result (λ go. go ≡ go_of (is_quit command)) }
-    ensures memory { OnErr result (IsRefused (lent_state debugger.old model.entry.text.now
-        model.entry.symbols.now displays.old.items) command
-        (lent_state debugger.new model.entry.text.now
-        model.entry.symbols.now displays.new.items)) }
-{
-    let mut desk = PromptDesk::new(alloc, model.text, lines, None, Some(model.symbols));
-    desk.swap_displays(displays);
-    let obeyed = desk.obey(debugger, command, answer);
-    desk.swap_displays(displays);
-    obeyed
-}
-
 /// Does the work of a command of docs/PROMPT.md with a debugger that is lent, in the run of a
 /// model, and appends its whole answer. The questions are those that are answered at each stop.
 /// LIST does not go on after it. The text of the data is not known here, so no piece of it is
@@ -66,7 +32,6 @@ fn answer_with<'a, S: SetBoard>(
 /// `AllocError` if memory was refused: then nothing of the answer counts, and the debugger is in a
 /// state in which a prompt leaves it, in the same run.
 pub fn answer_command<S: SetBoard>(
-    alloc: Global,
     debugger: &mut Debugger<S>,
     model: LentModel<'_>,
     displays: &mut Vec<Shown>,
@@ -92,6 +57,11 @@ pub fn answer_command<S: SetBoard>(
         (lent_state debugger.new model.entry.text.now
         model.entry.symbols.now displays.new.items)) }
 {
+    let alloc = *answer.allocator();
     let lines = source_lines(alloc, model.text)?;
-    answer_with(alloc, debugger, model, lines, displays, command, answer)
+    let mut desk = PromptDesk::new(alloc, model.text, lines, None, Some(model.symbols));
+    desk.swap_displays(displays);
+    let obeyed = desk.obey(debugger, command, answer);
+    desk.swap_displays(displays);
+    obeyed
 }

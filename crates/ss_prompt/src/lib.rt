@@ -4,6 +4,7 @@
 mod advice;
 mod arguments;
 mod asked;
+mod asked_text;
 mod break_list;
 mod break_place;
 mod break_words;
@@ -52,7 +53,7 @@ pub use line::Line;
 pub use manner::Manner;
 pub use misread::line_misread;
 pub use missing::{Missing, asked_of_program, bare_question, push_missing};
-pub use prompt::Prompt;
+pub use prompt::{Prompt, Sources};
 pub use read::prompt_command;
 pub use shown::Shown;
 pub use sight::Sight;

@@ -21,6 +21,19 @@ use ss_state::Status;
 use std::alloc::{AllocError, Global};
 use std::marker::Model;
 
+/// What a prompt has of a run beside its debugger.
+#[derive(Drop)]
+pub struct Sources<'a> {
+    /// The model.
+    pub model: &'a [u8],
+    /// The lines of the model.
+    pub lines: Vec<&'a [u8]>,
+    /// The text of the data.
+    pub data_text: &'a [u8],
+    /// The symbol table of the debugger's program.
+    pub symbols: &'a SymbolTable,
+}
+
 /// A debugger that answers the lines of a dialogue, with its model, the lines of that, the text of
 /// its data, its symbol table, and the questions that are answered at each stop. The symbol table is
 /// that of the debugger's program.
@@ -49,19 +62,18 @@ impl<'a, S: SetBoard> Model for Prompt<'a, S> {
 impl<'a, S: SetBoard> Prompt<'a, S> {
     /// A prompt over a debugger, with its model and the lines of that, and the text of its data; no
     /// question is answered at stops.
-    pub fn new(
-        alloc: Global,
-        debugger: Debugger<S>,
-        model: &'a [u8],
-        lines: Vec<&'a [u8]>,
-        data_text: &'a [u8],
-        symbols: &'a SymbolTable,
-    ) -> Self
-        requires { IsSymbolsOf debugger.machine.input.program symbols.now }
-        ensures { result
-            ≡ prompt_state_of debugger model.now (map (λ l. l.now) lines.entry.items) []
-            (Some data_text.now) (Some symbols.now) }
+    pub fn new(alloc: Global, debugger: Debugger<S>, sources: Sources<'a>) -> Self
+        requires { IsSymbolsOf debugger.machine.input.program sources.symbols.now }
+        ensures { result ≡ prompt_state_of debugger sources.entry.model.now
+            (map (λ l. l.now) sources.entry.lines.items) []
+            (Some sources.entry.data_text.now) (Some sources.entry.symbols.now) }
     {
+        let Sources {
+            model,
+            lines,
+            data_text,
+            symbols,
+        } = sources;
         let desk = PromptDesk::new(alloc, model, lines, Some(data_text), Some(symbols));
         Prompt { debugger, desk }
     }

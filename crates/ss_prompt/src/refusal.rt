@@ -14,24 +14,29 @@ use ss_links::SetBoard;
 use ss_machine::Machine;
 use ss_state::Status;
 
-/// Writes that memory was refused, and a state line of its parts.
-fn put_parts<'a, C: Console>(
-    console: &mut C,
+/// The parts of a state line, as they are printed.
+#[derive(Clone, Copy)]
+struct StateParts<'a> {
     position: &'a [u8],
     clock: &'a [u8],
     word: &'a [u8],
     number: &'a [u8],
     section: &'a [u8],
     line: &'a [u8],
-) -> Result<(), PutFault>
+}
+
+/// Writes that memory was refused, and a state line of its parts.
+fn put_parts<C: Console>(console: &mut C, parts: StateParts<'_>) -> Result<(), PutFault>
     requires { (C.faults console.old).puts < 2 ^ 64 - 1 }
     ensures ok { OnOk result (Adds (C.log console.old) (C.log console.new)
-        (write_events (joined_texts (refusal_parts position.now clock.now word.now number.now
-        section.now line.now)))
+        (write_events (joined_texts (refusal_parts parts.entry.position.now parts.entry.clock.now
+        parts.entry.word.now parts.entry.number.now parts.entry.section.now
+        parts.entry.line.now)))
         × (C.faults console.new ≡ C.faults console.old)) }
     ensures err { OnErr result (AddsPart
-        (joined_texts (refusal_parts position.now clock.now word.now number.now
-        section.now line.now))
+        (joined_texts (refusal_parts parts.entry.position.now parts.entry.clock.now
+        parts.entry.word.now parts.entry.number.now parts.entry.section.now
+        parts.entry.line.now))
         (C.log console.old) (C.log console.new)
         × (C.faults console.new ≡ one_more_put (C.faults console.old))) }
     ensures lines { C.left console.new ≡ C.left console.old }
@@ -42,16 +47,16 @@ fn put_parts<'a, C: Console>(
         &[
             b"OUT OF MEMORY\n",
             b"STATE ",
-            position,
+            parts.position,
             b" CLOCK ",
-            clock,
+            parts.clock,
             b" ",
-            word,
-            number,
+            parts.word,
+            parts.number,
             b" IN ",
-            section,
+            parts.section,
             b" LINE ",
-            line,
+            parts.line,
             b"\n",
         ],
     )
@@ -83,15 +88,15 @@ fn put_with<S: SetBoard, C: Console>(
     let mut position = Buffer::new();
     let mut clock = Buffer::new();
     let mut line = Buffer::new();
-    put_parts(
-        console,
-        position.format(machine.position()).as_bytes(),
-        clock.format(machine.clock()).as_bytes(),
+    let parts = StateParts {
+        position: position.format(machine.position()).as_bytes(),
+        clock: clock.format(machine.clock()).as_bytes(),
         word,
         number,
-        name,
-        line.format(present_line(machine)).as_bytes(),
-    )
+        section: name,
+        line: line.format(present_line(machine)).as_bytes(),
+    };
+    put_parts(console, parts)
 }
 
 /// Writes that memory was refused, and the state line of a machine; it needs no memory itself.

@@ -14,7 +14,7 @@ use crate::end::{PromptEnd, PromptFault};
 use crate::refused::refuse;
 use ss_console::{Console, Cut, LONGEST_LINE, converse, put_all};
 use ss_links::SetBoard;
-use ss_prompt::{Prompt, source_lines};
+use ss_prompt::{Prompt, Sources, source_lines};
 use ss_session::{Opened, open_debugger_with_symbols};
 use ss_state::Status;
 use std::alloc::Global;
@@ -156,7 +156,13 @@ pub fn open_prompt<C: Console>(
     match open_debugger_with_symbols(alloc, model, data_text) {
         Ok(opened) => {
             let Opened { debugger, symbols } = opened;
-            let prompt = Prompt::new(alloc, debugger, model, lines, data_text, &symbols);
+            let sources = Sources {
+                model,
+                lines,
+                data_text,
+                symbols: &symbols,
+            };
+            let prompt = Prompt::new(alloc, debugger, sources);
             greet_and_hold(alloc, prompt, &mut line, console)
         }
         Err(fault) => Err(refuse(alloc, model, fault, console)),

@@ -13,9 +13,9 @@ ghost use Rattle.ss_prompt.specs.Valued.{Suits};
 ghost use Rattle.ss_prompt.specs.declared.manner.Manner.TheVariants as manners;
 
 use crate::advice::push_unread;
+use crate::asked_text::AskedText;
 use crate::desk::PromptDesk;
 use crate::histories::{ROWS_UNLESS_SAID, text_with_rows};
-use crate::line::Line;
 use crate::manner::Manner;
 use crate::shown::Shown;
 use crate::source::push_marked_line;
@@ -84,27 +84,6 @@ impl<'a> PromptDesk<'a> {
         answer.extend_from_slice(&change)
     }
 
-    /// HISTORY of a meaning.
-    #[tactic(auto, unfolding(crate::specs::Histories::HasLookedBack))]
-    fn history_meant<S: SetBoard>(
-        &self,
-        debugger: &mut Debugger<S>,
-        text: &[u8],
-        meaning: &Meaning,
-        rows: u64,
-        answer: &mut Vec<u8>,
-    ) -> Result<(), AllocError>
-        requires { IsSoundMeaning debugger.old.machine.input.program meaning.now }
-        ensures place { OnOk result (state_at debugger.new self.now
-            ≡ state_at debugger.old self.now) }
-        ensures said { OnOk result (answer.new.items ≡ answer.old.items
-            ++ spec.history_told (state_at debugger.old self.now) text.now meaning.now rows) }
-        ensures memory { OnErr result
-            (HasLookedBack (state_at debugger.old self.now) (state_at debugger.new self.now)) }
-    {
-        push_history(debugger, meaning, text, rows, answer)
-    }
-
     /// RUN CHANGE of a meaning.
     #[tactic(auto, using(crate::proofs::MeantChanges::changing))]
     fn run_meant<S: SetBoard>(
@@ -148,6 +127,7 @@ impl<'a> PromptDesk<'a> {
     }
 
     /// HISTORY of what a text means, if it means anything, and says whether it does.
+    #[tactic(auto, unfolding(crate::specs::Histories::HasLookedBack))]
     fn history_if<S: SetBoard>(
         &self,
         debugger: &mut Debugger<S>,
@@ -168,9 +148,7 @@ impl<'a> PromptDesk<'a> {
         match self.meaning_in(debugger, text)? {
             None => return Ok(false),
             Some(Meant::Refused(text)) => answer.extend_from_slice(&text)?,
-            Some(Meant::As(meaning)) => {
-                self.history_meant(debugger, text, &meaning, rows, answer)?
-            }
+            Some(Meant::As(meaning)) => push_history(debugger, &meaning, text, rows, answer)?,
         }
         Ok(true)
     }
@@ -179,19 +157,20 @@ impl<'a> PromptDesk<'a> {
     fn history_of<S: SetBoard>(
         &self,
         debugger: &mut Debugger<S>,
-        text: &[u8],
-        is_numbered: bool,
+        asked: &AskedText,
         answer: &mut Vec<u8>,
     ) -> Result<(), AllocError>
         requires { Suits debugger.old.machine.input.program self.now.symbols }
         ensures place { OnOk result (state_at debugger.new self.now
             ≡ state_at debugger.old self.now) }
         ensures said { OnOk result (answer.new.items ≡ answer.old.items
-            ++ spec.history_answered (state_at debugger.old self.now) text.now is_numbered) }
+            ++ spec.history_answered (state_at debugger.old self.now) asked.now.text
+            asked.now.is_numbered) }
         ensures memory { OnErr result ((state_at debugger.new self.now
             ≡ state_at debugger.old self.now) ⊎
             HasLookedBack (state_at debugger.old self.now) (state_at debugger.new self.now)) }
     {
+        let text = asked.text.as_slice();
         if self.history_if(debugger, text, ROWS_UNLESS_SAID, answer)? {
             return Ok(());
         }
@@ -200,29 +179,30 @@ impl<'a> PromptDesk<'a> {
                 return Ok(());
             }
         }
-        push_no_meaning(answer, Manner::History, is_numbered)
+        push_no_meaning(answer, Manner::History, asked.is_numbered)
     }
 
     /// WHY of a text.
     fn why_of<S: SetBoard>(
         &self,
         debugger: &mut Debugger<S>,
-        text: &[u8],
-        is_numbered: bool,
+        asked: &AskedText,
         answer: &mut Vec<u8>,
     ) -> Result<(), AllocError>
         requires { Suits debugger.old.machine.input.program self.now.symbols }
         ensures place { OnOk result (state_at debugger.new self.now
             ≡ state_at debugger.old self.now) }
         ensures said { OnOk result (answer.new.items ≡ answer.old.items
-            ++ spec.meant_answered (state_at debugger.old self.now) manners.Why text.now is_numbered
-            (spec.meaning_in (state_at debugger.old self.now) text.now)) }
+            ++ spec.meant_answered (state_at debugger.old self.now) manners.Why asked.now.text
+            asked.now.is_numbered
+            (spec.meaning_in (state_at debugger.old self.now) asked.now.text)) }
         ensures memory { OnErr result ((state_at debugger.new self.now
             ≡ state_at debugger.old self.now) ⊎
             HasLookedBack (state_at debugger.old self.now) (state_at debugger.new self.now)) }
     {
+        let text = asked.text.as_slice();
         match self.meaning_in(debugger, text)? {
-            None => push_no_meaning(answer, Manner::Why, is_numbered),
+            None => push_no_meaning(answer, Manner::Why, asked.is_numbered),
             Some(Meant::Refused(text)) => answer.extend_from_slice(&text),
             Some(Meant::As(meaning)) => self.why_meant(debugger, text, &meaning, answer),
         }
@@ -232,25 +212,25 @@ impl<'a> PromptDesk<'a> {
     fn run_change_of<S: SetBoard>(
         &self,
         debugger: &mut Debugger<S>,
-        text: &[u8],
-        is_numbered: bool,
+        asked: &AskedText,
         answer: &mut Vec<u8>,
     ) -> Result<(), AllocError>
         requires { Suits debugger.old.machine.input.program self.now.symbols }
         ensures place { OnOk result (state_at debugger.new self.now
             ≡ spec.change_led (state_at debugger.old self.now) false
-            (spec.meaning_in (state_at debugger.old self.now) text.now)) }
+            (spec.meaning_in (state_at debugger.old self.now) asked.now.text)) }
         ensures said { OnOk result (answer.new.items ≡ answer.old.items
-            ++ spec.meant_answered (state_at debugger.old self.now) manners.RunChange text.now
-            is_numbered (spec.meaning_in (state_at debugger.old self.now) text.now)) }
+            ++ spec.meant_answered (state_at debugger.old self.now) manners.RunChange asked.now.text
+            asked.now.is_numbered
+            (spec.meaning_in (state_at debugger.old self.now) asked.now.text)) }
         ensures memory { OnErr result ((state_at debugger.new self.now
             ≡ state_at debugger.old self.now) ⊎
             spec.IsChangeLedRefused (state_at debugger.old self.now) false
-            (spec.meaning_in (state_at debugger.old self.now) text.now)
+            (spec.meaning_in (state_at debugger.old self.now) asked.now.text)
             (state_at debugger.new self.now)) }
     {
-        match self.meaning_in(debugger, text)? {
-            None => push_no_meaning(answer, Manner::RunChange, is_numbered),
+        match self.meaning_in(debugger, asked.text.as_slice())? {
+            None => push_no_meaning(answer, Manner::RunChange, asked.is_numbered),
             Some(Meant::Refused(text)) => answer.extend_from_slice(&text),
             Some(Meant::As(meaning)) => self.run_meant(debugger, &meaning, answer),
         }
@@ -260,25 +240,25 @@ impl<'a> PromptDesk<'a> {
     fn back_change_of<S: SetBoard>(
         &self,
         debugger: &mut Debugger<S>,
-        text: &[u8],
-        is_numbered: bool,
+        asked: &AskedText,
         answer: &mut Vec<u8>,
     ) -> Result<(), AllocError>
         requires { Suits debugger.old.machine.input.program self.now.symbols }
         ensures place { OnOk result (state_at debugger.new self.now
             ≡ spec.change_led (state_at debugger.old self.now) true
-            (spec.meaning_in (state_at debugger.old self.now) text.now)) }
+            (spec.meaning_in (state_at debugger.old self.now) asked.now.text)) }
         ensures said { OnOk result (answer.new.items ≡ answer.old.items
-            ++ spec.meant_answered (state_at debugger.old self.now) manners.BackChange text.now
-            is_numbered (spec.meaning_in (state_at debugger.old self.now) text.now)) }
+            ++ spec.meant_answered (state_at debugger.old self.now) manners.BackChange
+            asked.now.text asked.now.is_numbered
+            (spec.meaning_in (state_at debugger.old self.now) asked.now.text)) }
         ensures memory { OnErr result ((state_at debugger.new self.now
             ≡ state_at debugger.old self.now) ⊎
             spec.IsChangeLedRefused (state_at debugger.old self.now) true
-            (spec.meaning_in (state_at debugger.old self.now) text.now)
+            (spec.meaning_in (state_at debugger.old self.now) asked.now.text)
             (state_at debugger.new self.now)) }
     {
-        match self.meaning_in(debugger, text)? {
-            None => push_no_meaning(answer, Manner::BackChange, is_numbered),
+        match self.meaning_in(debugger, asked.text.as_slice())? {
+            None => push_no_meaning(answer, Manner::BackChange, asked.is_numbered),
             Some(Meant::Refused(text)) => answer.extend_from_slice(&text),
             Some(Meant::As(meaning)) => self.back_meant(debugger, &meaning, answer),
         }
@@ -288,19 +268,19 @@ impl<'a> PromptDesk<'a> {
     fn display_of<S: SetBoard>(
         &mut self,
         debugger: &Debugger<S>,
-        text: Line,
-        is_numbered: bool,
+        asked: AskedText,
         answer: &mut Vec<u8>,
     ) -> Result<(), AllocError>
         requires { Suits debugger.now.machine.input.program self.old.symbols }
         ensures place { OnOk result (state_at debugger.now self.new
-            ≡ spec.display_led (state_at debugger.now self.old) text
-            (spec.meaning_in (state_at debugger.now self.old) text)) }
+            ≡ spec.display_led (state_at debugger.now self.old) asked.text
+            (spec.meaning_in (state_at debugger.now self.old) asked.text)) }
         ensures said { OnOk result (answer.new.items ≡ answer.old.items
-            ++ spec.meant_answered (state_at debugger.now self.old) manners.Display text is_numbered
-            (spec.meaning_in (state_at debugger.now self.old) text)) }
+            ++ spec.meant_answered (state_at debugger.now self.old) manners.Display asked.text
+            asked.is_numbered (spec.meaning_in (state_at debugger.now self.old) asked.text)) }
         ensures memory { OnErr result (self.new ≡ self.old) }
     {
+        let AskedText { text, is_numbered } = asked;
         match self.meaning_in(debugger, text.as_slice())? {
             None => push_no_meaning(answer, Manner::Display, is_numbered),
             Some(Meant::Refused(text)) => answer.extend_from_slice(&text),
@@ -317,21 +297,22 @@ impl<'a> PromptDesk<'a> {
     fn undisplay_of<S: SetBoard>(
         &mut self,
         debugger: &Debugger<S>,
-        text: &[u8],
-        is_numbered: bool,
+        asked: &AskedText,
         answer: &mut Vec<u8>,
     ) -> Result<(), AllocError>
         requires { Suits debugger.now.machine.input.program self.old.symbols }
         ensures place { OnOk result (state_at debugger.now self.new
-            ≡ spec.undisplay_led (state_at debugger.now self.old) text.now
-            (spec.meaning_in (state_at debugger.now self.old) text.now)) }
+            ≡ spec.undisplay_led (state_at debugger.now self.old) asked.now.text
+            (spec.meaning_in (state_at debugger.now self.old) asked.now.text)) }
         ensures said { OnOk result (answer.new.items ≡ answer.old.items
-            ++ spec.meant_answered (state_at debugger.now self.old) manners.Undisplay text.now
-            is_numbered (spec.meaning_in (state_at debugger.now self.old) text.now)) }
+            ++ spec.meant_answered (state_at debugger.now self.old) manners.Undisplay asked.now.text
+            asked.now.is_numbered
+            (spec.meaning_in (state_at debugger.now self.old) asked.now.text)) }
         ensures memory { OnErr result (self.new ≡ self.old) }
     {
+        let text = asked.text.as_slice();
         match self.meaning_in(debugger, text)? {
-            None => push_no_meaning(answer, Manner::Undisplay, is_numbered),
+            None => push_no_meaning(answer, Manner::Undisplay, asked.is_numbered),
             Some(Meant::Refused(text)) => answer.extend_from_slice(&text),
             Some(Meant::As(_)) => self.undisplay_text(text, answer),
         }
@@ -343,31 +324,25 @@ impl<'a> PromptDesk<'a> {
         &mut self,
         debugger: &mut Debugger<S>,
         manner: Manner,
-        text: Line,
-        is_numbered: bool,
+        asked: AskedText,
         answer: &mut Vec<u8>,
     ) -> Result<(), AllocError>
         requires { Suits debugger.old.machine.input.program self.old.symbols }
         ensures place { OnOk result (state_at debugger.new self.new
-            ≡ spec.meant_next (state_at debugger.old self.old) manner text) }
+            ≡ spec.meant_next (state_at debugger.old self.old) manner asked.text) }
         ensures said { OnOk result (answer.new.items ≡ answer.old.items
-            ++ spec.meant_said (state_at debugger.old self.old) manner text is_numbered) }
+            ++ spec.meant_said (state_at debugger.old self.old) manner asked.text
+            asked.is_numbered) }
         ensures memory { OnErr result (spec.IsMeantRefused (state_at debugger.old self.old) manner
-            text (state_at debugger.new self.new)) }
+            asked.text (state_at debugger.new self.new)) }
     {
         match manner {
-            Manner::Why => self.why_of(debugger, text.as_slice(), is_numbered, answer),
-            Manner::History => self.history_of(debugger, text.as_slice(), is_numbered, answer),
-            Manner::RunChange => {
-                self.run_change_of(debugger, text.as_slice(), is_numbered, answer)
-            }
-            Manner::BackChange => {
-                self.back_change_of(debugger, text.as_slice(), is_numbered, answer)
-            }
-            Manner::Display => self.display_of(debugger, text, is_numbered, answer),
-            Manner::Undisplay => {
-                self.undisplay_of(debugger, text.as_slice(), is_numbered, answer)
-            }
+            Manner::Why => self.why_of(debugger, &asked, answer),
+            Manner::History => self.history_of(debugger, &asked, answer),
+            Manner::RunChange => self.run_change_of(debugger, &asked, answer),
+            Manner::BackChange => self.back_change_of(debugger, &asked, answer),
+            Manner::Display => self.display_of(debugger, asked, answer),
+            Manner::Undisplay => self.undisplay_of(debugger, &asked, answer),
         }
     }
 }

@@ -13,8 +13,8 @@ ghost use Rattle.ss_prompt.specs.Until.{until_next, until_said, IsUntilRefused};
 ghost use Rattle.ss_prompt.specs.Valued.{Suits};
 
 use crate::advice::push_unread;
+use crate::asked_text::AskedText;
 use crate::desk::PromptDesk;
-use crate::line::Line;
 use crate::until::Until;
 use ss_debug::Debugger;
 use ss_expressions::{Aimed, ConditionAim, aim_of};
@@ -107,20 +107,20 @@ impl<'a> PromptDesk<'a> {
         &self,
         debugger: &mut Debugger<S>,
         way: Until,
-        text: &Line,
-        is_numbered: bool,
+        asked: &AskedText,
         answer: &mut Vec<u8>,
     ) -> Result<(), AllocError>
         requires { Suits debugger.old.machine.input.program self.now.symbols }
         ensures place { OnOk result (state_at debugger.new self.now
-            ≡ until_next (state_at debugger.old self.now) way text.now) }
+            ≡ until_next (state_at debugger.old self.now) way asked.now.text) }
         ensures said { OnOk result (answer.new.items ≡ answer.old.items
-            ++ until_said (state_at debugger.old self.now) way text.now is_numbered) }
-        ensures memory { OnErr result (IsUntilRefused (state_at debugger.old self.now) way text.now
-            (state_at debugger.new self.now)) }
+            ++ until_said (state_at debugger.old self.now) way asked.now.text
+            asked.now.is_numbered) }
+        ensures memory { OnErr result (IsUntilRefused (state_at debugger.old self.now) way
+            asked.now.text (state_at debugger.new self.now)) }
     {
-        match self.aim_by(debugger, text.as_slice())? {
-            None => push_no_aim(answer, way, is_numbered),
+        match self.aim_by(debugger, asked.text.as_slice())? {
+            None => push_no_aim(answer, way, asked.is_numbered),
             Some(Aimed::Refused(text)) => answer.extend_from_slice(&text),
             Some(Aimed::At(aim)) => self.seek(debugger, way, &aim, answer),
         }

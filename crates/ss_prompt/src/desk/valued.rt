@@ -5,8 +5,9 @@ ghost use Rattle.ss_prompt.specs.Advice.{unread_text};
 ghost use Rattle.ss_prompt.specs.Valued.{Suits, show_word, value_by, value_said};
 
 use crate::advice::push_unread;
+use crate::asked_text::AskedText;
 use crate::desk::PromptDesk;
-use crate::line::{Line, name_of_word};
+use crate::line::name_of_word;
 use ss_debug::Debugger;
 use ss_expressions::asked_answer;
 use ss_links::SetBoard;
@@ -44,17 +45,16 @@ impl<'a> PromptDesk<'a> {
     pub(crate) fn show_value<S: SetBoard>(
         &self,
         debugger: &Debugger<S>,
-        text: &Line,
-        is_numbered: bool,
+        asked: &AskedText,
         answer: &mut Vec<u8>,
     ) -> Result<(), AllocError>
         requires { Suits debugger.now.machine.input.program self.now.symbols }
         ensures { OnOk result (answer.new.items ≡ answer.old.items
-            ++ value_said (state_at debugger.now self.now) text.now is_numbered) }
+            ++ value_said (state_at debugger.now self.now) asked.now.text asked.now.is_numbered) }
     {
-        match self.value_of(debugger, text.as_slice())? {
+        match self.value_of(debugger, asked.text.as_slice())? {
             Some(value) => answer.extend_from_slice(&value),
-            None => push_no_value(answer, is_numbered),
+            None => push_no_value(answer, asked.is_numbered),
         }
     }
 }
