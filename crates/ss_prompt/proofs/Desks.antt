@@ -1,5 +1,5 @@
 -- A desk over the lines of a model, with a debugger that is lent.
-use Rattle.std.proofs.Common.{◌≡◌, ℕ, List, [], Some, None, Result, Ok, Err, OnOk, OnErr, refl, ap, ◌∙◌, sym}
+use Rattle.std.proofs.Common.{◌≡◌, ℕ, List, [], Some, None, Result, Ok, Err, OnOk, OnErr, ◌⊎◌, inr, refl, ap, ◌∙◌, sym}
 use Rattle.ss_check.specs.Symbols.{Symbols}
 use Rattle.ss_debug.specs.View.{DebuggerView}
 use Rattle.ss_prompt.specs.declared.shown.Shown.{Shown}
@@ -87,10 +87,10 @@ pub none_listed : {T E : Type 0} (result : Result T E) (k after : PromptDeskView
 none_listed (Ok value) k after e h = h
 none_listed (Err error) k after e h = h ∙ e
 
--- after a command for which memory was refused
-pub refused_so : {T E : Type 0} (result : Result T E) (s : PromptState) (command : PromptCommand) (d : DebuggerView)
+-- after a command for which memory was refused, or if something else holds
+pub refused_so : {T E A : Type 0} (result : Result T E) (s : PromptState) (command : PromptCommand) (d : DebuggerView)
     (model : List ℕ) (symbols : Symbols) (displays : List Shown) (k : PromptDeskView) →
     IsDeskOf model symbols displays k → OnErr result (k.listed ≡ None) → OnErr result (IsRefused s command (state_at d k)) →
-    OnErr result (IsRefused s command (lent_state d model symbols displays))
+    OnErr result (A ⊎ IsRefused s command (lent_state d model symbols displays))
 refused_so (Ok value) s command d model symbols displays k i l h = h
-refused_so (Err error) s command d model symbols displays k i l h = rw (lent_is d model symbols displays k i l) h
+refused_so (Err error) s command d model symbols displays k i l h = inr (rw (lent_is d model symbols displays k i l) h)

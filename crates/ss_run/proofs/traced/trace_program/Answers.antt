@@ -12,7 +12,10 @@ pub returns : goal.returns
 unfolding MakesTrace
 returns g c =
     let a : OutletState =
-    record { taken = g.T.Outlet.taken c.args.trace.now; failures = g.T.Outlet.failures c.args.trace.now } in
-    let t = input_with c.args.loaded.program c.args.data_text.now in
+    record {
+      taken = g.T.Outlet.taken c.args.outlets.now.trace;
+      failures = g.T.Outlet.failures c.args.outlets.now.trace;
+    } in
+    let t = input_with c.args.loaded.program c.args.asked.data_text.now in
     let xs = watched_all c.args.loaded.symbols t.program c.args.asked.watched.now in
     inr (Memory, refl, (appends_none _, refl), nothing_traced t xs a a (appends_none _, refl))

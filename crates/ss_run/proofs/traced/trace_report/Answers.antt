@@ -11,7 +11,10 @@ pub returns-in_err-watched : goal.returns-in_err-watched
 unfolding MakesTrace
 returns-in_err-watched g c =
     let a : OutletState =
-    record { taken = g.T.Outlet.taken c.args.trace.now; failures = g.T.Outlet.failures c.args.trace.now } in
+    record {
+      taken = g.T.Outlet.taken c.args.outlets.now.trace;
+      failures = g.T.Outlet.failures c.args.outlets.now.trace;
+    } in
     let t = c.args.debugger.now.machine.input in
     let xs = watched_all c.args.asked.symbols.now t.program c.args.asked.watched.now in
     let e : c.from_residual.result ≡ Err Memory = search rules in

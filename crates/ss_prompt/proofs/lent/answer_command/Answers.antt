@@ -1,18 +1,17 @@
-use Rattle.std.proofs.Common.{◌≡◌, None, map}
+use Rattle.std.proofs.Common.{◌≡◌, None}
 use Rattle.ss_prompt.specs.PromptState.{state_at}
 use Rattle.ss_prompt.specs.Prompting.{prompt_state_after}
 use Rattle.ss_prompt.proofs.Desks.{IsDeskOf, taken, given, unlisted_still, none_listed}
 use Rattle.ss_prompt.proofs.Desks.{lent_is, lent_unlisted, obeyed_so, refused_so}
-use Rattle.ss_prompt.proofs.lent.answer_with.Goals as goal
+use Rattle.ss_prompt.proofs.lent.answer_command.Goals as goal
 
 pub returns-clause-place : goal.returns-clause-place
 returns-clause-place g c =
     let m = c.args.model in
     let before : IsDeskOf m.text.now m.symbols.now c.args.displays.now.items c.swap_displays.new.self =
-    taken _ _ (map (λ l. l.now) c.args.lines.items) _ _ _ c.new-desk.ensures c.swap_displays.ensures.taken
-    c.requires.lines in
+    taken _ _ _ _ _ _ c.new-desk.ensures c.swap_displays.ensures.taken c.in_ok-lines.ensures in
     let none : c.swap_displays.new.self.listed ≡ None =
-    unlisted_still _ _ (map (λ l. l.now) c.args.lines.items) _ _ _ c.new-desk.ensures c.swap_displays.ensures.taken in
+    unlisted_still _ _ _ _ _ _ c.new-desk.ensures c.swap_displays.ensures.taken in
     let after : IsDeskOf m.text.now m.symbols.now c.swap_displays-2.new.displays.items c.obey-obeyed.new.self =
     given _ _ _ _ _ _ before c.obey-obeyed.ensures.model c.obey-obeyed.ensures.lines c.obey-obeyed.ensures.data_text
     c.obey-obeyed.ensures.symbols c.swap_displays-2.ensures.given in
@@ -25,10 +24,9 @@ pub returns-clause-memory : goal.returns-clause-memory
 returns-clause-memory g c =
     let m = c.args.model in
     let before : IsDeskOf m.text.now m.symbols.now c.args.displays.now.items c.swap_displays.new.self =
-    taken _ _ (map (λ l. l.now) c.args.lines.items) _ _ _ c.new-desk.ensures c.swap_displays.ensures.taken
-    c.requires.lines in
+    taken _ _ _ _ _ _ c.new-desk.ensures c.swap_displays.ensures.taken c.in_ok-lines.ensures in
     let none : c.swap_displays.new.self.listed ≡ None =
-    unlisted_still _ _ (map (λ l. l.now) c.args.lines.items) _ _ _ c.new-desk.ensures c.swap_displays.ensures.taken in
+    unlisted_still _ _ _ _ _ _ c.new-desk.ensures c.swap_displays.ensures.taken in
     let after : IsDeskOf m.text.now m.symbols.now c.swap_displays-2.new.displays.items c.obey-obeyed.new.self =
     given _ _ _ _ _ _ before c.obey-obeyed.ensures.model c.obey-obeyed.ensures.lines c.obey-obeyed.ensures.data_text
     c.obey-obeyed.ensures.symbols c.swap_displays-2.ensures.given in
