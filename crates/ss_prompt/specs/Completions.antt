@@ -9,9 +9,9 @@ abbrev pub word_lines : List (List ℕ) → List ℕ
 word_lines [] = []
 word_lines (word ∷ words) = word ++ 10 ∷ word_lines words
 
--- the words after other first words than SHOW
+-- the words after other first words than SHOW, and READ, which begins a line only before FROM
 abbrev pub other_words : List ℕ
-other_words = codes "TO CHANGE UNTIL EVENT FIRST END CAUSE WHEN"
+other_words = codes "TO CHANGE UNTIL EVENT FIRST END CAUSE WHEN READ FROM"
 
 -- the attributes of some classes
 abbrev pub attribute_lines : List ClassTable → List ℕ

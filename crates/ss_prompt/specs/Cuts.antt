@@ -14,7 +14,7 @@ use Rattle.ss_prompt.specs.declared.cuts.Standing.TheVariants.{First, BehindRun,
 abbrev pub first_words : List ℕ
 first_words =
     codes "STEP RUN NEXT BACK BREAK CLEAR FORGET SHOW QUIT OVER OUT GO LIST BREAKS DISPLAY UNDISPLAY HELP WHY HISTORY "
-    ++ codes "NAMES WARNINGS TBREAK READS"
+    ++ codes "NAMES WARNINGS TBREAK READS LOG RELOAD"
 
 -- the words that may come after RUN
 abbrev pub run_words : List ℕ

@@ -24,6 +24,7 @@ pub mod BreakPlaces
 pub mod BreakWhen
 pub mod Cleared
 pub mod Displays
+pub mod Resume
 pub mod Histories
 pub mod Past
 pub mod Causes

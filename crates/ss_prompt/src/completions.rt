@@ -9,8 +9,8 @@ use crate::pieces::next_word;
 use ss_program::{Class, Name, Program, Section, Set};
 use std::alloc::AllocError;
 
-/// The words after other first words than SHOW.
-const OTHER_WORDS: &[u8] = b"TO CHANGE UNTIL EVENT FIRST END CAUSE WHEN";
+/// The words after other first words than SHOW, and READ, which begins a line only before FROM.
+const OTHER_WORDS: &[u8] = b"TO CHANGE UNTIL EVENT FIRST END CAUSE WHEN READ FROM";
 
 /// Appends a word, and the end of its line.
 fn push_word(text: &mut Vec<u8>, word: &[u8]) -> Result<(), AllocError>

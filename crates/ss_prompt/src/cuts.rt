@@ -17,7 +17,7 @@ const FEWEST_LETTERS: usize = 3;
 /// The words that a line may begin with.
 pub(crate) const FIRST_WORDS: &[u8] =
     b"STEP RUN NEXT BACK BREAK CLEAR FORGET SHOW QUIT OVER OUT GO LIST BREAKS DISPLAY UNDISPLAY HELP \
-    WHY HISTORY NAMES WARNINGS TBREAK READS";
+    WHY HISTORY NAMES WARNINGS TBREAK READS LOG RELOAD";
 
 /// The words that may come after SHOW.
 pub(crate) const SHOW_WORDS: &[u8] =

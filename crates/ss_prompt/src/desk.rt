@@ -25,6 +25,7 @@ mod model;
 mod once;
 mod past;
 mod reads;
+mod resume;
 mod taken;
 mod until;
 mod valued;

@@ -21,7 +21,7 @@ use std::alloc::{AllocError, Global};
 pub const MOST_DISPLAYS: usize = 20;
 
 /// What is printed at each stop, as it is asked, in upper case and least digits.
-fn asked_text(alloc: Global, shown: &Shown) -> Result<Vec<u8>, AllocError>
+pub(crate) fn asked_text(alloc: Global, shown: &Shown) -> Result<Vec<u8>, AllocError>
     ensures { IfOk result (λ text. text.items ≡ shown_text shown.now) }
 {
     let mut asked = Vec::new(alloc);

@@ -6,7 +6,7 @@ use ss_debug::Name;
 use std::alloc::AllocError;
 
 /// A row for each form of a command: the word that it begins with; its form, and its effect.
-pub const HELP_ROWS: [(&[u8], &[u8]); 74] = [
+pub const HELP_ROWS: [(&[u8], &[u8]); 78] = [
     (b"STEP", b"STEP [n]: n steps forward, 1 if not said"),
     (
         b"RUN",
@@ -177,6 +177,19 @@ pub const HELP_ROWS: [(&[u8], &[u8]); 74] = [
     ),
     (b"WARNINGS", b"WARNINGS: what is suspicious in the model"),
     (b"FORGET", b"FORGET n: let go of all steps but the newest n"),
+    (
+        b"READS",
+        b"READ FROM f: in ssdb, read the lines of file f, as if they were typed",
+    ),
+    (
+        b"LOG",
+        b"LOG TO f: in ssdb, write to file f too what is typed and printed",
+    ),
+    (b"LOG", b"LOG: in ssdb, write to no file any more"),
+    (
+        b"RELOAD",
+        b"RELOAD: in ssdb, read model and data again, and go to the same place",
+    ),
     (
         b"HELP",
         b"HELP [word]: the commands, or those that begin with a word",

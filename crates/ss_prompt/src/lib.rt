@@ -30,6 +30,7 @@ mod places;
 mod prompt;
 mod read;
 mod refusal;
+mod resume;
 mod sections;
 mod seeing;
 mod shown;

@@ -1,5 +1,5 @@
 //! The debugger answers the lines of a dialogue.
-ghost use Rattle.std.specs.Prelude.{◌≡◌, ◌++◌, [], map, OnOk, Some};
+ghost use Rattle.std.specs.Prelude.{◌≡◌, ◌++◌, [], map, OnOk, IfOk, Some};
 ghost use Rattle.ss_check.specs.Asked.{IsSymbolsOf};
 ghost use Rattle.ss_state.specs.Run.{run};
 ghost use Rattle.ss_debug.specs.View.{debugger_state_of};
@@ -8,6 +8,7 @@ ghost use Rattle.ss_debug.specs.Turn.{is_quit as is_plain_quit};
 ghost use Rattle.ss_prompt.specs.Reading.{plain_command_of};
 ghost use Rattle.ss_prompt.specs.PromptState.{prompt_state_of, greeting};
 ghost use Rattle.ss_prompt.specs.Prompting.{prompt_meaning};
+ghost use Rattle.ss_prompt.specs.Resume.{resume_lines};
 
 use crate::desk::PromptDesk;
 use crate::misread::line_misread;
@@ -103,6 +104,16 @@ impl<'a, S: SetBoard> Prompt<'a, S> {
         ensures { OnOk result (text.new.items ≡ text.old.items ++ greeting self.now) }
     {
         self.desk.push_greeting(&self.debugger, text)
+    }
+
+    /// The lines that lead a new dialogue to where this one is: BREAK for each break line, with its
+    /// condition, GO to the position, and DISPLAY for what is printed at each stop.
+    pub fn resume_lines(&self) -> Result<Vec<u8>, AllocError>
+        ensures { IfOk result (λ text. text.items ≡ resume_lines self.now) }
+    {
+        let mut text = Vec::new(self.desk.alloc());
+        self.desk.push_resume_lines(&self.debugger, &mut text)?;
+        Ok(text)
     }
 }
 

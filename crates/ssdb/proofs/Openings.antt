@@ -1,5 +1,6 @@
 -- Whole dialogues of their parts.
 use Rattle.std.proofs.Common.{◌≡◌, ℕ, Bool, List, [], refl, inl, inr, Option, None, Some}
+use Rattle.std.specs.Prelude.{IfSome}
 use Rattle.ss_console.specs.Event.{Event, Adds, write_events}
 use Rattle.ss_console.specs.declared.cut.Cut.TheVariants.{Read, Write, Count}
 use Rattle.ss_state.specs.Run.{Input, input_with, run}
@@ -8,6 +9,7 @@ use Rattle.ss_debug.specs.View.{DebuggerView, debugger_state_of}
 use Rattle.ss_check.specs.Symbols.{Symbols}
 use Rattle.ss_session.specs.Model.{IsOfModel}
 use Rattle.ss_prompt.specs.PromptState.{PromptState, prompt_state_of}
+use Rattle.ss_prompt.specs.Resume.{resume_lines}
 use Rattle.ssdb.specs.declared.end.PromptEnd.{PromptEnd}
 use Rattle.ssdb.specs.declared.end.PromptFault.{PromptFault}
 use Rattle.ssdb.specs.declared.end.PromptFault.TheVariants.{Refused, Cut, Memory}
@@ -47,10 +49,12 @@ starts model data_text d lines symbols from e o i s l = rw e (
 )
 
 -- the parts of a dialogue
-pub holds : (from to : PromptState) (c : Seen) (told : Option (List Event)) (end : PromptEnd) →
-    Adds c.old told (write_events (greeting_at c.terminal from)) → EndsWell from to told c →
-    end ≡ end_of_status (run to.input to.debugger.position).status → HoldsFrom from c end
-holds from to c told end g a e = record { told = told; greets = g; to = to; answers = a; end_is = e }
+pub holds : (from to : PromptState) (c : Seen) (told : Option (List Event)) (end : PromptEnd)
+    (resume : Option (List ℕ)) → Adds c.old told (write_events (greeting_at c.terminal from)) → EndsWell from to told c →
+    end ≡ end_of_status (run to.input to.debugger.position).status → IfSome resume (λ text. text ≡ resume_lines to) →
+    HoldsFrom from c end resume
+holds from to c told end resume g a e r =
+    record { told = told; greets = g; to = to; answers = a; end_is = e; resumes = r }
 
 pub breaks : (from to : PromptState) (c : Seen) (told : Option (List Event)) (fault : PromptFault) →
     Adds c.old told (write_events (greeting_at c.terminal from)) → HoldFails from to told c fault →
@@ -81,9 +85,9 @@ pub greeting_stops : (from : PromptState) (c : Seen) (fault : PromptFault) →
 greeting_stops from c fault g l = inr (g, l)
 
 -- a dialogue over a model
-pub held : (model data_text : List ℕ) (from : PromptState) (c : Seen) (end : PromptEnd) → IsStart model data_text from →
-    HoldsFrom from c end → IsHeld model data_text c end
-held model data_text from c end s h = (from, s, h)
+pub held : (model data_text : List ℕ) (from : PromptState) (c : Seen) (end : PromptEnd) (resume : Option (List ℕ)) →
+    IsStart model data_text from → HoldsFrom from c end resume → IsHeld model data_text c end resume
+held model data_text from c end resume s h = (from, s, h)
 
 pub stopped : (model data_text : List ℕ) (from : PromptState) (c : Seen) (fault : PromptFault) →
     IsStart model data_text from → StopsFrom from c fault → IsStopped model data_text c fault

@@ -1,5 +1,5 @@
 -- A whole dialogue over a model and its data: how it begins, and how it ends.
-use Rattle.std.specs.Prelude.{ℕ, ◌≡◌, ◌⊎◌, Bool, List, [], Option, None, Some, if◌then◌else◌}
+use Rattle.std.specs.Prelude.{ℕ, ◌≡◌, ◌⊎◌, Bool, List, [], Option, None, Some, IfSome, if◌then◌else◌}
 use Rattle.ss_program.specs.Program.{ProgramTable}
 use Rattle.ss_state.specs.State.{is_faulted}
 use Rattle.ss_state.specs.Run.{input_with, run}
@@ -13,6 +13,7 @@ use Rattle.ss_check.specs.Symbols.{Symbols}
 use Rattle.ss_session.specs.Model.{IsOfModel}
 use Rattle.ss_prompt.specs.PromptState.{PromptState, greeting}
 use Rattle.ss_prompt.specs.Prompting.{prompt_meaning}
+use Rattle.ss_prompt.specs.Resume.{resume_lines}
 use Rattle.ssdb.specs.declared.end.PromptEnd.{PromptEnd}
 use Rattle.ssdb.specs.declared.end.PromptEnd.TheVariants.{Done, Faulted}
 use Rattle.ssdb.specs.declared.end.PromptFault.{PromptFault}
@@ -71,8 +72,8 @@ GreetingFails text old new Memory = Adds old new []
 GreetingFails text old new fault = ⊥
 
 -- a whole dialogue from a state on: the greeting and the answers are written; the end says whether
--- the run is faulted in the state to which they lead
-pub record HoldsFrom (from : PromptState) (seen : Seen) (end : PromptEnd) : Type 0 where
+-- the run is faulted in the state to which they lead, and the lines, if any are given, lead there again
+pub record HoldsFrom (from : PromptState) (seen : Seen) (end : PromptEnd) (resume : Option (List ℕ)) : Type 0 where
   -- the events until after the greeting
   pub told : Option (List Event)
   -- a terminal is greeted
@@ -83,6 +84,8 @@ pub record HoldsFrom (from : PromptState) (seen : Seen) (end : PromptEnd) : Type
   pub answers : EndsWell from to told seen
   -- whether the run is faulted there
   pub end_is : end ≡ end_of_status (run to.input to.debugger.position).status
+  -- the lines that lead a new dialogue there
+  pub resumes : IfSome resume (λ text. text ≡ resume_lines to)
 
 -- a dialogue that was cut short after its greeting
 pub record BreaksFrom (from : PromptState) (seen : Seen) (fault : PromptFault) : Type 0 where
@@ -102,8 +105,9 @@ StopsFrom from seen fault =
     ⊎ (GreetingFails (greeting_at seen.terminal from) seen.old seen.new fault × (seen.after ≡ seen.before))
 
 -- a whole dialogue over an accepted model and its data
-abbrev pub IsHeld : List ℕ → List ℕ → Seen → PromptEnd → Type 0
-IsHeld model data_text seen end = (from : PromptState) × IsStart model data_text from × HoldsFrom from seen end
+abbrev pub IsHeld : List ℕ → List ℕ → Seen → PromptEnd → Option (List ℕ) → Type 0
+IsHeld model data_text seen end resume =
+    (from : PromptState) × IsStart model data_text from × HoldsFrom from seen end resume
 
 -- why there was none: it was cut short, or the model is refused, or memory was before anything was written
 abbrev pub IsStopped : List ℕ → List ℕ → Seen → PromptFault → Type 0

@@ -12,6 +12,15 @@ pub enum PromptEnd {
     Faulted,
 }
 
+/// The end of a dialogue over an accepted model.
+#[derive(Drop)]
+pub struct Held {
+    /// How it ended.
+    pub end: PromptEnd,
+    /// The lines that lead a new dialogue to the same place; none if memory for them was refused.
+    pub resume: Option<Vec<u8>>,
+}
+
 /// Why there was no dialogue, or why it was cut short.
 #[derive(Clone, Copy, Debug, Drop, PartialEq, Eq, Error)]
 pub enum PromptFault {

@@ -6,18 +6,23 @@ ghost use Rattle.ss_host.specs.Stops.{stop_status};
 ghost use Rattle.ssdb.specs.Stops.{prompt_status};
 
 mod completion;
+mod dialogues;
 mod end;
+mod log;
 mod opening;
+mod orders;
 mod refused;
+mod scripts;
 mod words;
 
 use clap::Error;
 use clap::error::ErrorKind;
 use completion::tell_words;
+use dialogues::{hold_dialogues, read_sources};
 use end::{PromptEnd, PromptFault};
-use opening::open_prompt;
+use scripts::ScriptConsole;
 use ss_console::StreamConsole;
-use ss_host::{Stop, explain, read_arguments, read_file, read_or, tell};
+use ss_host::{Stop, explain, read_arguments, tell};
 use std::io;
 use std::io::IsTerminal;
 use std::process::ExitCode;
@@ -26,19 +31,19 @@ use words::{Words, read_words};
 /// The words that the program takes.
 const USAGE: &str = "ssdb MODEL [DATA], ssdb --words MODEL";
 
-/// Reads the files that the words name, and holds the dialogue, or prints the words for completion.
+/// Reads the files that the words name, and holds the dialogues, or prints the words for completion.
 fn run<'a>(
     rt: &HostRuntime,
     words: &Words<'a>,
     terminal: bool,
 ) -> Result<Result<PromptEnd, PromptFault>, Stop<'a>> {
-    let model = read_file(rt, words.model)?;
-    let data = read_or(rt, words.data, b"")?;
-    let mut console = StreamConsole::new(rt.reader(), io::writer(rt), terminal);
+    let sources = read_sources(rt, words)?;
+    let mut typed = StreamConsole::new(rt.reader(), io::writer(rt), terminal);
     if words.tells_words {
-        return Ok(tell_words(rt.alloc(), &model, &mut console));
+        return Ok(tell_words(rt.alloc(), &sources.model, &mut typed));
     }
-    Ok(open_prompt(rt.alloc(), &model, &data, &mut console))
+    let mut console = ScriptConsole::new(rt, typed);
+    Ok(hold_dialogues(rt, words, sources, &mut console))
 }
 
 /// The exit status after a dialogue.

@@ -1,16 +1,18 @@
 //! A whole dialogue over a model and its data.
-ghost use Rattle.std.specs.Prelude.{◌≡◌, ◌-◌, ◌^◌, ◌<◌, OnOk, IfOk, IfErr};
+ghost use Rattle.std.specs.Prelude.{◌≡◌, ◌-◌, ◌^◌, ◌<◌, OnOk, IfOk, IfErr, IfSome};
+ghost use Rattle.std.specs.Prelude.{option_map};
 ghost use Rattle.std.specs.Vec.{vec_capacity};
 ghost use Rattle.ss_console.specs.declared.lines.TheConstants.{LONGEST_LINE};
 ghost use Rattle.ss_console.specs.Event.{Adds, write_events};
 ghost use Rattle.ss_state.specs.Run.{run};
 ghost use Rattle.ss_prompt.specs.PromptState.{greeting};
+ghost use Rattle.ss_prompt.specs.Resume.{resume_lines};
 ghost use Rattle.ssdb.specs.Opening.{greeting_at, end_of_status, EndsWell, HoldFails, GreetingFails};
 ghost use Rattle.ssdb.specs.Opening.{HoldsFrom, StopsFrom, IsHeld, IsStopped};
 ghost use Rattle.ssdb.specs.Failures.{faults_after_end};
 ghost use Rattle.ssdb.specs.Seen.{seen_of};
 
-use crate::end::{PromptEnd, PromptFault};
+use crate::end::{Held, PromptEnd, PromptFault};
 use crate::refused::refuse;
 use ss_console::{Console, Cut, LONGEST_LINE, converse, put_all};
 use ss_links::SetBoard;
@@ -76,13 +78,13 @@ fn greet<S: SetBoard, C: Console>(
     Ok(())
 }
 
-/// Answers the lines of a console, and says whether the run is faulted then.
+/// Answers the lines of a console, and gives how that ended, and the lines that lead there again.
 fn hold<S: SetBoard, C: Console>(
     alloc: Global,
     prompt: &mut Prompt<'_, S>,
     line: &mut Vec<u8>,
     console: &mut C,
-) -> Result<PromptEnd, PromptFault>
+) -> Result<Held, PromptFault>
     requires room { LONGEST_LINE < vec_capacity line.old }
     requires reads { (C.faults console.old).reads < 2 ^ 64 - 1 }
     requires puts { (C.faults console.old).puts < 2 ^ 64 - 1 }
@@ -90,7 +92,9 @@ fn hold<S: SetBoard, C: Console>(
         (seen_of (C.terminal console.old) (C.left console.old) (C.left console.new)
         (C.log console.old) (C.log console.new))) }
     ensures end { IfOk result
-        (λ end. end ≡ end_of_status (run prompt.new.input prompt.new.debugger.position).status) }
+        (λ it. it.end ≡ end_of_status (run prompt.new.input prompt.new.debugger.position).status) }
+    ensures resume { IfOk result
+        (λ it. IfSome it.resume (λ text. text.items ≡ resume_lines prompt.new)) }
     ensures err { IfErr result (λ fault. HoldFails prompt.old prompt.new (C.log console.old)
         (seen_of (C.terminal console.old) (C.left console.old) (C.left console.new)
         (C.log console.old) (C.log console.new)) fault) }
@@ -100,7 +104,10 @@ fn hold<S: SetBoard, C: Console>(
 {
     let mut answer = Vec::new(alloc);
     converse(prompt, console, line, &mut answer)?;
-    Ok(end(prompt.status()))
+    Ok(Held {
+        end: end(prompt.status()),
+        resume: prompt.resume_lines().ok(),
+    })
 }
 
 /// A whole dialogue of a prompt: the greeting, and the answers to the lines of a console.
@@ -110,12 +117,13 @@ fn greet_and_hold<S: SetBoard, C: Console>(
     mut prompt: Prompt<'_, S>,
     line: &mut Vec<u8>,
     console: &mut C,
-) -> Result<PromptEnd, PromptFault>
+) -> Result<Held, PromptFault>
     requires room { LONGEST_LINE < vec_capacity line.old }
     requires reads { (C.faults console.old).reads < 2 ^ 64 - 1 }
     requires puts { (C.faults console.old).puts < 2 ^ 64 - 1 }
-    ensures ok { IfOk result (λ end. HoldsFrom prompt.entry (seen_of (C.terminal console.old)
-        (C.left console.old) (C.left console.new) (C.log console.old) (C.log console.new)) end) }
+    ensures ok { IfOk result (λ it. HoldsFrom prompt.entry (seen_of (C.terminal console.old)
+        (C.left console.old) (C.left console.new) (C.log console.old) (C.log console.new))
+        it.end (option_map (λ text. text.items) it.resume)) }
     ensures err { IfErr result (λ fault. StopsFrom prompt.entry (seen_of (C.terminal console.old)
         (C.left console.old) (C.left console.new) (C.log console.old) (C.log console.new)) fault) }
     ensures faults { C.faults console.new ≡ faults_after_end result (C.faults console.old) }
@@ -131,19 +139,20 @@ fn greet_and_hold<S: SetBoard, C: Console>(
 /// Reads a model and answers the lines of a console about its run over its data (docs/PROMPT.md).
 ///
 /// A refused model is reported there. Gives `Memory` if memory was refused before anything was
-/// written.
+/// written. After a dialogue that ended, the lines are given that lead a new one to the same place.
 #[tactic(auto, using(crate::proofs::Openings::none, ss_console::proofs::Parts::no_prompt))]
 pub fn open_prompt<C: Console>(
     alloc: Global,
     model: &[u8],
     data_text: &[u8],
     console: &mut C,
-) -> Result<PromptEnd, PromptFault>
+) -> Result<Held, PromptFault>
     requires reads { (C.faults console.old).reads < 2 ^ 64 - 1 }
     requires puts { (C.faults console.old).puts < 2 ^ 64 - 1 }
-    ensures ok { IfOk result (λ end. IsHeld model.now data_text.now
+    ensures ok { IfOk result (λ it. IsHeld model.now data_text.now
         (seen_of (C.terminal console.old) (C.left console.old) (C.left console.new)
-        (C.log console.old) (C.log console.new)) end) }
+        (C.log console.old) (C.log console.new))
+        it.end (option_map (λ text. text.items) it.resume)) }
     ensures err { IfErr result (λ fault. IsStopped model.now data_text.now
         (seen_of (C.terminal console.old) (C.left console.old) (C.left console.new)
         (C.log console.old) (C.log console.new)) fault) }

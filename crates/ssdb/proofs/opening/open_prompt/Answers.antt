@@ -11,7 +11,7 @@ returns-in-Ok-clause-ok g c =
     c.in-Ok.opened.symbols c.new-prompt.result c.new-prompt.ensures c.in-Ok.ensures.symbols c.in-Ok.ensures.input c.in-Ok.ensures.start
     c.in_ok-lines.ensures in
     IfOk-weaker c.greet_and_hold.result _ _
-    (λ end h. held c.args.model.now c.args.data_text.now c.new-prompt.result _ end start h)
+    (λ it h. held c.args.model.now c.args.data_text.now c.new-prompt.result _ it.end _ start h)
     c.greet_and_hold.ensures.ok
 
 pub returns-in-Ok-clause-err : goal.returns-in-Ok-clause-err
