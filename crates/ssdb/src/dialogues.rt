@@ -9,9 +9,9 @@ use crate::words::Words;
 use ss_console::{Console, Cut};
 use ss_host::{Stop, read_file, read_or};
 
-/// The bytes of a model and of its data.
+/// The bytes of the files of a model and of its data.
 #[derive(Drop)]
-pub struct Sources {
+pub struct Files {
     /// The model.
     pub model: Vec<u8>,
     /// The data.
@@ -19,10 +19,10 @@ pub struct Sources {
 }
 
 /// Reads the files that the words name.
-pub fn read_sources<'a>(rt: &HostRuntime, words: &Words<'a>) -> Result<Sources, Stop<'a>> {
+pub fn read_files<'a>(rt: &HostRuntime, words: &Words<'a>) -> Result<Files, Stop<'a>> {
     let model = read_file(rt, words.model)?;
     let data = read_or(rt, words.data, b"")?;
-    Ok(Sources { model, data })
+    Ok(Files { model, data })
 }
 
 /// Reads the sources again; if that cannot be, says so and gives none.
@@ -30,10 +30,10 @@ fn reread<C: Console + Drop>(
     rt: &HostRuntime,
     words: &Words<'_>,
     console: &mut ScriptConsole<'_, C>,
-) -> Option<Sources>
+) -> Option<Files>
     ensures { console.new.typed ≡ console.old.typed }
 {
-    match read_sources(rt, words) {
+    match read_files(rt, words) {
         Ok(sources) => Some(sources),
         Err(Stop::CannotRead(path, _)) => {
             console.say(b"CANNOT READ ", path.as_bytes());
@@ -65,7 +65,7 @@ fn resume<C: Console + Drop>(console: &mut ScriptConsole<'_, C>, lines: Option<V
 pub fn hold_dialogues<C: Console + Drop>(
     rt: &HostRuntime,
     words: &Words<'_>,
-    sources: Sources,
+    sources: Files,
     console: &mut ScriptConsole<'_, C>,
 ) -> Result<PromptEnd, PromptFault>
     requires reads { (C.faults console.old.typed).reads < 2 ^ 64 - 1 }
@@ -76,7 +76,7 @@ pub fn hold_dialogues<C: Console + Drop>(
         ≡ faults_after_end result (C.faults console.old.typed) }
 {
     let mut present = sources;
-    let mut spare: Option<Sources> = None;
+    let mut spare: Option<Files> = None;
     for _ in 0..u64::MAX {
         match open_prompt(rt.alloc(), &present.model, &present.data, console) {
             Ok(Held { end, resume: lines }) => {

@@ -18,7 +18,7 @@ mod words;
 use clap::Error;
 use clap::error::ErrorKind;
 use completion::tell_words;
-use dialogues::{hold_dialogues, read_sources};
+use dialogues::{hold_dialogues, read_files};
 use end::{PromptEnd, PromptFault};
 use scripts::ScriptConsole;
 use ss_console::StreamConsole;
@@ -37,7 +37,7 @@ fn run<'a>(
     words: &Words<'a>,
     terminal: bool,
 ) -> Result<Result<PromptEnd, PromptFault>, Stop<'a>> {
-    let sources = read_sources(rt, words)?;
+    let sources = read_files(rt, words)?;
     let mut typed = StreamConsole::new(rt.reader(), io::writer(rt), terminal);
     if words.tells_words {
         return Ok(tell_words(rt.alloc(), &sources.model, &mut typed));
