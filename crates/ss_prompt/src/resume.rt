@@ -34,10 +34,7 @@ fn push_break(text: &mut Vec<u8>, it: &ShownBreak) -> Result<(), AllocError>
 }
 
 /// Appends the lines that set some break lines.
-pub(crate) fn push_breaks(
-    text: &mut Vec<u8>,
-    mut breaks: &[ShownBreak],
-) -> Result<(), AllocError>
+pub(crate) fn push_breaks(text: &mut Vec<u8>, mut breaks: &[ShownBreak]) -> Result<(), AllocError>
     ensures { OnOk result (text.new.items ≡ text.old.items ++ break_commands breaks.entry.now) }
 {
     while let [first, rest @ ..] = breaks {

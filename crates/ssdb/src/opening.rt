@@ -78,6 +78,17 @@ fn greet<S: SetBoard, C: Console>(
     Ok(())
 }
 
+/// The lines that lead a new dialogue to the place of a prompt; none if memory for them is refused.
+fn resume_of<S: SetBoard>(prompt: &Prompt<'_, S>) -> Option<Vec<u8>>
+    ensures { IfSome (option_map (λ text. text.items) result)
+        (λ lines. lines ≡ resume_lines prompt.now) }
+{
+    match prompt.resume_lines() {
+        Ok(lines) => Some(lines),
+        Err(_) => None,
+    }
+}
+
 /// Answers the lines of a console, and gives how that ended, and the lines that lead there again.
 fn hold<S: SetBoard, C: Console>(
     alloc: Global,
@@ -94,7 +105,8 @@ fn hold<S: SetBoard, C: Console>(
     ensures end { IfOk result
         (λ it. it.end ≡ end_of_status (run prompt.new.input prompt.new.debugger.position).status) }
     ensures resume { IfOk result
-        (λ it. IfSome it.resume (λ text. text.items ≡ resume_lines prompt.new)) }
+        (λ it. IfSome (option_map (λ text. text.items) it.resume)
+        (λ lines. lines ≡ resume_lines prompt.new)) }
     ensures err { IfErr result (λ fault. HoldFails prompt.old prompt.new (C.log console.old)
         (seen_of (C.terminal console.old) (C.left console.old) (C.left console.new)
         (C.log console.old) (C.log console.new)) fault) }
@@ -106,7 +118,7 @@ fn hold<S: SetBoard, C: Console>(
     converse(prompt, console, line, &mut answer)?;
     Ok(Held {
         end: end(prompt.status()),
-        resume: prompt.resume_lines().ok(),
+        resume: resume_of(prompt),
     })
 }
 
