@@ -200,8 +200,8 @@ impl<'r, C: Console + Drop> Console for ScriptConsole<'r, C> {
             self.tell_lost_log();
             return Ok(false);
         }
-        self.tell_lost_log();
         self.note_line(line);
+        self.tell_lost_log();
         if let Some(order) = order_in(line) {
             self.obey(order);
             line.clear();
