@@ -21,6 +21,7 @@ pub mod Once
 pub mod Cleared
 pub mod Listed
 pub mod TakenRefusals
+pub mod RowTexts
 pub mod MissingLaws
 mod NothingAsked
 pub mod Misreads

@@ -9,7 +9,9 @@ pub mod Places
 pub mod Cuts
 pub mod Completions
 pub mod Asked
+pub mod Rows
 pub mod Sights
+pub mod RowsAsked
 pub mod Reading
 pub mod Stops
 pub mod PromptState

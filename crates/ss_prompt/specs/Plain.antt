@@ -2,10 +2,11 @@
 use Rattle.std.specs.Prelude.{ℕ, ◌⊎◌, List, [], ◌++◌}
 use Rattle.ss_debug.specs.declared.commands.Command.{Command}
 use Rattle.ss_debug.specs.declared.commands.Command.TheVariants.{Move, Show}
-use Rattle.ss_debug.specs.declared.commands.Question.TheVariants.{Taken}
+use Rattle.ss_debug.specs.declared.commands.Question.TheVariants.{Taken, Events}
 use Rattle.ss_debug.specs.Turn.{answer, debugger_state_after}
 use Rattle.ss_debug.specs.AfterRefusal.{IsStateAfterRefusal}
 use Rattle.ss_prompt.specs.PromptState.{PromptState, with_debugger, IsSameBeside}
+use Rattle.ss_prompt.specs.Rows.{notice_rows_text}
 use Rattle.ss_prompt.specs.Taken.{next_said}
 use Rattle.ss_prompt.specs.Stops.{goes_back, stop_text, IsStopRefused}
 
@@ -13,11 +14,16 @@ use Rattle.ss_prompt.specs.Stops.{goes_back, stop_text, IsStopRefused}
 abbrev pub plain_next : PromptState → Command → PromptState
 plain_next state command = with_debugger state (debugger_state_after state.input state.debugger command)
 
--- the text after the answer to a command: at the stop of a movement, and on the next pieces of the
--- data after SHOW TAKEN
+-- the rows of the pending notices in a state
+abbrev pub notices_said : PromptState → List ℕ
+notices_said state = notice_rows_text state.input state.debugger.position
+
+-- the text after the answer to a command: at the stop of a movement, on the next pieces of the data
+-- after SHOW TAKEN, and the rows of the notices after SHOW EVENTS
 abbrev pub plain_stop : PromptState → Command → List ℕ
 plain_stop state (Move m) = stop_text (goes_back m) (plain_next state (Move m))
 plain_stop state (Show Taken) = next_said (plain_next state (Show Taken))
+plain_stop state (Show Events) = notices_said (plain_next state (Show Events))
 plain_stop state command = []
 
 -- the answer to a command

@@ -29,6 +29,7 @@ use Rattle.ss_prompt.specs.Histories.{with_rows}
 use Rattle.ss_prompt.specs.Causes.{asks_cause}
 use Rattle.ss_prompt.specs.declared.causes.CauseCommand.TheVariants as causes
 use Rattle.ss_prompt.specs.Sights.{sight_of}
+use Rattle.ss_prompt.specs.RowsAsked.{rows_command}
 use Rattle.ss_prompt.specs.Cuts.{whole_line, first_whole_line}
 use Rattle.ss_prompt.specs.Manners.{words_before}
 use Rattle.ss_prompt.specs.declared.manner.Manner.{Manner}
@@ -185,10 +186,15 @@ abbrev pub seen_command : ProgramTable → PromptCommand → PromptCommand
 seen_command program (See (Living name)) = bare_command program name
 seen_command program command = command
 
--- the words after SHOW: a question, or another sight
+-- the rows that the words after SHOW ask for, or else another sight
+abbrev pub rows_or_sight : ProgramTable → Option PromptCommand → List (List ℕ) → PromptCommand
+rows_or_sight program (Some rows) words = rows
+rows_or_sight program None words = seen_command program (sight_command words)
+
+-- the words after SHOW: a question, rows or another sight
 abbrev pub show_command : ProgramTable → Option AskedQuestion → List (List ℕ) → PromptCommand
 show_command program (Some x) words = asked_command Ask (asked_of_program program x)
-show_command program None words = seen_command program (sight_command words)
+show_command program None words = rows_or_sight program (rows_command program words) words
 
 -- LIST: a line as BREAK takes it, or the name of a section
 abbrev pub lines_of : Command → Option (List ℕ) → PromptCommand

@@ -8,13 +8,15 @@ use Rattle.ss_inspect.specs.Tables.{classes_text, sets_text, sections_text}
 use Rattle.ss_inspect.specs.Living.{living_text}
 use Rattle.ss_inspect.specs.Lists.{places_text}
 use Rattle.ss_inspect.specs.Attribute.{by_variable_text}
+use Rattle.ss_debug.specs.CommandLines.{command_words}
 use Rattle.ss_debug.specs.declared.commands.Command.{Command}
 use Rattle.ss_debug.specs.declared.commands.Command.TheVariants.{Show}
 use Rattle.ss_debug.specs.declared.commands.Question.TheVariants.{Entity}
 use Rattle.ss_prompt.specs.Words.{command_behind, only_name_of}
+use Rattle.ss_prompt.specs.Rows.{member_rows_text, living_rows_text}
 use Rattle.ss_prompt.specs.declared.sight.Sight.{Sight}
 use Rattle.ss_prompt.specs.declared.sight.Sight.TheVariants.{Calls, Locals, Globals, Classes, Sets, Sections}
-use Rattle.ss_prompt.specs.declared.sight.Sight.TheVariants.{Living, ByVariable, Places}
+use Rattle.ss_prompt.specs.declared.sight.Sight.TheVariants.{Living, ByVariable, Places, MemberRows, LivingRows}
 
 -- the entities of a class, if a name is there
 abbrev pub living_of : Option (List ℕ) → Option Sight
@@ -85,3 +87,5 @@ sight_said Sections input p = sections_text input
 sight_said (Living name) input p = living_text name input p
 sight_said (ByVariable class variable attribute) input p = by_variable_text class variable attribute input p
 sight_said (Places class x) input p = places_text class x input p
+sight_said (MemberRows set owner names) input p = member_rows_text set owner (command_words names) input p
+sight_said (LivingRows class names) input p = living_rows_text class (command_words names) input p

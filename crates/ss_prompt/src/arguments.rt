@@ -5,10 +5,11 @@ ghost use Rattle.ss_prompt.specs.Words.{command_behind, only_name_of};
 ghost use Rattle.ss_prompt.specs.Reading.{made_or_bad, alone, over_of, back_over_of, back_to_of};
 ghost use Rattle.ss_prompt.specs.Reading.{go_command, back_command, list_command, names_command, help_command};
 ghost use Rattle.ss_prompt.specs.Reading.{run_command, sight_command, show_command, bare_command};
-ghost use Rattle.ss_prompt.specs.Reading.{seen_command, history_by, history_command};
+ghost use Rattle.ss_prompt.specs.Reading.{seen_command, rows_or_sight, history_by, history_command};
 ghost use Rattle.ss_prompt.specs.Reading.{made_by, text_command, manner_command, is_rows_of, longest_in};
 ghost use Rattle.ss_prompt.specs.Reading.{undisplay_command, clear_command, lines_between, until_command};
 ghost use Rattle.ss_prompt.specs.Asked.{own_asked};
+ghost use Rattle.ss_prompt.specs.RowsAsked.{rows_command};
 ghost use Rattle.ss_prompt.specs.declared.commands.PromptCommand.TheVariants as prompt;
 
 use crate::advice::has_number;
@@ -20,6 +21,7 @@ use crate::line::{Line, command_behind, command_of_word, name_of_word, only_name
 use crate::manner::Manner;
 use crate::missing::{Missing, asked_of_program, bare, is_class, is_declared};
 use crate::pieces::next_word;
+use crate::rows_asked::rows;
 use crate::seeing::sight;
 use crate::sight::Sight;
 use crate::until::Until;
@@ -188,13 +190,24 @@ fn seen_command(program: &Program, command: PromptCommand) -> PromptCommand
     }
 }
 
-/// The words after SHOW that are none of docs/DEBUGGER.md: a question, or another sight.
+/// The rows that the words after SHOW ask for, or else another sight.
+fn rows_or_sight(program: &Program, rest: &[u8]) -> PromptCommand
+    ensures { result ≡ rows_or_sight program.now
+        (rows_command program.now (command_words rest.now)) (command_words rest.now) }
+{
+    match rows(program, rest) {
+        Some(command) => command,
+        None => seen_command(program, sight_command(rest)),
+    }
+}
+
+/// The words after SHOW that are none of docs/DEBUGGER.md: a question, rows or another sight.
 pub(crate) fn show(program: &Program, rest: &[u8]) -> PromptCommand
     ensures { result ≡ show_command program.now (own_asked (command_words rest.now))
         (command_words rest.now) }
 {
     let Some(question) = own_asked(rest) else {
-        return seen_command(program, sight_command(rest));
+        return rows_or_sight(program, rest);
     };
     match asked_of_program(program, question) {
         Ok(question) => PromptCommand::Ask(question),

@@ -283,6 +283,10 @@ impl<'a> PromptDesk<'a> {
                 self.show_taken(debugger, answer)?;
                 Ok(Go::On)
             }
+            Command::Show(PlainQuestion::Events) => {
+                self.show_events(debugger, answer)?;
+                Ok(Go::On)
+            }
             other => match obey(debugger, other, answer)? {
                 ss_debug::Go::On => Ok(Go::On),
                 ss_debug::Go::Quit => Ok(Go::Quit),

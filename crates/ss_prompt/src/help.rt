@@ -6,7 +6,7 @@ use ss_debug::Name;
 use std::alloc::AllocError;
 
 /// A row for each form of a command: the word that it begins with; its form, and its effect.
-pub const HELP_ROWS: [(&[u8], &[u8]); 78] = [
+pub const HELP_ROWS: [(&[u8], &[u8]); 80] = [
     (b"STEP", b"STEP [n]: n steps forward, 1 if not said"),
     (
         b"RUN",
@@ -101,6 +101,10 @@ pub const HELP_ROWS: [(&[u8], &[u8]); 78] = [
     (b"SHOW", b"SHOW c: the entities of class c"),
     (
         b"SHOW",
+        b"SHOW c a [b ..]: these attributes of each of them, a row each",
+    ),
+    (
+        b"SHOW",
         b"SHOW c v [a]: the entity that variable v names, or attribute a of it",
     ),
     (
@@ -126,10 +130,17 @@ pub const HELP_ROWS: [(&[u8], &[u8]); 78] = [
     (b"SHOW", b"SHOW SET s [k]: the members of set s, of owner k"),
     (
         b"SHOW",
+        b"SHOW SET s [k] a [b ..]: these attributes of each of them, a row each",
+    ),
+    (
+        b"SHOW",
         b"SHOW s, SHOW s(e): the members of set s, of the owner with number e",
     ),
     (b"SHOW", b"SHOW COUNT s [k]: how many they are"),
-    (b"SHOW", b"SHOW EVENTS: the pending notices, the next first"),
+    (
+        b"SHOW",
+        b"SHOW EVENTS: the pending notices, the next first, and their attributes",
+    ),
     (
         b"SHOW",
         b"SHOW TAKEN: how many values of the data are taken, and the next three",

@@ -128,12 +128,13 @@ pub(crate) fn name_of_word(word: &[u8]) -> Option<Name>
     }
 }
 
-/// The debugger's command in two words after SHOW.
+/// The debugger's command in two words after a beginning.
 #[tactic(auto, using(crate::proofs::Lines::one_too_long))]
-pub(crate) fn command_of_two(what: &[u8], word: &[u8]) -> Command
-    ensures { result ≡ command_behind (codes "SHOW") (what.now ∷ word.now ∷ []) }
+pub(crate) fn command_of_two_behind(head: &[u8], what: &[u8], word: &[u8]) -> Command
+    requires { length head.now ≤ LONGEST_LINE }
+    ensures { result ≡ command_behind head.now (what.now ∷ word.now ∷ []) }
 {
-    let Some(head) = Line::new(b"SHOW") else {
+    let Some(head) = Line::new(head) else {
         return Command::Bad;
     };
     let Some(first) = head.with_word(what) else {
@@ -143,6 +144,13 @@ pub(crate) fn command_of_two(what: &[u8], word: &[u8]) -> Command
         None => Command::Bad,
         Some(line) => command(line.as_slice()),
     }
+}
+
+/// The debugger's command in two words after SHOW.
+pub(crate) fn command_of_two(what: &[u8], word: &[u8]) -> Command
+    ensures { result ≡ command_behind (codes "SHOW") (what.now ∷ word.now ∷ []) }
+{
+    command_of_two_behind(b"SHOW", what, word)
 }
 
 /// The name that is the only word of a line.

@@ -123,7 +123,7 @@ fn is_kept(program: &Program, class: usize, head: &[u8], set: &[u8]) -> bool
 }
 
 /// Whether the entities of a class have an attribute of this name, kept ones too.
-fn has_attribute(program: &Program, class: usize, name: &[u8]) -> bool
+pub(crate) fn has_attribute(program: &Program, class: usize, name: &[u8]) -> bool
     ensures { result ≡ spec.has_attribute program.now class name.now }
 {
     if is_among(program.attributes(class), name) {
@@ -134,7 +134,7 @@ fn has_attribute(program: &Program, class: usize, name: &[u8]) -> bool
 }
 
 /// The name of a set that has a list for this owner by its declaration.
-fn listed(program: &Program, name: Name, owner: Option<i64>) -> Result<Name, Missing>
+pub(crate) fn listed(program: &Program, name: Name, owner: Option<i64>) -> Result<Name, Missing>
     ensures { result ≡ spec.listed program.now name owner }
 {
     let Some(set) = find_set(program, name.as_slice()) else {

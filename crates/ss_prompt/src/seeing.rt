@@ -8,14 +8,14 @@ ghost use Rattle.ss_prompt.specs.Sights.{sight_of, sight_said};
 
 use crate::line::{command_behind, name_of_word, only_name};
 use crate::pieces::next_word;
+use crate::rows::{push_living_rows, push_member_rows};
 use crate::sight::Sight;
-use ss_debug::{Command, Name, Question};
+use ss_debug::{Command, Debugger, Name, Question};
 use ss_inspect::{
     push_by_variable, push_calls, push_classes, push_globals, push_living, push_locals,
     push_places, push_sections, push_sets,
 };
 use ss_links::SetBoard;
-use ss_machine::Machine;
 use ss_words::is_reserved_name;
 use std::alloc::{AllocError, Global};
 
@@ -56,7 +56,7 @@ fn places(rest: &[u8]) -> Option<Sight>
 }
 
 /// A name that is no reserved word of the language.
-fn unless_reserved(name: Option<Name>) -> Option<Name>
+pub(crate) fn unless_reserved(name: Option<Name>) -> Option<Name>
     ensures { result ≡ unless_reserved name }
 {
     let name = name?;
@@ -105,16 +105,17 @@ pub(crate) fn sight(words: &[u8]) -> Option<Sight>
     by_variable(what, word, rest)
 }
 
-/// Appends the text of a sight, in the state of the machine.
+/// Appends the text of a sight, in the debugger's present state.
 pub(crate) fn push_sight<S: SetBoard>(
     alloc: Global,
     text: &mut Vec<u8>,
-    machine: &Machine<S>,
+    debugger: &Debugger<S>,
     sight: Sight,
 ) -> Result<(), AllocError>
     ensures { OnOk result (text.new.items ≡ text.old.items
-        ++ sight_said sight machine.now.input (position machine.now)) }
+        ++ sight_said sight debugger.now.machine.input (position debugger.now.machine)) }
 {
+    let machine = debugger.machine();
     match sight {
         Sight::Calls => push_calls(text, machine),
         Sight::Locals => push_locals(text, machine),
@@ -142,5 +143,11 @@ pub(crate) fn push_sight<S: SetBoard>(
             ),
         },
         Sight::Places(class, x) => push_places(alloc, text, machine, class.as_slice(), x),
+        Sight::MemberRows(set, owner, names) => {
+            push_member_rows(alloc, text, debugger, set, owner, names.as_slice())
+        }
+        Sight::LivingRows(class, names) => {
+            push_living_rows(alloc, text, machine, class.as_slice(), names.as_slice())
+        }
     }
 }
