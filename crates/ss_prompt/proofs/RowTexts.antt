@@ -1,6 +1,7 @@
--- The rows of pending notices, one after the other.
-use Rattle.std.proofs.Common.{◌≡◌, ℕ, suc, ◌+◌, List, ◌++◌, drop, sym, ap, ◌∙◌, refl, arith, Some, None, slice_get}
+-- The rows of pending notices, one after the other; a page that is a whole list.
+use Rattle.std.proofs.Common.{◌≡◌, ℕ, suc, ◌+◌, List, ◌++◌, length, take, drop, sym, ap, ◌∙◌, refl, arith, Some, None, slice_get}
 use Rattle.std.specs.Option.{option_map}
+use Rattle.std.proofs.Math.Seq.{take-length}
 use Rattle.std.proofs.lemmas.List.{append-nil, append_assoc}
 use Rattle.ss_program.specs.Program.{ProgramTable}
 use Rattle.ss_store.specs.Store.{Store}
@@ -11,6 +12,10 @@ use Rattle.ss_state.specs.State.{State}
 use Rattle.ss_state.specs.Run.{Input, run}
 use Rattle.ss_debug.proofs.Pendings.{dropped, dropped_none, none_of}
 use Rattle.ss_prompt.specs.Rows.{notice_row, notice_rows, notice_rows_text}
+
+-- as many members as there are, are all
+pub whole_page : (ks : List ℕ) → take (length ks) ks ≡ ks
+whole_page ks = take-length ks
 
 -- one row more
 pub row_more : (p : ProgramTable) (st : Store) (es : List Pending) (i j : ℕ) (e : Pending) (text new all : List ℕ) →

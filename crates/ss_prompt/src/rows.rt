@@ -10,14 +10,12 @@ ghost use Rattle.ss_prompt.specs.Rows.{living_rows_text};
 
 use crate::pieces::next_word;
 use ss_debug::{
-    Debugger, Name, Question as PlainQuestion, class_value, find_class, find_set, push_entity,
-    push_number,
+    Debugger, Name, Question, class_value, find_class, find_set, push_entity, push_number,
 };
 use ss_inspect::{line_telling, living_numbers, members_page, push_living};
 use ss_links::SetBoard;
 use ss_machine::Machine;
 use ss_program::Owner;
-use ss_trace::{Question, push_answer};
 use std::alloc::{AllocError, Global};
 
 /// Appends an attribute of an entity with these lines; nothing if none of them gives it.
@@ -124,7 +122,7 @@ fn owner_asked<S: SetBoard>(machine: &Machine<S>, set: usize, owner: Option<i64>
 
 /// The members of the list of a set for the owner that a number names; none if there is no such
 /// owner.
-#[tactic(auto, using(ss_debug::proofs::Tables::sets_kept))]
+#[tactic(auto, using(ss_debug::proofs::Tables::sets_kept, crate::proofs::RowTexts::whole_page))]
 fn members_for<S: SetBoard>(
     alloc: Global,
     machine: &Machine<S>,
@@ -154,8 +152,8 @@ fn push_list<S: SetBoard>(
     ensures { OnOk result (text.new.items ≡ text.old.items ++ set_text set owner
         debugger.now.machine.input (position debugger.now.machine)) }
 {
-    let question = Question::Shown(PlainQuestion::Set(set, owner));
-    push_answer(debugger, &question, text)
+    let list = debugger.answer_to(&Question::Set(set, owner))?;
+    text.extend_from_slice(&list)
 }
 
 /// Appends the answer to SHOW SET s [k] a ..: a row for each member of the list, in its order, with
