@@ -1,6 +1,6 @@
 pub mod Unfoldings
 pub mod Orders
-pub mod Returns
+pub mod Comparing
 pub mod StateLaws
 pub mod Notices
 pub mod Exactness

@@ -13,44 +13,15 @@ use Rattle.ss_machine.specs.Moment.{Moment, position, HasMoved}
 use Rattle.ss_state.specs.Run.{Input, run}
 use Rattle.ss_debug.specs.Answer.{earliest_word}
 use Rattle.ss_debug.specs.View.{DebuggerView}
-use Rattle.ss_changes.specs.declared.part.Part.{Part}
-use Rattle.ss_changes.specs.declared.value.PartValue.{PartValue}
 use Rattle.ss_changes.specs.declared.change.Change.{Change}
-use Rattle.ss_changes.specs.Values.{value_in}
 use Rattle.ss_changes.specs.Changes.{changes_between, changed_at}
 use Rattle.ss_changes.specs.Texts.{first_changes, all_changes, changed_text, stop_changes, stop_changes_ahead}
-use Rattle.ss_changes.specs.View.{HasReturned, program_of, state_of, state_before, changed_among, told_against}
-use Rattle.ss_changes.proofs.Orders.{changes_append, told_between}
-use Rattle.ss_changes.proofs.Returns.{same_changed}
+use Rattle.ss_changes.specs.View.{HasReturned, program_of, state_of, state_before}
 
 -- a consequence of a result that holds if a call succeeded
 pub on_ok : {A B P Q : Type 0} (r : Result A B) → OnOk r P → (P → Q) → OnOk r Q
 on_ok (Ok x) h f = f h
 on_ok (Err e) h f = tt
-
--- ---- the changes
-
--- those among some parts, by the values before and in the state at a debugger's position
-pub told_here : (a b : DebuggerView) (m : Moment) (parts : List Part) (values : List PartValue) → HasReturned a b →
-    m ≡ b.machine → b.machine.state ≡ state_of b → values ≡ map (value_in (program_of a) (state_before a)) parts →
-    told_against m.input.program m.state parts values ≡ changed_among a parts
-told_here a b m parts values h e k v =
-    let program : m.input.program ≡ program_of a = rw (e, h.input) refl in
-    let state : m.state ≡ state_of a = ap (λ (n : Moment). n.state) e ∙ k ∙ rw (h.input, h.position) refl in
-    rw (program, state, v) (told_between (program_of a) (state_before a) (state_of a) parts)
-
--- the changes among some parts and then others
-pub next_section : (a b : DebuggerView) (done f : ProgramTable → State → State → List Part) (so_far new : List Change) →
-    HasReturned a b → so_far ≡ changed_among a (done (program_of a) (state_before a) (state_of a)) →
-    new ≡ so_far ++ changed_among b (f (program_of b) (state_before b) (state_of b)) →
-    new ≡ changed_among a (done (program_of a) (state_before a) (state_of a)
-    ++ f (program_of a) (state_before a) (state_of a))
-next_section a b done f so_far new h k w =
-    let more =
-    changes_append (program_of a) (state_before a) (state_of a) (done (program_of a) (state_before a) (state_of a))
-    (f (program_of a) (state_before a) (state_of a)) in
-    w ∙ ap (λ (l : List Change). so_far ++ l) (same_changed a b f h)
-    ∙ ap (λ (l : List Change). l ++ changed_among a (f (program_of a) (state_before a) (state_of a))) k ∙ sym more
 
 -- ---- the last step
 

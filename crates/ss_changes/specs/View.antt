@@ -1,15 +1,18 @@
 -- The positions of a debugger that looks at the states before and after its own.
-use Rattle.std.specs.Prelude.{ℕ, ◌≡◌, ◌+◌, ◌-◌, ◌≤◌, List, [], ◌∷◌, ◌++◌, if◌then◌else◌}
+use Rattle.std.specs.Prelude.{ℕ, suc, ◌≡◌, ◌+◌, ◌-◌, ◌≤◌, List, [], ◌∷◌, ◌++◌, length, slice_index_or, if◌then◌else◌}
+use Rattle.ss_program.specs.declared.kinds.Owner.{Owner}
+use Rattle.ss_program.specs.declared.kinds.Owner.TheVariants.{System, OwnedBy}
 use Rattle.ss_program.specs.Program.{ProgramTable}
 use Rattle.ss_state.specs.State.{State}
 use Rattle.ss_machine.specs.Moment.{position}
 use Rattle.ss_state.specs.Run.{run}
 use Rattle.ss_debug.specs.View.{DebuggerView}
+use Rattle.ss_inspect.specs.Living.{living_numbers}
 use Rattle.ss_changes.specs.declared.part.Part.{Part}
 use Rattle.ss_changes.specs.declared.change.Change.{Change}
 use Rattle.ss_changes.specs.declared.value.PartValue.{PartValue}
 use Rattle.ss_changes.specs.Values.{value_in, is_told}
-use Rattle.ss_changes.specs.Changes.{changes_among}
+use Rattle.ss_changes.specs.Parts.{below_of, local_names}
 
 -- a debugger is at position q of the run, and all else is as it was
 pub record IsAt (old : DebuggerView) (q : ℕ) (new : DebuggerView) : Type 0 where
@@ -61,11 +64,20 @@ state_of debugger = run debugger.machine.input (position debugger.machine)
 abbrev pub state_before : DebuggerView → State
 state_before debugger = run debugger.machine.input (position debugger.machine - 1)
 
--- those of some parts that the last step changed
-abbrev pub changed_among : DebuggerView → List Part → List Change
-changed_among debugger xs = changes_among (program_of debugger) (state_before debugger) (state_of debugger) xs
-
 -- ---- how the code comes to it
+
+-- how many locals each frame of a state has, MAIN's first
+abbrev pub local_counts : ProgramTable → State → List ℕ
+local_counts program u = below_of (λ n. length (local_names program u n) ∷ []) (suc (length u.below))
+
+-- the entities of each class that live in a state
+abbrev pub living_in : ProgramTable → State → List (List ℕ)
+living_in program u = below_of (λ c. living_numbers u.store c ∷ []) (length program.classes)
+
+-- the owners of lists among some entities of each class: the system, or those of a class
+abbrev pub owners_among : List (List ℕ) → Owner → List ℕ
+owners_among living System = 0 ∷ []
+owners_among living (OwnedBy c) = slice_index_or living c []
 
 -- a part with its values before and after, if it is shown
 abbrev pub told_if : Part → PartValue → PartValue → List Change

@@ -2,15 +2,17 @@
 //! differ, other than frames and places, each with its value before and after. The definition
 //! speaks only of the two states.
 //!
-//! Each call appends an answer, and leaves the debugger at its position: it goes one step back and
-//! forward again over the same step, and reads both states, kind by kind. A call takes as long as
-//! reading all parts of the two states.
+//! Each call appends an answer, and leaves the debugger at its position. It goes one step back and
+//! forward again over the same step. The state after the step is read twice: first which parts it
+//! has, at the end their values. The state before it is read once: the parts that it alone has, and
+//! the values of all. So a call takes as long, and as much memory, as reading all parts of the two
+//! states.
 #![tactic(auto)]
 
 mod answers;
-mod before;
 mod change;
 mod changes;
+mod compared;
 mod examples;
 mod laws;
 mod limits;

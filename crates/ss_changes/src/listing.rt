@@ -1,145 +1,47 @@
-//! The parts of the state at a machine's position, one after the other.
-ghost use Rattle.std.specs.Prelude.{◌≡◌, ◌++◌, IfOk, OnOk};
-ghost use Rattle.ss_changes.specs.Parts.{below_of, global_part, local_part};
-ghost use Rattle.ss_changes.specs.Parts.{attribute_part, attribute_parts};
-ghost use Rattle.ss_changes.specs.Parts.{entities_in, absent_in, owners_in, list_parts};
-ghost use Rattle.ss_changes.specs.Parts.{notices_in};
+//! The parts of a state, one after the other, each kind in the order of its table.
+ghost use Rattle.std.specs.Prelude.{◌≡◌, ◌++◌, [], length, slice_index_or, IfOk, OnOk};
+ghost use Rattle.ss_program.specs.Program.{set_of};
+ghost use Rattle.ss_changes.specs.Parts.{below_of, each_of, global_part, local_part};
+ghost use Rattle.ss_changes.specs.Parts.{attribute_part, attributes_of, entity_part, list_part};
+ghost use Rattle.ss_changes.specs.Parts.{absent_in, notices_in};
+ghost use Rattle.ss_changes.specs.View.{local_counts, living_in, owners_among};
 
 use crate::part::Part;
 use crate::reading::value_of;
-use crate::value::is_there;
+use crate::rows::local_names;
+use crate::value::{Members, is_there};
 use ss_inspect::living_numbers;
 use ss_links::SetBoard;
 use ss_machine::Machine;
-use ss_program::Owner;
+use ss_program::{Owner, Program};
 use std::alloc::{AllocError, Global};
 
-/// The first `count` global variables.
-pub fn globals(alloc: Global, count: usize) -> Result<Vec<Part>, AllocError>
-    ensures { IfOk result (λ parts. parts.items ≡ below_of global_part count) }
+/// The numbers of the entities that live, class by class.
+pub fn living<S: SetBoard>(alloc: Global, machine: &Machine<S>) -> Result<Vec<Members>, AllocError>
+    ensures { IfOk result (λ living. living.items
+        ≡ living_in machine.now.input.program machine.now.state) }
 {
-    let mut parts = Vec::new(alloc);
-    for number in 0..count {
-        parts.push(Part::Global { number })?;
+    let mut living = Vec::new(alloc);
+    for class in 0..machine.program().classes.len() {
+        let numbers = living_numbers(alloc, machine, class)?;
+        living.push(Members { numbers })?;
     }
-    Ok(parts)
+    Ok(living)
 }
 
-/// The first `count` locals of the frame with `below` frames below it.
-pub fn locals(alloc: Global, below: usize, count: usize) -> Result<Vec<Part>, AllocError>
-    ensures { IfOk result (λ parts. parts.items ≡ below_of (local_part below) count) }
-{
-    let mut parts = Vec::new(alloc);
-    for number in 0..count {
-        parts.push(Part::Local { below, number })?;
-    }
-    Ok(parts)
-}
-
-/// Appends the first `count` attributes of an entity.
-fn push_attributes(
-    parts: &mut Vec<Part>,
-    class: usize,
-    entity: u32,
-    count: usize,
-) -> Result<(), AllocError>
-    ensures { OnOk result (parts.new.items
-        ≡ parts.old.items ++ below_of (attribute_part class entity) count) }
-{
-    for attribute in 0..count {
-        parts.push(Part::Attribute {
-            class,
-            entity,
-            attribute,
-        })?;
-    }
-    Ok(())
-}
-
-/// The attributes of the entities of a class that live.
-pub fn attributes_now<S: SetBoard>(
+/// How many locals each frame has, MAIN's first.
+pub fn local_counts<S: SetBoard>(
     alloc: Global,
     machine: &Machine<S>,
-    class: usize,
-) -> Result<Vec<Part>, AllocError>
-    ensures { IfOk result (λ parts. parts.items
-        ≡ attribute_parts machine.now.input.program machine.now.state class) }
+) -> Result<Vec<usize>, AllocError>
+    ensures { IfOk result (λ counts. counts.items
+        ≡ local_counts machine.now.input.program machine.now.state) }
 {
-    let count = machine.program().attributes(class).len();
-    let numbers = living_numbers(alloc, machine, class)?;
-    let mut parts = Vec::new(alloc);
-    for entity in &numbers {
-        push_attributes(&mut parts, class, *entity, count)?;
+    let mut counts = Vec::new(alloc);
+    for below in 0..machine.frames() {
+        counts.push(local_names(machine, below).len())?;
     }
-    Ok(parts)
-}
-
-/// The entities of a class that live.
-pub fn entities_now<S: SetBoard>(
-    alloc: Global,
-    machine: &Machine<S>,
-    class: usize,
-) -> Result<Vec<Part>, AllocError>
-    ensures { IfOk result (λ parts. parts.items ≡ entities_in machine.now.state class) }
-{
-    let numbers = living_numbers(alloc, machine, class)?;
-    let mut parts = Vec::new(alloc);
-    for entity in &numbers {
-        parts.push(Part::Entity {
-            class,
-            entity: *entity,
-        })?;
-    }
-    Ok(parts)
-}
-
-/// Those of some parts that are not there.
-pub fn absent_parts<S: SetBoard>(
-    alloc: Global,
-    machine: &Machine<S>,
-    parts: &[Part],
-) -> Result<Vec<Part>, AllocError>
-    ensures { IfOk result (λ absent. absent.items
-        ≡ absent_in machine.now.input.program machine.now.state parts.now) }
-{
-    let mut absent = Vec::new(alloc);
-    for part in parts {
-        if !is_there(&value_of(alloc, machine, *part)?) {
-            absent.push(*part)?;
-        }
-    }
-    Ok(absent)
-}
-
-/// The owners of the lists of a set.
-fn owners<S: SetBoard>(
-    alloc: Global,
-    machine: &Machine<S>,
-    owner: Owner,
-) -> Result<Vec<u32>, AllocError>
-    ensures { IfOk result (λ owners. owners.items ≡ owners_in machine.now.state owner) }
-{
-    match owner {
-        Owner::System => Vec::from_slice(alloc, &[0]),
-        Owner::OwnedBy(class) => living_numbers(alloc, machine, class),
-    }
-}
-
-/// The lists of a set.
-pub fn lists_now<S: SetBoard>(
-    alloc: Global,
-    machine: &Machine<S>,
-    set: usize,
-) -> Result<Vec<Part>, AllocError>
-    ensures { IfOk result (λ parts. parts.items
-        ≡ list_parts machine.now.input.program machine.now.state set) }
-{
-    let owners = owners(alloc, machine, machine.program().set_owner(set))?;
-    let mut parts = Vec::new(alloc);
-    for owner in &owners {
-        parts.push(Part::List { set, owner: *owner })?;
-    }
-    Ok(parts)
+    Ok(counts)
 }
 
 /// The pending notices, in their order.
@@ -162,4 +64,170 @@ pub fn notices_now<S: SetBoard>(
         })?;
     }
     Ok(parts)
+}
+
+/// Appends the first `count` global variables.
+pub fn push_globals(parts: &mut Vec<Part>, count: usize) -> Result<(), AllocError>
+    ensures { OnOk result (parts.new.items ≡ parts.old.items ++ below_of global_part count) }
+{
+    for number in 0..count {
+        parts.push(Part::Global { number })?;
+    }
+    Ok(())
+}
+
+/// Appends the first `count` locals of the frame with `below` frames below it.
+pub fn push_locals(parts: &mut Vec<Part>, below: usize, count: usize) -> Result<(), AllocError>
+    ensures { OnOk result (parts.new.items
+        ≡ parts.old.items ++ below_of (local_part below) count) }
+{
+    for number in 0..count {
+        parts.push(Part::Local { below, number })?;
+    }
+    Ok(())
+}
+
+/// Appends the first `count` attributes of an entity.
+fn push_attributes(
+    parts: &mut Vec<Part>,
+    class: usize,
+    entity: u32,
+    count: usize,
+) -> Result<(), AllocError>
+    ensures { OnOk result (parts.new.items
+        ≡ parts.old.items ++ below_of (attribute_part class entity) count) }
+{
+    for attribute in 0..count {
+        parts.push(Part::Attribute {
+            class,
+            entity,
+            attribute,
+        })?;
+    }
+    Ok(())
+}
+
+/// Appends the attributes of some entities of a class.
+fn push_attributes_of(
+    parts: &mut Vec<Part>,
+    program: &Program,
+    class: usize,
+    entities: &[u32],
+) -> Result<(), AllocError>
+    ensures { OnOk result (parts.new.items
+        ≡ parts.old.items ++ each_of (attributes_of program.now class) entities.now) }
+{
+    let count = program.attributes(class).len();
+    for entity in entities {
+        push_attributes(parts, class, *entity, count)?;
+    }
+    Ok(())
+}
+
+/// Appends the attributes of entities, class by class.
+pub fn push_all_attributes(
+    parts: &mut Vec<Part>,
+    program: &Program,
+    living: &[Members],
+) -> Result<(), AllocError>
+    ensures { OnOk result (parts.new.items ≡ parts.old.items
+        ++ below_of (λ c. each_of (attributes_of program.now c) (slice_index_or living.now c []))
+        (length living.now)) }
+{
+    for class in 0..living.len() {
+        let entities = &living[class];
+        push_attributes_of(parts, program, class, &entities.numbers)?;
+    }
+    Ok(())
+}
+
+/// Appends some entities of a class.
+fn push_entities(parts: &mut Vec<Part>, class: usize, entities: &[u32]) -> Result<(), AllocError>
+    ensures { OnOk result (parts.new.items
+        ≡ parts.old.items ++ each_of (entity_part class) entities.now) }
+{
+    for entity in entities {
+        parts.push(Part::Entity {
+            class,
+            entity: *entity,
+        })?;
+    }
+    Ok(())
+}
+
+/// Appends entities class by class: those of one state, then those of the other.
+pub fn push_all_entities(
+    parts: &mut Vec<Part>,
+    earlier: &[Members],
+    later: &[Members],
+) -> Result<(), AllocError>
+    requires { length earlier.now ≡ length later.now }
+    ensures { OnOk result (parts.new.items ≡ parts.old.items
+        ++ below_of (λ c. each_of (entity_part c) (slice_index_or earlier.now c [])
+        ++ each_of (entity_part c) (slice_index_or later.now c [])) (length later.now)) }
+{
+    for class in 0..later.len() {
+        let (lived, living) = (&earlier[class], &later[class]);
+        push_entities(parts, class, &lived.numbers)?;
+        push_entities(parts, class, &living.numbers)?;
+    }
+    Ok(())
+}
+
+/// The owners of the lists of a set, of the entities with these numbers.
+fn owners(living: &[Members], owner: Owner) -> &[u32]
+    ensures { result.now ≡ owners_among living.now owner }
+{
+    let Owner::OwnedBy(class) = owner else {
+        return &[0];
+    };
+    match living.get(class) {
+        None => &[],
+        Some(members) => &members.numbers,
+    }
+}
+
+/// Appends the lists of a set for some owners.
+fn push_lists(parts: &mut Vec<Part>, set: usize, owners: &[u32]) -> Result<(), AllocError>
+    ensures { OnOk result (parts.new.items
+        ≡ parts.old.items ++ each_of (list_part set) owners.now) }
+{
+    for owner in owners {
+        parts.push(Part::List { set, owner: *owner })?;
+    }
+    Ok(())
+}
+
+/// Appends the lists of all sets, for the system and for entities with these numbers.
+pub fn push_all_lists(
+    parts: &mut Vec<Part>,
+    program: &Program,
+    living: &[Members],
+) -> Result<(), AllocError>
+    ensures { OnOk result (parts.new.items ≡ parts.old.items
+        ++ below_of (λ s. each_of (list_part s)
+        (owners_among living.now (set_of program.now s).owner)) (length program.now.sets)) }
+{
+    for set in 0..program.sets.len() {
+        push_lists(parts, set, owners(living, program.set_owner(set)))?;
+    }
+    Ok(())
+}
+
+/// Appends those of some parts that are not there.
+pub fn push_absent<S: SetBoard>(
+    alloc: Global,
+    parts: &mut Vec<Part>,
+    machine: &Machine<S>,
+    among: &[Part],
+) -> Result<(), AllocError>
+    ensures { OnOk result (parts.new.items ≡ parts.old.items
+        ++ absent_in machine.now.input.program machine.now.state among.now) }
+{
+    for part in among {
+        if !is_there(&value_of(alloc, machine, *part)?) {
+            parts.push(*part)?;
+        }
+    }
+    Ok(())
 }

@@ -1,8 +1,0 @@
-use Rattle.std.proofs.Common.{◌≡◌, ◌++◌, drop}
-use Rattle.ss_changes.specs.Parts.{absent_in}
-use Rattle.ss_changes.proofs.listing.absent_parts.Given as goal
-
-abbrev pub invariant-loop-part : goal.invariant-loop-part
-invariant-loop-part g l =
-    l.absent.items ++ absent_in l.machine.input.program l.machine.state (drop l.part-index l.parts)
-    ≡ absent_in l.machine.input.program l.machine.state l.parts

@@ -1,8 +1,0 @@
-use Rattle.std.proofs.Common.{◌≡◌, ◌++◌, drop}
-use Rattle.ss_changes.specs.Parts.{each_of, entity_part}
-use Rattle.ss_changes.proofs.listing.entities_now.Given as goal
-
-abbrev pub invariant-loop-entity : goal.invariant-loop-entity
-invariant-loop-entity g l =
-    l.parts.items ++ each_of (entity_part l.class) (drop l.entity-index l.entity-items)
-    ≡ each_of (entity_part l.class) l.entity-items

@@ -1,6 +1,0 @@
-use Rattle.std.proofs.Common.{◌≡◌}
-use Rattle.ss_changes.specs.Parts.{below_of, global_part}
-use Rattle.ss_changes.proofs.listing.globals.Given as goal
-
-abbrev pub invariant-loop-number : goal.invariant-loop-number
-invariant-loop-number l = l.parts.items ≡ below_of global_part l.number
