@@ -86,10 +86,13 @@ def wrong_depth(program):
 
 
 def wrong_words(program):
-    """Returns what is wrong with lines that are none of these commands."""
+    """Returns what is wrong with lines that are none of these commands; READ is a cut of READS."""
     lines = [b"READ FROM", b"READ x", b"LOG x", b"LOG TO", b"RELOAD x", b"RE", b"LO", b"READ FROM %s" % (200 * b"x")]
-    told = Folder(program).told(b"".join(it + b"\n" for it in lines))
-    return differs(told.count(b"BAD COMMAND\n"), len(lines))
+    folder = Folder(program)
+    folder.write("model", "MAIN\nLET Y = X\nEND\n")
+    told, cuts = folder.told(b"".join(it + b"\n" for it in lines)), folder.told(b"READS\nREAD\nrea\n")
+    wanted = len(lines), 3 * b"VAR X = 0, NO CHANGE SINCE STATE 0\n"
+    return differs((told.count(b"BAD COMMAND\n"), cuts), wanted)
 
 
 def wrong_typed(program):
