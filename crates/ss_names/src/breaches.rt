@@ -27,6 +27,18 @@ struct Subject<'a> {
     wrong: Wrong,
 }
 
+/// What is asked about a text: which name breaks a rule in the item, head or statement that begins
+/// on a line.
+#[derive(Clone, Copy)]
+struct NameBreach<'a> {
+    /// The facts of the text.
+    facts: &'a Facts<'a>,
+    /// The rule.
+    rule: NameRule,
+    /// The line.
+    line: usize,
+}
+
 /// Collects the declarations of a text.
 fn collect_names<'a>(words: &[PlainWord<'a>], facts: &mut Facts<'a>) -> Result<(), AllocError>
     ensures { OnOk result (facts.new ≡ spec.with_names facts.old (map plain_at words.now)) }
@@ -125,28 +137,26 @@ fn wrong_before(
     }
 }
 
-/// How a word breaks a rule, if it is a name in the item, head or statement that begins on a line.
+/// How a word breaks the rule, if it is a name in the item, head or statement that is asked about.
 fn word_subject<'a>(
-    facts: &Facts<'a>,
-    rule: NameRule,
-    line: usize,
+    breach: NameBreach<'a>,
     here: Here,
     ranked: &'a [u8],
     word: &PlainWord<'a>,
     behind: &[PlainWord<'a>],
 ) -> Option<Subject<'a>>
     ensures { option_map spec.subject_at result
-        ≡ spec.word_subject facts.now rule line here ranked.now (plain_at word.now)
-        (map plain_at behind.now) }
+        ≡ spec.word_subject breach.entry.facts.now breach.entry.rule breach.entry.line here
+        ranked.now (plain_at word.now) (map plain_at behind.now) }
 {
     let Plain::Name(name) = word.kind() else {
         return None;
     };
-    if here.line != line {
+    if here.line != breach.line {
         return None;
     }
     let at = standpoint(here, ranked, name.bytes(), word.index, behind);
-    match wrong_before(facts, rule, at, behind) {
+    match wrong_before(breach.facts, breach.rule, at, behind) {
         Some(wrong) => Some(Subject {
             name: name.bytes(),
             wrong,
@@ -165,26 +175,22 @@ fn ranked_at<'a>(facts: &Facts<'a>, here: Here, ranked: &'a [u8], word: &PlainWo
     }
 }
 
-/// The first name that breaks a rule in an item, head or statement that begins on a line.
+/// The first name that breaks the rule in the item, head or statement that is asked about.
 #[tactic(auto, unfolding(crate::specs::Subjects::subject))]
-fn first_subject<'a>(
-    facts: &Facts<'a>,
-    rule: NameRule,
-    line: usize,
-    words: &[PlainWord<'a>],
-) -> Option<Subject<'a>>
+fn first_subject<'a>(breach: NameBreach<'a>, words: &[PlainWord<'a>]) -> Option<Subject<'a>>
     ensures { option_map spec.subject_at result
-        ≡ spec.subject facts.now rule line at_start [] (map plain_at words.now) }
+        ≡ spec.subject breach.entry.facts.now breach.entry.rule breach.entry.line at_start []
+        (map plain_at words.now) }
 {
     let mut here = Here::at_start();
     let mut ranked: &'a [u8] = b"";
     let mut rest = words;
     while let [word, behind @ ..] = rest {
         let at = here_at(here, word);
-        if let Some(found) = word_subject(facts, rule, line, at, ranked, word, behind) {
+        if let Some(found) = word_subject(breach, at, ranked, word, behind) {
             return Some(found);
         }
-        ranked = ranked_at(facts, at, ranked, word);
+        ranked = ranked_at(breach.facts, at, ranked, word);
         here = at.behind(word.kind(), word.line(), behind);
         rest = behind;
     }
@@ -302,7 +308,8 @@ fn push_fact_breach<'a>(
         ++ spec.name_breach (map plain_at words.now) line (Some rule)) }
 {
     collect_facts(words, facts)?;
-    push_subject(text, facts, first_subject(facts, rule, line, words))
+    let breach = NameBreach { facts, rule, line };
+    push_subject(text, breach.facts, first_subject(breach, words))
 }
 
 /// Appends the text about a breach of a rule on names, if it is one.

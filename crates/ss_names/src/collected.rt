@@ -195,27 +195,35 @@ fn head_yielded(meaning: Meaning, behind: &[PlainWord<'_>]) -> usize
     }
 }
 
+/// The place of a word, and the class or set of its clause.
+#[derive(Clone, Copy)]
+struct InClause<'a> {
+    /// The place of the word.
+    here: Here,
+    /// The class of the last EVERY, or the last set of DEFINE, before it; empty if there is none.
+    class: &'a [u8],
+}
+
 /// Puts a word to the collected declarations, if it is wanted, before these words.
 fn collect_word<'a>(
     found: &mut Declarations<'a>,
     wanted: Wanted,
-    here: Here,
-    class: &'a [u8],
+    at: InClause<'a>,
     word: &PlainWord<'a>,
     behind: &[PlainWord<'a>],
 ) -> Result<(), AllocError>
     ensures { OnOk result (found.new
-        ≡ spec.with_word found.old wanted here class.now (plain_at word.now)
-        (map plain_at behind.now)) }
+        ≡ spec.with_word found.old wanted at.entry.here at.entry.class.now
+        (plain_at word.now) (map plain_at behind.now)) }
 {
     let Plain::Name(name) = word.kind() else {
         return Ok(());
     };
-    match collected_as(wanted, here) {
+    match collected_as(wanted, at.here) {
         Some(meaning) => found.add(Row {
             name: name.bytes(),
             meaning,
-            of: class_of(here, class),
+            of: class_of(at.here, at.class),
             line: word.line(),
             index: word.index,
             given: head_given(meaning, behind),
@@ -240,7 +248,7 @@ pub fn collect_into<'a>(
     let mut rest = words;
     while let [word, behind @ ..] = rest {
         let at = here_at(here, word);
-        collect_word(found, wanted, at, class, word, behind)?;
+        collect_word(found, wanted, InClause { here: at, class }, word, behind)?;
         class = class_at(at, class, word);
         here = at.behind(word.kind(), word.line(), behind);
         rest = behind;

@@ -104,7 +104,9 @@ fn push_rows(
     let mut rest = words;
     while let [word, behind @ ..] = rest {
         if let Plain::Name(name) = word.kind() {
-            push_row(text, all, shown, &before, name.bytes(), word.line())?;
+            if is_shown(shown, &before, name.bytes()) {
+                push_row(text, name.bytes(), all.count(name.bytes()), word.line())?;
+            }
             before.add(name.bytes())?;
         }
         rest = behind;
@@ -120,25 +122,15 @@ fn is_shown(shown: &NameCounts, before: &NameCounts, name: &[u8]) -> bool
     before.count(name) == 0 && shown.count(name) > 0
 }
 
-/// Appends the row of a name, if it occurs here first and is to be shown.
-fn push_row(
-    text: &mut Vec<u8>,
-    all: &NameCounts,
-    shown: &NameCounts,
-    before: &NameCounts,
-    name: &[u8],
-    line: usize,
-) -> Result<(), AllocError>
+/// Appends the row of a name that occurs `count` times, first on this line.
+fn push_row(text: &mut Vec<u8>, name: &[u8], count: usize, line: usize) -> Result<(), AllocError>
     ensures { OnOk result (text.new.items
-        ≡ text.old.items ++ spec.name_row all.now shown.now before.now name.now line) }
+        ≡ text.old.items ++ spec.name_line name.now count line) }
 {
-    if !is_shown(shown, before, name) {
-        return Ok(());
-    }
     let mut buffer = Buffer::new();
     text.extend_from_slice(name)?;
     text.extend_from_slice(b": ")?;
-    text.extend_from_slice(buffer.format(all.count(name)).as_bytes())?;
+    text.extend_from_slice(buffer.format(count).as_bytes())?;
     text.extend_from_slice(b", first on line ")?;
     text.extend_from_slice(buffer.format(line).as_bytes())?;
     text.extend_from_slice(b"\n")
@@ -184,12 +176,11 @@ fn push_name_of_words(
         text.extend_from_slice(name)?;
         return text.extend_from_slice(b"\n");
     }
-    push_told(alloc, words, name, count, text)
+    push_told(words, name, count, text)
 }
 
 /// Appends the report on a name that occurs `count` times.
 fn push_told(
-    alloc: Global,
     words: &[PlainWord<'_>],
     name: &[u8],
     count: usize,
@@ -198,16 +189,15 @@ fn push_told(
     ensures { OnOk result (text.new.items
         ≡ text.old.items ++ spec.told_of_name (map plain_at words.now) name.now count) }
 {
-    push_front(alloc, words, name, count, text)?;
-    push_roles(alloc, words, name, text)?;
-    push_remarks(alloc, words, name, count, text)?;
+    push_front(words, name, count, text)?;
+    push_roles(words, name, text)?;
+    push_remarks(words, name, count, text)?;
     text.extend_from_slice(b"\n")
 }
 
 /// Appends a name, how often it occurs, and its kind.
 #[tactic(auto, unfolding(crate::specs::Index::name_front))]
 fn push_front(
-    alloc: Global,
     words: &[PlainWord<'_>],
     name: &[u8],
     count: usize,
@@ -217,7 +207,7 @@ fn push_front(
         ≡ text.old.items ++ spec.name_front (map plain_at words.now) name.now count) }
 {
     push_head(text, name, count)?;
-    push_what(alloc, words, name, text)
+    push_what(words, name, text)
 }
 
 /// Appends a name, and how often it occurs.
@@ -231,39 +221,28 @@ fn push_head(text: &mut Vec<u8>, name: &[u8], count: usize) -> Result<(), AllocE
 }
 
 /// Appends the kind of a name.
-fn push_what(
-    alloc: Global,
-    words: &[PlainWord<'_>],
-    name: &[u8],
-    text: &mut Vec<u8>,
-) -> Result<(), AllocError>
+fn push_what(words: &[PlainWord<'_>], name: &[u8], text: &mut Vec<u8>) -> Result<(), AllocError>
     ensures { OnOk result (text.new.items
         ≡ text.old.items ++ spec.what_told (map plain_at words.now) name.now) }
 {
-    let declarations = collect(alloc, Wanted::Declared, words)?;
+    let declarations = collect(*text.allocator(), Wanted::Declared, words)?;
     text.extend_from_slice(b", ")?;
     push_known(text, known_as(&declarations, name))
 }
 
 /// Appends the lines on which a name has each role.
-fn push_roles(
-    alloc: Global,
-    words: &[PlainWord<'_>],
-    name: &[u8],
-    text: &mut Vec<u8>,
-) -> Result<(), AllocError>
+fn push_roles(words: &[PlainWord<'_>], name: &[u8], text: &mut Vec<u8>) -> Result<(), AllocError>
     ensures { OnOk result (text.new.items
         ≡ text.old.items ++ spec.roles_told (map plain_at words.now) name.now) }
 {
-    push_role_part(alloc, words, name, Role::Declared, b", declared on", text)?;
-    push_role_part(alloc, words, name, Role::Set, b", set on", text)?;
-    push_role_part(alloc, words, name, Role::Read, b", read on", text)?;
-    push_role_part(alloc, words, name, Role::Named, b", named on", text)
+    push_role_part(words, name, Role::Declared, b", declared on", text)?;
+    push_role_part(words, name, Role::Set, b", set on", text)?;
+    push_role_part(words, name, Role::Read, b", read on", text)?;
+    push_role_part(words, name, Role::Named, b", named on", text)
 }
 
 /// Appends the remarks about a name that occurs `count` times.
 fn push_remarks(
-    alloc: Global,
     words: &[PlainWord<'_>],
     name: &[u8],
     count: usize,
@@ -273,8 +252,8 @@ fn push_remarks(
         ≡ text.old.items ++ spec.remarks (map plain_at words.now) name.now count) }
 {
     push_once_remark(text, count)?;
-    push_only_remark(alloc, words, name, Role::Read, b", NEVER SET", text)?;
-    push_only_remark(alloc, words, name, Role::Set, b", NEVER READ", text)
+    push_only_remark(words, name, Role::Read, b", NEVER SET", text)?;
+    push_only_remark(words, name, Role::Set, b", NEVER READ", text)
 }
 
 /// Appends that a name occurs once, if it does.
@@ -288,7 +267,6 @@ fn push_once_remark(text: &mut Vec<u8>, count: usize) -> Result<(), AllocError>
 /// Appends that words use a name in one way only, if they do.
 #[tactic(auto, unfolding(crate::specs::Index::only_remark))]
 fn push_only_remark(
-    alloc: Global,
     words: &[PlainWord<'_>],
     name: &[u8],
     role: Role,
@@ -298,7 +276,7 @@ fn push_only_remark(
     ensures { OnOk result (text.new.items ≡ text.old.items
         ++ spec.only_remark (map plain_at words.now) name.now role said.now) }
 {
-    let is_so = only_with(alloc, words, name, role)?;
+    let is_so = only_with(*text.allocator(), words, name, role)?;
     push_remark(text, is_so, said)
 }
 
@@ -332,7 +310,6 @@ fn push_remark(text: &mut Vec<u8>, is_so: bool, said: &[u8]) -> Result<(), Alloc
 /// Appends the lines on which a name has a role, after the text about them.
 #[tactic(auto, unfolding(crate::specs::Index::role_part))]
 fn push_role_part(
-    alloc: Global,
     words: &[PlainWord<'_>],
     name: &[u8],
     role: Role,
@@ -342,7 +319,7 @@ fn push_role_part(
     ensures { OnOk result (text.new.items ≡ text.old.items
         ++ spec.role_part (map plain_at words.now) name.now role said.now) }
 {
-    let mut lines = Vec::new(alloc);
+    let mut lines = Vec::new(*text.allocator());
     push_lines_with(&mut lines, role, name, words)?;
     if lines.is_empty() {
         return Ok(());

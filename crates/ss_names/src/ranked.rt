@@ -15,6 +15,26 @@ use std::alloc::AllocError;
 /// The text about such a key. The definitions read it too.
 pub const RANKED: &[u8] = b" is set after the FILE of its entity, and ranks that set.\n";
 
+/// The declarations of a model.
+#[derive(Clone, Copy)]
+pub struct Ranking<'a> {
+    /// Those of its names.
+    pub names: &'a Declarations<'a>,
+    /// The keys of its ranked sets.
+    pub keys: &'a Declarations<'a>,
+}
+
+/// The place of a word, and what was filed last before it.
+#[derive(Clone, Copy)]
+struct Filed<'a> {
+    /// The place of the word.
+    here: Here,
+    /// The name of the entity that was filed; empty if none was.
+    member: &'a [u8],
+    /// The name of the set into which it was filed; empty if none is named yet.
+    set: &'a [u8],
+}
+
 fn is_file(begun: Option<Reserved>) -> bool
     ensures { result ≡ spec.is_file begun }
 {
@@ -148,43 +168,34 @@ fn is_target(position: Position) -> bool
 }
 
 /// Whether a name is a key that is set for an entity after its FILE.
-fn is_told(
-    names: &Declarations<'_>,
-    keys: &Declarations<'_>,
-    member: &[u8],
-    set: &[u8],
-    here: Here,
-    name: &[u8],
-    behind: &[PlainWord<'_>],
-) -> bool
-    ensures { result ≡ spec.is_told names.now keys.now
-        member.now set.now here name.now (map plain_at behind.now) }
+fn is_told(ranking: Ranking<'_>, filed: Filed<'_>, name: &[u8], behind: &[PlainWord<'_>]) -> bool
+    ensures { result ≡ spec.is_told ranking.entry.names.now ranking.entry.keys.now
+        filed.entry.member.now filed.entry.set.now filed.entry.here name.now
+        (map plain_at behind.now) }
 {
-    is_target(position_at(here, behind))
-        && !set.is_empty()
-        && ranks(keys, name, set)
-        && entity(names, name, behind) == member
+    is_target(position_at(filed.here, behind))
+        && !filed.set.is_empty()
+        && ranks(ranking.keys, name, filed.set)
+        && entity(ranking.names, name, behind) == filed.member
 }
 
 /// Appends the warning about a word, if it is such a key.
 fn push_ranked_word(
     text: &mut Vec<u8>,
-    names: &Declarations<'_>,
-    keys: &Declarations<'_>,
-    member: &[u8],
-    set: &[u8],
-    here: Here,
+    ranking: Ranking<'_>,
+    filed: Filed<'_>,
     word: &PlainWord<'_>,
     behind: &[PlainWord<'_>],
 ) -> Result<(), AllocError>
     ensures { OnOk result (text.new.items ≡ text.old.items
-        ++ spec.ranked_word names.now keys.now
-        member.now set.now here (plain_at word.now) (map plain_at behind.now)) }
+        ++ spec.ranked_word ranking.entry.names.now ranking.entry.keys.now
+        filed.entry.member.now filed.entry.set.now filed.entry.here
+        (plain_at word.now) (map plain_at behind.now)) }
 {
     let Plain::Name(name) = word.kind() else {
         return Ok(());
     };
-    if is_told(names, keys, member, set, here, name.bytes(), behind) {
+    if is_told(ranking, filed, name.bytes(), behind) {
         return push_warning(text, word.line(), name.bytes(), RANKED);
     }
     Ok(())
@@ -195,12 +206,11 @@ fn push_ranked_word(
 #[tactic(auto, unfolding(crate::specs::Ranked::ranked_text))]
 pub fn push_ranked<'a>(
     text: &mut Vec<u8>,
-    names: &Declarations<'a>,
-    keys: &Declarations<'a>,
+    ranking: Ranking<'_>,
     words: &[PlainWord<'a>],
 ) -> Result<(), AllocError>
     ensures { OnOk result (text.new.items ≡ text.old.items
-        ++ spec.ranked_text names.now keys.now
+        ++ spec.ranked_text ranking.entry.names.now ranking.entry.keys.now
         [] [] at_start (map plain_at words.now)) }
 {
     let mut here = Here::at_start();
@@ -209,7 +219,12 @@ pub fn push_ranked<'a>(
     let mut rest = words;
     while let [word, behind @ ..] = rest {
         let at = here_at(here, word);
-        push_ranked_word(text, names, keys, member, set, at, word, behind)?;
+        let filed = Filed {
+            here: at,
+            member,
+            set,
+        };
+        push_ranked_word(text, ranking, filed, word, behind)?;
         member = member_behind(member, at, word);
         set = set_behind(set, at, word);
         here = at.behind(word.kind(), word.line(), behind);

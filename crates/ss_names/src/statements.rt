@@ -99,14 +99,25 @@ fn is_find(word: Option<Reserved>) -> bool
     matches!(word, Some(Reserved::Find))
 }
 
-/// The landmarks before a word: the lines of the first MAIN and PRIORITY, 0 if there is none; the
-/// name of its section, empty in MAIN and before the first named section; and the line of that
-/// head.
+/// What is asked about a text: which statement that begins on a line breaks a rule.
+#[derive(Clone, Copy)]
+struct StatementBreach {
+    /// The rule.
+    rule: StatementRule,
+    /// The line.
+    line: usize,
+}
+
+/// The landmarks before a word.
 #[derive(Clone, Copy)]
 struct Track<'a> {
+    /// The line of the first MAIN; 0 if there is none.
     main: usize,
+    /// The line of the first PRIORITY; 0 if there is none.
     priority: usize,
+    /// The name of its section; empty in MAIN and before the first named section.
     section: &'a [u8],
+    /// The line of the head of that section.
     head: usize,
 }
 
@@ -124,19 +135,21 @@ fn is_broken(rule: StatementRule, track: Track<'_>, here: Here, behind: &[PlainW
     }
 }
 
-/// Whether a word on this line begins a statement that breaks a rule.
+/// Whether a word begins a statement that is asked about and breaks the rule.
 fn is_broken_at(
-    rule: StatementRule,
-    line: usize,
+    breach: StatementBreach,
     track: Track<'_>,
     here: Here,
     word: &PlainWord<'_>,
     behind: &[PlainWord<'_>],
 ) -> bool
-    ensures { result ≡ spec.is_broken_at rule line (spec.landmarks_at track.entry) here
+    ensures { result
+        ≡ spec.is_broken_at breach.rule breach.line (spec.landmarks_at track.entry) here
         (plain_at word.now) (map plain_at behind.now) }
 {
-    word.line() == line && asks_at(rule, word) && is_broken(rule, track, here, behind)
+    word.line() == breach.line
+        && asks_at(breach.rule, word)
+        && is_broken(breach.rule, track, here, behind)
 }
 
 /// A statement that breaks a rule.
@@ -156,20 +169,19 @@ struct Beginning<'a> {
     picture: &'a [Vec<u8>],
 }
 
-/// The statement that a word begins, before these words, if it begins on a line and breaks a rule.
+/// The statement that a word begins, before these words, if it is asked about and breaks the rule.
 fn word_statement<'a>(
-    rule: StatementRule,
-    line: usize,
+    breach: StatementBreach,
     track: Track<'a>,
     here: Here,
     word: &PlainWord<'a>,
     behind: &[PlainWord<'a>],
 ) -> Option<Beginning<'a>>
     ensures { option_map spec.spot_at result
-        ≡ spec.word_statement rule line (spec.landmarks_at track.entry) here
+        ≡ spec.word_statement breach.rule breach.line (spec.landmarks_at track.entry) here
         (plain_at word.now) (map plain_at behind.now) }
 {
-    if !is_broken_at(rule, line, track, here, word, behind) {
+    if !is_broken_at(breach, track, here, word, behind) {
         return None;
     }
     Some(Beginning {
@@ -183,42 +195,11 @@ fn word_statement<'a>(
     })
 }
 
-/// The statement that a word begins, after these landmarks, if it begins on a line and breaks a
-/// rule.
-fn statement_at<'a>(
-    rule: StatementRule,
-    line: usize,
-    main: usize,
-    priority: usize,
-    section: &'a [u8],
-    head: usize,
-    here: Here,
-    word: &PlainWord<'a>,
-    behind: &[PlainWord<'a>],
-) -> Option<Beginning<'a>>
-    ensures { option_map spec.spot_at result
-        ≡ spec.word_statement rule line
-        (record { main = main; priority = priority; section = section.now; head = head }) here
-        (plain_at word.now) (map plain_at behind.now) }
-{
-    let track = Track {
-        main,
-        priority,
-        section,
-        head,
-    };
-    word_statement(rule, line, track, here, word, behind)
-}
-
 /// The first statement that begins on a line and breaks a rule.
 #[tactic(auto, unfolding(crate::specs::Statements::statement))]
-fn first_statement<'a>(
-    rule: StatementRule,
-    line: usize,
-    words: &[PlainWord<'a>],
-) -> Option<Beginning<'a>>
+fn first_statement<'a>(breach: StatementBreach, words: &[PlainWord<'a>]) -> Option<Beginning<'a>>
     ensures { option_map spec.spot_at result
-        ≡ spec.statement rule line no_landmarks at_start (map plain_at words.now) }
+        ≡ spec.statement breach.rule breach.line no_landmarks at_start (map plain_at words.now) }
 {
     let mut here = Here::at_start();
     let mut main: usize = 0;
@@ -228,9 +209,13 @@ fn first_statement<'a>(
     let mut rest = words;
     while let [word, behind @ ..] = rest {
         let at = here_at(here, word);
-        if let Some(found) = statement_at(
-            rule, line, main, priority, section, head, at, word, behind,
-        ) {
+        let track = Track {
+            main,
+            priority,
+            section,
+            head,
+        };
+        if let Some(found) = word_statement(breach, track, at, word, behind) {
             return Some(found);
         }
         main = main_behind(main, word);
@@ -344,7 +329,7 @@ pub fn push_statement_breach(
     ensures { OnOk result (text.new.items
         ≡ text.old.items ++ spec.statement_breach rule line (map plain_at words.now)) }
 {
-    match first_statement(rule, line, words) {
+    match first_statement(StatementBreach { rule, line }, words) {
         Some(at) => push_statement(alloc, text, rule, at),
         None => push_no_statement(text, rule, words),
     }

@@ -28,6 +28,15 @@ pub fn is_only(all: &NameCounts, declared: &NameCounts, used: &NameCounts, name:
     count > 0 && count <= all.count(name) && others == declared.count(name)
 }
 
+/// The names of a model.
+#[derive(Clone, Copy)]
+pub struct Vocabulary<'a> {
+    /// How often each name occurs.
+    pub names: &'a NameCounts,
+    /// What each name is declared as.
+    pub declarations: &'a Declarations<'a>,
+}
+
 /// How often names occur: all, those that are declared there, and those that are used in one way.
 #[derive(Drop)]
 pub struct Counted {
@@ -42,6 +51,17 @@ impl Model for Counted {
     ghost Value = { UseCounts };
 
     ghost view = { λ a. record { all = a.all; declared = a.declared; used = a.used } };
+}
+
+/// What is looked for among the words of a model: the names that are used in one way only.
+#[derive(Clone, Copy)]
+struct OneUse<'a> {
+    /// The text about such a name.
+    said: &'a [u8],
+    /// The names of the model.
+    vocabulary: Vocabulary<'a>,
+    /// How often they occur as they are counted, and how often they are used in that way.
+    counted: &'a Counted,
 }
 
 /// How often names occur among words, and with a role.
@@ -77,80 +97,30 @@ fn is_told(
         && !is_of_language(name)
 }
 
-/// Appends the warning about a name that is counted as this, after others.
-#[tactic(auto, unfolding(crate::specs::Unread::only_name))]
-fn push_only_name(
-    text: &mut Vec<u8>,
-    said: &[u8],
-    names: &NameCounts,
-    counted: &Counted,
-    before: &NameCounts,
-    line: usize,
-    name: &[u8],
-    key: &[u8],
-) -> Result<(), AllocError>
-    ensures { OnOk result (text.new.items ≡ text.old.items
-        ++ spec.only_name said.now names.now counted.now before.now line name.now key.now) }
-{
-    if is_told(names, counted, before, name, key) {
-        return push_warning(text, line, name, said);
-    }
-    Ok(())
-}
-
-/// Appends the warning about a name in a section, after others.
-#[tactic(auto, unfolding(crate::specs::Unread::section_name))]
-fn push_section_name(
-    alloc: Global,
-    text: &mut Vec<u8>,
-    said: &[u8],
-    names: &NameCounts,
-    declarations: &Declarations<'_>,
-    counted: &Counted,
-    before: &NameCounts,
-    section: u32,
-    line: usize,
-    name: &[u8],
-) -> Result<(), AllocError>
-    ensures { OnOk result (text.new.items ≡ text.old.items
-        ++ spec.section_name said.now names.now declarations.now counted.now
-        before.now section line name.now) }
-{
-    let key = key(alloc, declarations, section, name)?;
-    push_only_name(text, said, names, counted, before, line, name, &key)
-}
-
-/// Appends the warning about a word, if it is a name.
+/// Appends the warning about a word, if it is a name that is looked for, after others.
+#[tactic(auto, unfolding(crate::specs::Unread::section_name, crate::specs::Unread::only_name))]
 fn push_only_word(
-    alloc: Global,
     text: &mut Vec<u8>,
-    said: &[u8],
-    names: &NameCounts,
-    declarations: &Declarations<'_>,
-    counted: &Counted,
+    sought: OneUse<'_>,
     before: &NameCounts,
     section: u32,
     word: &PlainWord<'_>,
 ) -> Result<(), AllocError>
     ensures { OnOk result (text.new.items ≡ text.old.items
-        ++ spec.only_word said.now names.now declarations.now counted.now
+        ++ spec.only_word sought.entry.said.now sought.entry.vocabulary.names.now
+        sought.entry.vocabulary.declarations.now sought.entry.counted.now
         before.now section (plain_at word.now)) }
 {
     let Plain::Name(name) = word.kind() else {
         return Ok(());
     };
-    push_section_name(
-        alloc,
-        text,
-        said,
-        names,
-        declarations,
-        counted,
-        before,
-        section,
-        word.line(),
-        name.bytes(),
-    )
+    let name = name.bytes();
+    let vocabulary = sought.vocabulary;
+    let key = key(*text.allocator(), vocabulary.declarations, section, name)?;
+    if is_told(vocabulary.names, sought.counted, before, name, &key) {
+        return push_warning(text, word.line(), name, sought.said);
+    }
+    Ok(())
 }
 
 /// Puts a word to those before, if it is a name.
@@ -175,55 +145,52 @@ fn add_word(
 /// Appends each name among these words that is used in this way only, with the line on which it
 /// occurs first; a local variable of each section by itself.
 #[tactic(auto, unfolding(crate::specs::Unread::only_text))]
-pub fn push_only(
-    alloc: Global,
+fn push_only(
     text: &mut Vec<u8>,
-    said: &[u8],
-    names: &NameCounts,
-    declarations: &Declarations<'_>,
-    counted: &Counted,
+    sought: OneUse<'_>,
     words: &[PlainWord<'_>],
 ) -> Result<(), AllocError>
     ensures { OnOk result (text.new.items ≡ text.old.items
-        ++ spec.only_text said.now names.now declarations.now counted.now
+        ++ spec.only_text sought.entry.said.now sought.entry.vocabulary.names.now
+        sought.entry.vocabulary.declarations.now sought.entry.counted.now
         [] 0 (map plain_at words.now)) }
 {
+    let alloc = *text.allocator();
     let mut before = NameCounts::new(alloc);
     let mut section: u32 = 0;
     let mut rest = words;
     while let [word, behind @ ..] = rest {
-        push_only_word(
+        push_only_word(text, sought, &before, section, word)?;
+        add_word(
             alloc,
-            text,
-            said,
-            names,
-            declarations,
-            counted,
-            &before,
+            &mut before,
+            sought.vocabulary.declarations,
             section,
             word,
         )?;
-        add_word(alloc, &mut before, declarations, section, word)?;
         section = section_behind(section, word);
         rest = behind;
     }
     Ok(())
 }
 
-/// Appends each name that is used with this role only.
+/// Appends each name that is used with this role only, with this text about it.
 pub fn push_uses(
-    alloc: Global,
     text: &mut Vec<u8>,
     said: &[u8],
     role: Role,
-    names: &NameCounts,
-    declarations: &Declarations<'_>,
+    vocabulary: Vocabulary<'_>,
     words: &[PlainWord<'_>],
 ) -> Result<(), AllocError>
     ensures { OnOk result (text.new.items ≡ text.old.items
-        ++ spec.uses_text said.now role names.now declarations.now
-        (map plain_at words.now)) }
+        ++ spec.uses_text said.now role vocabulary.entry.names.now
+        vocabulary.entry.declarations.now (map plain_at words.now)) }
 {
-    let counted = count_names(alloc, declarations, role, words)?;
-    push_only(alloc, text, said, names, declarations, &counted, words)
+    let counted = count_names(*text.allocator(), vocabulary.declarations, role, words)?;
+    let sought = OneUse {
+        said,
+        vocabulary,
+        counted: &counted,
+    };
+    push_only(text, sought, words)
 }

@@ -9,9 +9,9 @@ use crate::dropped::push_dropped;
 use crate::names::names_in;
 use crate::once::push_once;
 use crate::printed::push_printed;
-use crate::ranked::push_ranked;
+use crate::ranked::{Ranking, push_ranked};
 use crate::roles::Role;
-use crate::unread::{UNREAD, UNSET, push_uses};
+use crate::unread::{UNREAD, UNSET, Vocabulary, push_uses};
 use ss_program::NameCounts;
 use ss_words::{PlainWord, TextFault, Words, plain_words, words};
 use std::alloc::{AllocError, Global};
@@ -70,9 +70,13 @@ fn push_name_warnings<'a>(
     ensures { OnOk result (text.new.items ≡ text.old.items
         ++ spec.name_warnings names.now declarations.now (map plain_at words.now)) }
 {
+    let vocabulary = Vocabulary {
+        names,
+        declarations,
+    };
     push_once(text, names, words)?;
-    push_uses(alloc, text, UNREAD, Role::Set, names, declarations, words)?;
-    push_uses(alloc, text, UNSET, Role::Read, names, declarations, words)?;
+    push_uses(text, UNREAD, Role::Set, vocabulary, words)?;
+    push_uses(text, UNSET, Role::Read, vocabulary, words)?;
     push_key_warnings(alloc, text, declarations, words)
 }
 
@@ -87,5 +91,9 @@ fn push_key_warnings<'a>(
         ++ spec.key_warnings declarations.now (map plain_at words.now)) }
 {
     let keys = collect(alloc, Wanted::Keys, words)?;
-    push_ranked(text, declarations, &keys, words)
+    let ranking = Ranking {
+        names: declarations,
+        keys: &keys,
+    };
+    push_ranked(text, ranking, words)
 }

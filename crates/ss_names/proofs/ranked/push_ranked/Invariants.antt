@@ -7,10 +7,10 @@ use Rattle.ss_names.proofs.ranked.push_ranked.Given as goal
 abbrev pub invariant-loop-rest : goal.invariant-loop-rest
 invariant-loop-rest l =
     l.text.items
-    ++ ranked_text l.names l.keys l.member l.set l.here
+    ++ ranked_text l.ranking.names.now l.ranking.keys.now l.member l.set l.here
     (map plain_at l.rest)
     ≡ l.fn.text.items
-    ++ ranked_text l.names l.keys [] [] at_start (map plain_at l.words)
+    ++ ranked_text l.ranking.names.now l.ranking.keys.now [] [] at_start (map plain_at l.words)
 
 abbrev pub decreases-loop-rest : goal.decreases-loop-rest
 decreases-loop-rest l = length l.rest

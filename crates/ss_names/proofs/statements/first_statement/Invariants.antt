@@ -7,10 +7,10 @@ use Rattle.ss_names.proofs.statements.first_statement.Given as goal
 
 abbrev pub invariant-loop-rest : goal.invariant-loop-rest
 invariant-loop-rest l =
-    statement l.rule l.line
+    statement l.breach.rule l.breach.line
     (record { main = l.main; priority = l.priority; section = l.section; head = l.head }) l.here
     (map plain_at l.rest)
-    ≡ statement l.rule l.line no_landmarks at_start (map plain_at l.words)
+    ≡ statement l.breach.rule l.breach.line no_landmarks at_start (map plain_at l.words)
 
 abbrev pub decreases-loop-rest : goal.decreases-loop-rest
 decreases-loop-rest l = length l.rest
