@@ -8,6 +8,7 @@ use crate::collected::{Wanted, collect};
 use crate::known::{known_as, push_known};
 use crate::names::names_in;
 use crate::roles::{Role, names_with, push_lines_with};
+use crate::spoken::Spoken;
 use crate::unread::is_only;
 use itoa::Buffer;
 use ss_program::NameCounts;
@@ -104,9 +105,11 @@ fn push_rows(
     let mut rest = words;
     while let [word, behind @ ..] = rest {
         if let Plain::Name(name) = word.kind() {
-            if is_shown(shown, &before, name.bytes()) {
-                push_row(text, name.bytes(), all.count(name.bytes()), word.line())?;
-            }
+            let spoken = Spoken {
+                name: name.bytes(),
+                line: word.line(),
+            };
+            push_row(text, all, shown, &before, spoken)?;
             before.add(name.bytes())?;
         }
         rest = behind;
@@ -122,17 +125,26 @@ fn is_shown(shown: &NameCounts, before: &NameCounts, name: &[u8]) -> bool
     before.count(name) == 0 && shown.count(name) > 0
 }
 
-/// Appends the row of a name that occurs `count` times, first on this line.
-fn push_row(text: &mut Vec<u8>, name: &[u8], count: usize, line: usize) -> Result<(), AllocError>
-    ensures { OnOk result (text.new.items
-        ≡ text.old.items ++ spec.name_line name.now count line) }
+/// Appends the row of a name, if it occurs here first and is to be shown.
+fn push_row(
+    text: &mut Vec<u8>,
+    all: &NameCounts,
+    shown: &NameCounts,
+    before: &NameCounts,
+    spoken: Spoken<'_>,
+) -> Result<(), AllocError>
+    ensures { OnOk result (text.new.items ≡ text.old.items
+        ++ spec.name_row all.now shown.now before.now spoken.entry.name.now spoken.entry.line) }
 {
+    if !is_shown(shown, before, spoken.name) {
+        return Ok(());
+    }
     let mut buffer = Buffer::new();
-    text.extend_from_slice(name)?;
+    text.extend_from_slice(spoken.name)?;
     text.extend_from_slice(b": ")?;
-    text.extend_from_slice(buffer.format(count).as_bytes())?;
+    text.extend_from_slice(buffer.format(all.count(spoken.name)).as_bytes())?;
     text.extend_from_slice(b", first on line ")?;
-    text.extend_from_slice(buffer.format(line).as_bytes())?;
+    text.extend_from_slice(buffer.format(spoken.line).as_bytes())?;
     text.extend_from_slice(b"\n")
 }
 

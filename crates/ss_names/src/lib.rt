@@ -24,6 +24,7 @@ mod printed;
 mod ranked;
 mod roles;
 mod second;
+mod spoken;
 mod statements;
 mod unread;
 mod unstarted;

@@ -8,6 +8,7 @@ use crate::keys::{key, keys_with, section_behind};
 use crate::language::is_of_language;
 use crate::once::push_warning;
 use crate::roles::Role;
+use crate::spoken::Spoken;
 use ss_program::NameCounts;
 use ss_words::{Plain, PlainWord};
 use std::alloc::{AllocError, Global};
@@ -97,8 +98,28 @@ fn is_told(
         && !is_of_language(name)
 }
 
+/// Appends the warning about a name that is counted as this key, after others, if it is looked for.
+#[tactic(auto, unfolding(crate::specs::Unread::only_name))]
+fn push_only_name(
+    text: &mut Vec<u8>,
+    sought: OneUse<'_>,
+    before: &NameCounts,
+    spoken: Spoken<'_>,
+    key: &[u8],
+) -> Result<(), AllocError>
+    ensures { OnOk result (text.new.items ≡ text.old.items
+        ++ spec.only_name sought.entry.said.now sought.entry.vocabulary.names.now
+        sought.entry.counted.now before.now spoken.entry.line spoken.entry.name.now key.now) }
+{
+    let names = sought.vocabulary.names;
+    if is_told(names, sought.counted, before, spoken.name, key) {
+        return push_warning(text, spoken.line, spoken.name, sought.said);
+    }
+    Ok(())
+}
+
 /// Appends the warning about a word, if it is a name that is looked for, after others.
-#[tactic(auto, unfolding(crate::specs::Unread::section_name, crate::specs::Unread::only_name))]
+#[tactic(auto, unfolding(crate::specs::Unread::section_name))]
 fn push_only_word(
     text: &mut Vec<u8>,
     sought: OneUse<'_>,
@@ -114,13 +135,13 @@ fn push_only_word(
     let Plain::Name(name) = word.kind() else {
         return Ok(());
     };
-    let name = name.bytes();
-    let vocabulary = sought.vocabulary;
-    let key = key(*text.allocator(), vocabulary.declarations, section, name)?;
-    if is_told(vocabulary.names, sought.counted, before, name, &key) {
-        return push_warning(text, word.line(), name, sought.said);
-    }
-    Ok(())
+    let spoken = Spoken {
+        name: name.bytes(),
+        line: word.line(),
+    };
+    let declarations = sought.vocabulary.declarations;
+    let key = key(*text.allocator(), declarations, section, spoken.name)?;
+    push_only_name(text, sought, before, spoken, &key)
 }
 
 /// Puts a word to those before, if it is a name.
