@@ -60,7 +60,10 @@ pub const HELP_ROWS: [(&[u8], &[u8]); 80] = [
     ),
     (b"BACK", b"BACK TO t: back to a state before time t"),
     (b"GO", b"GO p: to state p, forward or back"),
-    (b"GO", b"GO END: forward to the end, 100000000 steps at most"),
+    (
+        b"GO",
+        b"GO END: forward to the end, 100000000 steps at most",
+    ),
     (
         b"GO",
         b"GO FIRST c: to the first state of all in which condition c holds",

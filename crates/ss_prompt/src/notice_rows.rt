@@ -9,7 +9,7 @@ use ss_events::Slot;
 use ss_links::SetBoard;
 use ss_machine::Machine;
 use ss_program::Name;
-use std::alloc::{AllocError, Global};
+use std::alloc::AllocError;
 
 /// Appends attributes, each after a comma.
 fn push_further_cells(text: &mut Vec<u8>, lines: &[u8], names: &[Name]) -> Result<(), AllocError>
@@ -36,7 +36,6 @@ fn push_cells(text: &mut Vec<u8>, lines: &[u8], names: &[Name]) -> Result<(), Al
 
 /// Appends the row of a pending notice with the attributes of its class; nothing if that has none.
 fn push_notice_row<S: SetBoard>(
-    alloc: Global,
     text: &mut Vec<u8>,
     machine: &Machine<S>,
     notice: u32,
@@ -50,7 +49,7 @@ fn push_notice_row<S: SetBoard>(
     if names.is_empty() {
         return Ok(());
     }
-    let mut lines = Vec::new(alloc);
+    let mut lines = Vec::new(*text.allocator());
     push_entity(&mut lines, machine, slot.class, i64::from(notice))?;
     push_row_head(text, program.class_name(slot.class), notice)?;
     push_cells(text, &lines, names)?;
@@ -60,7 +59,6 @@ fn push_notice_row<S: SetBoard>(
 /// Appends a row for each pending notice whose class has attributes, in the order of SHOW EVENTS.
 #[tactic(auto, unfolding(crate::specs::Rows::notice_rows_text))]
 pub(crate) fn push_notice_rows<S: SetBoard>(
-    alloc: Global,
     text: &mut Vec<u8>,
     machine: &Machine<S>,
 ) -> Result<(), AllocError>
@@ -73,7 +71,7 @@ pub(crate) fn push_notice_rows<S: SetBoard>(
     let mut listing = agenda.listing();
     while let Some(notice) = agenda.list_next(&mut listing) {
         let slot = agenda.slot(notice).unwrap();
-        push_notice_row(alloc, text, machine, notice, slot)?;
+        push_notice_row(text, machine, notice, slot)?;
     }
     Ok(())
 }

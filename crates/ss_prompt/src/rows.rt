@@ -67,7 +67,6 @@ pub(crate) fn push_row_head(text: &mut Vec<u8>, class: &[u8], number: u32) -> Re
 
 /// Appends the row of an entity with the attributes whose names are the words of a line.
 fn push_row<S: SetBoard>(
-    alloc: Global,
     text: &mut Vec<u8>,
     machine: &Machine<S>,
     class: usize,
@@ -78,7 +77,7 @@ fn push_row<S: SetBoard>(
         ++ row machine.now.input.program machine.now.state.store class
         (command_words names.now) number) }
 {
-    let mut lines = Vec::new(alloc);
+    let mut lines = Vec::new(*text.allocator());
     push_entity(&mut lines, machine, class, i64::from(number))?;
     push_row_head(text, machine.program().class_name(class), number)?;
     push_cells(text, &lines, names)?;
@@ -87,7 +86,6 @@ fn push_row<S: SetBoard>(
 
 /// Appends a row for each of some entities.
 fn push_rows<S: SetBoard>(
-    alloc: Global,
     text: &mut Vec<u8>,
     machine: &Machine<S>,
     class: usize,
@@ -99,7 +97,7 @@ fn push_rows<S: SetBoard>(
         (command_words names.now) numbers.now) }
 {
     for number in numbers {
-        push_row(alloc, text, machine, class, *number, names)?;
+        push_row(text, machine, class, *number, names)?;
     }
     Ok(())
 }
@@ -161,7 +159,6 @@ fn push_list<S: SetBoard>(
 /// has no members or is not there.
 #[tactic(auto, unfolding(crate::specs::Rows::member_rows_text), using(ss_debug::proofs::Tables::set_within))]
 pub(crate) fn push_member_rows<S: SetBoard>(
-    alloc: Global,
     text: &mut Vec<u8>,
     debugger: &Debugger<S>,
     set: Name,
@@ -178,12 +175,12 @@ pub(crate) fn push_member_rows<S: SetBoard>(
         return push_list(text, debugger, set, owner);
     };
     let asked = owner_asked(machine, number, owner);
-    let members = members_for(alloc, machine, number, asked)?;
+    let members = members_for(*text.allocator(), machine, number, asked)?;
     if members.is_empty() {
         return push_list(text, debugger, set, owner);
     }
     let class = machine.program().member_class(number);
-    push_rows(alloc, text, machine, class, &members, names)
+    push_rows(text, machine, class, &members, names)
 }
 
 /// Appends the answer to SHOW c a ..: a row for each entity of the class that lives, the least
@@ -191,7 +188,6 @@ pub(crate) fn push_member_rows<S: SetBoard>(
 /// to SHOW c if there is none.
 #[tactic(auto, unfolding(crate::specs::Rows::living_rows_text))]
 pub(crate) fn push_living_rows<S: SetBoard>(
-    alloc: Global,
     text: &mut Vec<u8>,
     machine: &Machine<S>,
     class: &[u8],
@@ -203,11 +199,11 @@ pub(crate) fn push_living_rows<S: SetBoard>(
 {
     machine.known();
     let Some(number) = find_class(machine.program(), class) else {
-        return push_living(alloc, text, machine, class);
+        return push_living(*text.allocator(), text, machine, class);
     };
-    let living = living_numbers(alloc, machine, number)?;
+    let living = living_numbers(*text.allocator(), machine, number)?;
     if living.is_empty() {
-        return push_living(alloc, text, machine, class);
+        return push_living(*text.allocator(), text, machine, class);
     }
-    push_rows(alloc, text, machine, number, &living, names)
+    push_rows(text, machine, number, &living, names)
 }

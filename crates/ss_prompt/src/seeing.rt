@@ -144,10 +144,10 @@ pub(crate) fn push_sight<S: SetBoard>(
         },
         Sight::Places(class, x) => push_places(alloc, text, machine, class.as_slice(), x),
         Sight::MemberRows(set, owner, names) => {
-            push_member_rows(alloc, text, debugger, set, owner, names.as_slice())
+            push_member_rows(text, debugger, set, owner, names.as_slice())
         }
         Sight::LivingRows(class, names) => {
-            push_living_rows(alloc, text, machine, class.as_slice(), names.as_slice())
+            push_living_rows(text, machine, class.as_slice(), names.as_slice())
         }
     }
 }

@@ -50,7 +50,7 @@ impl<'a> PromptDesk<'a> {
             (Command.Show PlainQuestion.Events) (state_at debugger.new self.now)) }
     {
         obey(debugger, Command::Show(PlainQuestion::Events), answer)?;
-        push_notice_rows(self.alloc, answer, debugger.machine())
+        push_notice_rows(answer, debugger.machine())
     }
 
     /// SHOW of another sight.
