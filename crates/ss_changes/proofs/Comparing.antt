@@ -1,5 +1,5 @@
 -- The parts that are compared show each change between two states, in order.
-use Rattle.std.proofs.Common.{◌≡◌, ℕ, suc, ◌+◌, ◌<◌, ◌≤◌, Bool, true, false, not, List, [], ◌∷◌, ◌++◌, length, refl, sym, ap}
+use Rattle.std.proofs.Common.{◌≡◌, ℕ, suc, ◌+◌, ◌-◌, ◌<◌, Bool, true, false, not, List, [], ◌∷◌, ◌++◌, length, refl, sym, ap}
 use Rattle.std.proofs.Common.{◌∙◌, arith, slice_index_or, append_assoc, subst, min}
 use Rattle.std.proofs.lemmas.Option.{unwrap_or-slice_get}
 use Rattle.ss_program.specs.declared.kinds.Discipline.TheVariants.{Fifo}
@@ -29,6 +29,16 @@ locals_there : (p : ProgramTable) (s u : State) →
 locals_there p s u =
     let within : frames_below s u < suc (length u.below) = omega arith in
     below_at (λ n. length (local_names p u n)) (suc (length u.below)) (frames_below s u) 0 within
+
+-- how many frames are below it, by the numbers that the code has
+pub below_there : (p : ProgramTable) (s u : State) (counts : List ℕ) (frames : ℕ) → frames ≡ 1 + length s.below →
+    counts ≡ local_counts p u → min (frames - 1) (length counts - 1) ≡ frames_below s u
+below_there p s u counts frames h k =
+    let one : frames - 1 ≡ length s.below = omega (arith, h) in
+    let many : length counts ≡ suc (length u.below) =
+    rw k (below_length (λ n. length (local_names p u n)) (suc (length u.below))) in
+    let other : length counts - 1 ≡ length u.below = omega (arith, many) in
+    rw (one, other) refl
 
 -- ---- entities
 
@@ -127,7 +137,7 @@ lists_same p s u sound =
 abbrev pub compared : ProgramTable → State → ℕ → ℕ → List (List ℕ) → List (List ℕ) → List Part → List Part
 compared p s n count lived living notices =
     below_of global_part (length p.globals) ++ below_of (local_part n) count ++ attributes_among p living
-    ++ entities_among lived living ++ lists_among p living ++ (notices_in p s ++ absent_in p s notices) ++ once
+    ++ entities_among lived living ++ lists_among p living ++ notices_in p s ++ absent_in p s notices ++ once
 
 pub compared_same : (p : ProgramTable) (s u : State) → IsSound p →
     changes_among p s u (compared p s (frames_below s u) (slice_index_or (local_counts p u) (frames_below s u) 0)
@@ -138,14 +148,17 @@ compared_same p s u sound =
     let attributes = attributes_among p (living_in p u) in
     let entities = entities_among (living_in p s) (living_in p u) in
     let lists = lists_among p (living_in p u) in
-    let notices = notice_parts p s u in
+    let earlier = notices_in p s in
+    let new = absent_in p s (notices_in p u) in
     let variables = below_of global_part (length p.globals) ++ local_parts p s u in
     let to_attributes = variables ++ below_of (attribute_parts p u) (length p.classes) in
     let to_entities = to_attributes ++ below_of (entity_parts p s u) (length p.classes) in
     let to_lists = to_entities ++ below_of (list_parts p u) (length p.sets) in
     rw (locals_there p s u)
-    (same (variables ++ attributes ++ entities ++ lists ++ notices) once (to_lists ++ notices) once
-    (same (variables ++ attributes ++ entities ++ lists) notices to_lists notices
+    (same (variables ++ attributes ++ entities ++ lists ++ earlier ++ new) once
+    (to_lists ++ (earlier ++ new)) once
+    (ap (changes_among p s u) (append_assoc (variables ++ attributes ++ entities ++ lists) earlier new)
+    ∙ same (variables ++ attributes ++ entities ++ lists) (earlier ++ new) to_lists (earlier ++ new)
     (same (variables ++ attributes ++ entities) lists to_entities (below_of (list_parts p u) (length p.sets))
     (same (variables ++ attributes) entities to_attributes (below_of (entity_parts p s u) (length p.classes))
     (same variables attributes variables (below_of (attribute_parts p u) (length p.classes)) refl

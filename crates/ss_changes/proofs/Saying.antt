@@ -16,12 +16,32 @@ use Rattle.ss_debug.specs.View.{DebuggerView}
 use Rattle.ss_changes.specs.declared.change.Change.{Change}
 use Rattle.ss_changes.specs.Changes.{changes_between, changed_at}
 use Rattle.ss_changes.specs.Texts.{first_changes, all_changes, changed_text, stop_changes, stop_changes_ahead}
-use Rattle.ss_changes.specs.View.{HasReturned, program_of, state_of, state_before}
+use Rattle.ss_changes.specs.View.{IsAt, HasReturned, program_of, state_of, state_before}
 
 -- a consequence of a result that holds if a call succeeded
 pub on_ok : {A B P Q : Type 0} (r : Result A B) → OnOk r P → (P → Q) → OnOk r Q
 on_ok (Ok x) h f = f h
 on_ok (Err e) h f = tt
+
+-- ---- a debugger that goes one step back and forward again
+
+-- a machine of one that is at a position of the run has the run's program, and the state there
+pub there : (a b : DebuggerView) (q : ℕ) (m : Moment) → IsAt a q b → m ≡ b.machine → b.machine.state ≡ state_of b →
+    (m.input.program ≡ program_of a) × (m.state ≡ run a.machine.input q)
+there a b q m h e k = (
+  rw (e, h.input) refl,
+  ap (λ (n : Moment). n.state) e ∙ k ∙ rw (h.input, h.position) refl,
+)
+
+-- it is where it was
+pub returned : (a b c : DebuggerView) → a.machine.forgotten < position a.machine →
+    IsAt a (position a.machine - 1) b → IsAt b (position b.machine + 1) c → HasReturned a c
+returned a b c kept h k = record {
+  input = k.input ∙ h.input;
+  forgotten = k.forgotten ∙ h.forgotten;
+  breaks = k.breaks ∙ h.breaks;
+  position = omega (arith, kept, h.position, k.position);
+}
 
 -- ---- the last step
 
@@ -66,9 +86,7 @@ pub said_there : (a b : DebuggerView) (m : Moment) (cs : List Change)
     say m.input.program m.state cs
     ≡ say (program_of a) (state_of a) (changes_between (program_of a) (state_before a) (state_of a))
 said_there a b m cs say h e k v =
-    let program : m.input.program ≡ program_of a = rw (e, h.input) refl in
-    let state : m.state ≡ state_of a = ap (λ (n : Moment). n.state) e ∙ k ∙ rw (h.input, h.position) refl in
-    rw (program, state, v) refl
+    let seen = there a b (position a.machine) m h e k in rw (seen.0, seen.1, v) refl
 
 -- ---- the next step
 
