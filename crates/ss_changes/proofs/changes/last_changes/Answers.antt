@@ -1,12 +1,25 @@
-use Rattle.std.proofs.Common.{◌≡◌, refl, sym, ap, ◌∙◌, map, length, ◌<◌, arith}
+use Rattle.std.proofs.Common.{◌≡◌, ◌-◌, refl, ◌∙◌, map}
 use Rattle.ss_machine.specs.Moment.{position}
 use Rattle.ss_changes.specs.Values.{value_in}
 use Rattle.ss_changes.specs.Parts.{notices_in}
 use Rattle.ss_changes.specs.Changes.{changes_among, changes_between}
 use Rattle.ss_changes.specs.View.{program_of, state_of, state_before, local_counts, living_in}
 use Rattle.ss_changes.proofs.Orders.{told_between}
+use Rattle.ss_changes.proofs.Comparing.{living_length}
 use Rattle.ss_changes.proofs.Saying.{there, returned}
 use Rattle.ss_changes.proofs.changes.last_changes.Goals as goal
+
+pub compared_parts-requires-clause-classes : goal.compared_parts-requires-clause-classes
+compared_parts-requires-clause-classes g c =
+    let d = c.args.debugger.now in
+    rw (
+      c.deref-2.ensures.value,
+      c.in_ok-later.ensures,
+      c.machine-6.ensures,
+      c.machine-3.ensures,
+      c.go_back.ensures.input,
+    )
+    (living_length (program_of d) d.machine.state)
 
 pub returns-clause-changes : goal.returns-clause-changes
 returns-clause-changes g c =
@@ -32,7 +45,7 @@ returns-clause-changes g c =
     let values : c.in_ok-values.values.items ≡ map (value_in p s) c.in_ok-parts.parts.items =
     c.in_ok-values.ensures ∙ rw (read.0, read.1, c.deref-4.ensures.value) refl in
     let e = c.go_on.new.debugger in
-    let stays = returned d b e c.requires c.go_back.ensures c.in_ok-go_on.ensures in
+    let stays = returned d b e c.requires c.go_back.ensures c.in_ok-go_on.ensures.ok in
     let after = rw c.machine-8.ensures at c.known-3.ensures.state in
     let told = there d e (position d.machine) c.machine-9.result.now stays c.machine-9.ensures after in
     c.in_ok-push_told.ensures

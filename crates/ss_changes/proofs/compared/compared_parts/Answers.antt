@@ -1,4 +1,4 @@
-use Rattle.std.proofs.Common.{◌≡◌, sym, ap, ◌∙◌, slice_index_or, refl}
+use Rattle.std.proofs.Common.{◌≡◌, sym, ap, ◌∙◌, length, slice_index_or, refl, rules}
 use Rattle.ss_program.specs.ProgramSound.{IsSound}
 use Rattle.ss_changes.specs.Parts.{frames_below, notices_in}
 use Rattle.ss_changes.specs.Changes.{changes_among}
@@ -20,6 +20,7 @@ returns g c = λ u counts living notices.
     let n = frames_below s u in
     let below : c.min-below.result ≡ n =
     c.min-below.ensures ∙ below_there p s u c.args.counts.now c.frames.result c.frames.ensures counts in
+    let globals : c.len.result ≡ length p.globals = search rules in
     let all : c.extend_from_slice-2.new.self.items
     ≡ compared p s n (slice_index_or (local_counts p u) n 0) (living_in p s) (living_in p u) (notices_in p u) =
     rw (
@@ -36,6 +37,7 @@ returns g c = λ u counts living notices.
       c.in_ok-push_locals.ensures,
       c.in_ok-push_globals.ensures,
       c.new-parts.ensures.items,
+      globals,
       c.program-program.ensures,
       below,
       counts,
