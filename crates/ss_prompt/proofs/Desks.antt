@@ -88,9 +88,9 @@ none_listed (Ok value) k after e h = h
 none_listed (Err error) k after e h = h ∙ e
 
 -- after a command for which memory was refused, or if something else holds
-pub refused_so : {T E A : Type 0} (result : Result T E) (s : PromptState) (command : PromptCommand) (d : DebuggerView)
-    (model : List ℕ) (symbols : Symbols) (displays : List Shown) (k : PromptDeskView) →
+pub refused_so : {T E : Type 0} (A : Type 0) (result : Result T E) (s : PromptState) (command : PromptCommand)
+    (d : DebuggerView) (model : List ℕ) (symbols : Symbols) (displays : List Shown) (k : PromptDeskView) →
     IsDeskOf model symbols displays k → OnErr result (k.listed ≡ None) → OnErr result (IsRefused s command (state_at d k)) →
     OnErr result (A ⊎ IsRefused s command (lent_state d model symbols displays))
-refused_so (Ok value) s command d model symbols displays k i l h = h
-refused_so (Err error) s command d model symbols displays k i l h = inr (rw (lent_is d model symbols displays k i l) h)
+refused_so A (Ok value) s command d model symbols displays k i l h = h
+refused_so A (Err error) s command d model symbols displays k i l h = inr (rw (lent_is d model symbols displays k i l) h)

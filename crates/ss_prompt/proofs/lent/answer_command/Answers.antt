@@ -31,7 +31,7 @@ returns-clause-memory g c =
     given _ _ _ _ _ _ before c.obey-obeyed.ensures.model c.obey-obeyed.ensures.lines c.obey-obeyed.ensures.data_text
     c.obey-obeyed.ensures.symbols c.swap_displays-2.ensures.given in
     rw (lent_is c.args.debugger.now _ _ _ _ before none)
-    (refused_so c.obey-obeyed.result (state_at c.args.debugger.now c.swap_displays.new.self) c.args.command
+    (refused_so _ c.obey-obeyed.result (state_at c.args.debugger.now c.swap_displays.new.self) c.args.command
     c.obey-obeyed.new.debugger m.text.now m.symbols.now c.swap_displays-2.new.displays.items c.obey-obeyed.new.self
     after
     (none_listed c.obey-obeyed.result c.swap_displays.new.self c.obey-obeyed.new.self none
