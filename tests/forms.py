@@ -5,7 +5,8 @@ import re
 # What says that there is no such thing.
 NONE = re.compile(rb"NO (CLASS|ENTITY|ATTRIBUTE|SET|VARIABLE|EVENTS)\b")
 # The answer to each form of a question, as an expression: {names} are the words behind the question's first. A list
-# without its number has one in its answer, unless it is the system's. Only ssdb answers TAKEN with the next pieces too.
+# without its number has one in its answer, unless it is the system's. Only ssdb answers TAKEN with the next pieces too,
+# and EVENTS with the rows of the notices.
 FORMS = {
     r"VAR \S+": r"{names} = (?P<value>\S+)\n",
     r"SET \S+": r"{names}( \d+)?: (?P<value>.+)\n",
@@ -16,7 +17,7 @@ FORMS = {
     r"TAKEN": r"TAKEN (?P<value>\d+)\n((NEXT ON LINE \d+: .+|NO PIECE IS LEFT)\n)?",
     r"ENTRY": r"ENTRY (?P<value>NONE|\S+ \d+ (WAITING|RUNNING))\n",
     r"WHERE": r"(?P<value>STATE \d+ CLOCK .+)\n",
-    r"EVENTS": r"(?P<value>(\S+ \d+ AT \d+\n)+)",
+    r"EVENTS": r"(?P<value>(\S+ \d+ AT \d+\n)+)(\S+ \d+: .+\n)*",
     r"REPORT": r"REPORT\n(?P<value>(.|\n)*)",
     r"\S+ \d+": r"{question}\n(?P<value>( ?\S+ = \S+\n)*)",
     r"\S+ \d+ \S+": r"{attribute} = (?P<value>\S+)\n",
