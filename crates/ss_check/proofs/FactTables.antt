@@ -18,7 +18,7 @@ use Rattle.ss_words.specs.Lists.{Name}
 use Rattle.ss_program.specs.NameIndex.{IsIndex, entry_of}
 use Rattle.ss_program.proofs.NameIndex.{index_at, index_more, none_is}
 use Rattle.ss_program.proofs.Mains.{found_first, found_none, position_or_len-le}
-use Rattle.ss_check.specs.Facts.{Fact, fact_of, is_among, names_of, repeats}
+use Rattle.ss_check.specs.Facts.{Fact, fact_of, first_repeat, is_among, names_of, repeats}
 
 -- ---- lists
 
@@ -136,7 +136,7 @@ position_push p xs y =
     rw (position_or_len_push p xs y, length-append xs (y ∷ []))
     (push_place (position_or_len p xs) (length xs) (p y) (position_or_len-le p xs))
 
-or_none_option : (o : Option ℕ) → option_or o None ≡ o
+or_none_option : {X : Type 0} (o : Option X) → option_or o None ≡ o
 or_none_option None = refl
 or_none_option (Some i) = refl
 
@@ -177,24 +177,64 @@ index_first fs f m n k l e s u t h =
     ≡ None = rw e (none_is (position (bytes_eq f.name) ns) (sym (any_is ns f.name) ∙ t)) in
     rw (names_of_push fs f, sym e) (index_more ns m n k v none h)
 
--- a name after others repeats one if one of them is repeated or the name is among them
-repeats_push : (before ns : List Name) (n : Name) →
-    repeats before (ns ++ n ∷ []) ≡ (repeats before ns || is_among n (before ++ ns))
-repeats_push before [] n = or_none (is_among n before)
-    ∙ ap (λ (ms : List Name). is_among n ms) (sym (append_none before))
-repeats_push before (m ∷ ms) n =
-    ap (λ (b : Bool). is_among m before || b) (repeats_push (before ++ m ∷ []) ms n)
-    ∙ rw (append_assoc before (m ∷ []) ms) (or_assoc (is_among m before) (repeats (before ++ m ∷ []) ms)
-    (is_among n (before ++ m ∷ ms)))
+-- the first repeat of names with one more after them: that before, else the new name if it is among them
+repeat_push : (before ns : List Name) (n : Name) → first_repeat before (ns ++ n ∷ [])
+    ≡ option_or (first_repeat before ns) (cond (is_among n (before ++ ns)) (Some n) None)
+repeat_push before [] n = ap (λ (ms : List Name). cond (is_among n ms) (Some n) None) (sym (append_none before))
+repeat_push before (m ∷ ms) n =
+    ap (λ (o : Option Name). cond (is_among m before) (Some m) o)
+    (repeat_push (before ++ m ∷ []) ms n
+    ∙ rw (append_assoc before (m ∷ []) ms) refl)
+    ∙ else_or (is_among m before) m (first_repeat (before ++ m ∷ []) ms)
+    (cond (is_among n (before ++ m ∷ ms)) (Some n) None)
+  where
+    else_or : (b : Bool) (x : Name) (o q : Option Name) →
+        cond b (Some x) (option_or o q) ≡ option_or (cond b (Some x) o) q
+    else_or true x o q = refl
+    else_or false x o q = refl
 
--- after a second fact of a name there is a repeat
-pub repeats_again : {A : Type 0} (fs : List (Fact A)) (f : Fact A) → is_among f.name (names_of fs) ≡ true →
-    true ≡ repeats [] (names_of (fs ++ f ∷ []))
-repeats_again fs f t = rw (names_of_push fs f, repeats_push [] (names_of fs) f.name, t)
-    (sym (or_all (repeats [] (names_of fs))))
+-- there is a repeat if there is a first one
+pub repeat_is : (before ns : List Name) → is_some (first_repeat before ns) ≡ repeats before ns
+repeat_is before [] = refl
+repeat_is before (n ∷ ns) = either (is_among n before) (repeat_is (before ++ n ∷ []) ns)
+  where
+    either : (b : Bool) → is_some (first_repeat (before ++ n ∷ []) ns) ≡ repeats (before ++ n ∷ []) ns →
+        is_some (cond b (Some n) (first_repeat (before ++ n ∷ []) ns)) ≡ (b || repeats (before ++ n ∷ []) ns)
+    either true h = refl
+    either false h = h
 
--- after the first fact of a name there is a repeat if there was one before
-pub repeats_first : {A : Type 0} (fs : List (Fact A)) (f : Fact A) (b : Bool) → is_among f.name (names_of fs) ≡ false →
-    b ≡ repeats [] (names_of fs) → b ≡ repeats [] (names_of (fs ++ f ∷ []))
-repeats_first fs f b t h = rw (names_of_push fs f, repeats_push [] (names_of fs) f.name, t) (h
-    ∙ sym (or_none (repeats [] (names_of fs))))
+-- an option has something if its picture has
+pub some_view : {X Y : Type 0} (f : X → Y) (o : Option X) → is_some (option_map f o) ≡ is_some o
+some_view f None = refl
+some_view f (Some x) = refl
+
+-- a name that is kept is the first repeat
+pub repeat_found : {X : Type 0} (f : X → Name) (o : Option X) (ns : List Name) →
+    option_map f o ≡ first_repeat [] ns → is_some o ≡ repeats [] ns
+repeat_found f o ns h = sym (some_view f o) ∙ ap is_some h ∙ repeat_is [] ns
+
+-- after a second fact of a name: the first repeat, else this name
+pub repeat_again : {A : Type 0} (fs : List (Fact A)) (f : Fact A) → is_among f.name (names_of fs) ≡ true →
+    option_or (first_repeat [] (names_of fs)) (Some f.name) ≡ first_repeat [] (names_of (fs ++ f ∷ []))
+repeat_again fs f t = rw (names_of_push fs f, repeat_push [] (names_of fs) f.name, t) refl
+
+-- after the first fact of a name: the same first repeat
+pub repeat_first : {A : Type 0} (fs : List (Fact A)) (f : Fact A) → is_among f.name (names_of fs) ≡ false →
+    first_repeat [] (names_of fs) ≡ first_repeat [] (names_of (fs ++ f ∷ []))
+repeat_first fs f t = rw (names_of_push fs f, repeat_push [] (names_of fs) f.name, t)
+    (sym (or_none_option (first_repeat [] (names_of fs))))
+
+-- a name that is kept before a second fact is the first repeat after it
+pub repeat_kept : {X A : Type 0} (v : X → Name) (o : Option X) (fs : List (Fact A)) (f : Fact A) →
+    is_among f.name (names_of fs) ≡ true → option_map v o ≡ first_repeat [] (names_of fs) → is_some o ≡ true →
+    option_map v o ≡ first_repeat [] (names_of (fs ++ f ∷ []))
+repeat_kept v None fs f t h e = cc
+repeat_kept v (Some x) fs f t h e = ap (λ (p : Option Name). option_or p (Some f.name)) h ∙ repeat_again fs f t
+
+-- where none is kept before a second fact its name is the first repeat after it
+pub repeat_new : {X A : Type 0} (v : X → Name) (o : Option X) (fs : List (Fact A)) (f : Fact A) (k : Name) →
+    is_among f.name (names_of fs) ≡ true → option_map v o ≡ first_repeat [] (names_of fs) → is_some o ≡ false →
+    k ≡ f.name → Some k ≡ first_repeat [] (names_of (fs ++ f ∷ []))
+repeat_new v (Some x) fs f k t h e s = cc
+repeat_new v None fs f k t h e s =
+    ap (λ (n : Name). Some n) s ∙ ap (λ (p : Option Name). option_or p (Some f.name)) h ∙ repeat_again fs f t

@@ -2,6 +2,7 @@ pub mod Arguments
 mod Attributes
 pub mod Conflicts
 pub mod FactTables
+pub mod Finds
 pub mod Runs
 pub mod DeclaredPrefixes
 pub mod ItemRules
@@ -9,6 +10,8 @@ pub mod PlaceRules
 pub mod Statements
 pub mod Tests
 pub mod Turns
+pub mod WrongNames
+pub mod Wrongs
 pub mod TableTurns
 pub mod TreeParts
 pub mod Pictures

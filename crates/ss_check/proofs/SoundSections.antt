@@ -35,7 +35,6 @@ use Rattle.ss_program.specs.Program.{ClassTable, SectionTable, ProgramTable, is_
 use Rattle.ss_program.specs.ProgramSound.{AreSoundPlaces, IsCalledBy, LeadsOn, AreLinkedPlaces, AreLinkedSections}
 use Rattle.ss_program.specs.ProgramSound.{IsEventClass, IsTimed, AreTimed, scope_of, IsSoundSection, AreSoundSections}
 use Rattle.ss_check.specs.ClassNeed.{Event}
-use Rattle.ss_check.specs.NameKind as k
 use Rattle.ss_check.specs.Declarations.{Counts}
 use Rattle.ss_check.specs.Declarations.{Declared}
 use Rattle.ss_check.specs.Facts.{fact_of}

@@ -17,31 +17,31 @@ use Rattle.ss_routines.specs.View.{local_view, place_view, section_view, spot_vi
 use Rattle.ss_check.specs.declared.fault.CheckRule.{CheckRule}
 use Rattle.ss_check.specs.declared.fault.CheckFault.{CheckFault}
 use Rattle.ss_check.specs.Declarations.{Declared}
-use Rattle.ss_check.specs.Increments.{headed_item, items_breach, locals_breach, places_breach, section_breach}
-use Rattle.ss_check.specs.Increments.{sections_breach, with_items, with_item, with_head, with_sections}
+use Rattle.ss_check.specs.Increments.{headed_item, items_refusal, locals_refusal, places_refusal}
+use Rattle.ss_check.specs.Increments.{section_refusal, sections_refusal, with_items, with_item, with_head, with_sections}
 use Rattle.ss_check.specs.Breach.{last_line}
 use Rattle.ss_check.specs.Declarations.{headed_items_under, heading_at}
-use Rattle.ss_check.specs.ItemRules.{item_rule, local_rule}
-use Rattle.ss_check.specs.PlaceRules.{is_find, place_rule}
-use Rattle.ss_check.specs.Statements.{IsBreach}
+use Rattle.ss_check.specs.ItemRules.{item_rule, item_wrong, local_rule, local_wrong}
+use Rattle.ss_check.specs.PlaceRules.{is_find, place_rule, place_wrong, uses_from}
+use Rattle.ss_check.specs.Statements.{IsRefusal, Refusal, refused}
 use Rattle.ss_check.proofs.Statements.{fault_first}
 
 -- the part of a list that is left at an element
-left_at : {X : Type 0} (xs : List X) (i : ℕ) (x : X) → i < length xs → x ≡ get_or xs i x →
+pub left_at : {X : Type 0} (xs : List X) (i : ℕ) (x : X) → i < length xs → x ≡ get_or xs i x →
     drop i xs ≡ x ∷ drop (i + 1) xs
 left_at xs i x l e = drop_more xs i x l ∙ ap (λ y. y ∷ drop (i + 1) xs) (sym e)
 
--- a rule is broken on this line, and the part after it counts no more
-pub told : (o : Option CheckRule) (l : ℕ) (rest whole : Option (CheckRule × ℕ)) (r : CheckRule) →
-    option_or (option_map (λ k. (k, l)) o) rest ≡ whole → o ≡ Some r → whole ≡ Some (r, l)
-told None l rest whole r h e = cc
-told (Some k) l rest whole r h e = sym h ∙ ap (option_map (λ j. (j, l))) e
+-- a rule is broken, which gives this breach, and the part after it counts no more
+pub told : (o : Option CheckRule) (m : CheckRule → Refusal) (rest whole : Option Refusal) (r : CheckRule) →
+    option_or (option_map m o) rest ≡ whole → o ≡ Some r → whole ≡ Some (m r)
+told None m rest whole r h e = cc
+told (Some k) m rest whole r h e = sym h ∙ ap (option_map m) e
 
 -- none is broken, and the part after it counts
-pub passed : (o : Option CheckRule) (l : ℕ) (rest whole : Option (CheckRule × ℕ)) →
-    option_or (option_map (λ k. (k, l)) o) rest ≡ whole → o ≡ None → rest ≡ whole
-passed None l rest whole h e = h
-passed (Some k) l rest whole h e = cc
+pub passed : (o : Option CheckRule) (m : CheckRule → Refusal) (rest whole : Option Refusal) →
+    option_or (option_map m o) rest ≡ whole → o ≡ None → rest ≡ whole
+passed None m rest whole h e = h
+passed (Some k) m rest whole h e = cc
 
 -- ---- items
 
@@ -57,43 +57,45 @@ filled_turn t h xs i x whole l e k =
 
 -- its lowest rule, else the breach of the part after it
 pub item_turn : (d t : Declared) (h : Option Heading) (xs : List CodeItemAt) (i : ℕ) (x : CodeItemAt)
-    (whole : Option (CheckRule × ℕ)) →
-    i < length xs → x ≡ get_or xs i x → items_breach d t (headed_items_under h (items_view (drop i xs))) ≡ whole →
-    option_or (option_map (λ k. (k, x.line))
+    (whole : Option Refusal) →
+    i < length xs → x ≡ get_or xs i x → items_refusal d t (headed_items_under h (items_view (drop i xs))) ≡ whole →
+    option_or (option_map (refused x.line (item_wrong d t (headed_item (heading_at h (item_view x.item)) (item_at_view x))))
     (item_rule d t (headed_item (heading_at h (item_view x.item)) (item_at_view x))))
-    (items_breach d (with_item t (headed_item (heading_at h (item_view x.item)) (item_at_view x)))
+    (items_refusal d (with_item t (headed_item (heading_at h (item_view x.item)) (item_at_view x)))
     (headed_items_under (heading_at h (item_view x.item)) (items_view (drop (i + 1) xs)))) ≡ whole
-unfolding items_breach item_rule
+unfolding items_refusal item_rule
 item_turn d t h xs i x whole l e k =
-    ap (λ (ys : List CodeItemAt). items_breach d t (headed_items_under h (items_view ys))) (sym (left_at xs i x l e))
+    ap (λ (ys : List CodeItemAt). items_refusal d t (headed_items_under h (items_view ys))) (sym (left_at xs i x l e))
     ∙ k
 
 -- it breaks a rule; h: the heading over it
 pub item_told : (d t : Declared) (g h : Option Heading) (xs : List CodeItemAt) (i : ℕ) (x : CodeItemAt)
-    (whole : Option (CheckRule × ℕ)) (r : CheckRule) →
-    i < length xs → x ≡ get_or xs i x → items_breach d t (headed_items_under g (items_view (drop i xs))) ≡ whole →
+    (whole : Option Refusal) (r : CheckRule) →
+    i < length xs → x ≡ get_or xs i x → items_refusal d t (headed_items_under g (items_view (drop i xs))) ≡ whole →
     h ≡ heading_at g (item_view x.item) → item_rule d t (headed_item h (item_at_view x)) ≡ Some r →
-    whole ≡ Some (r, x.line)
+    whole ≡ Some (refused x.line (item_wrong d t (headed_item h (item_at_view x))) r)
 item_told d t g h xs i x whole r l e k q n =
     let v = heading_at g (item_view x.item) in
-    told (item_rule d t (headed_item v (item_at_view x))) x.line
-    (items_breach d (with_item t (headed_item v (item_at_view x)))
+    rw q (told (item_rule d t (headed_item v (item_at_view x)))
+    (refused x.line (item_wrong d t (headed_item v (item_at_view x))))
+    (items_refusal d (with_item t (headed_item v (item_at_view x)))
     (headed_items_under v (items_view (drop (i + 1) xs))))
     whole r (item_turn d t g xs i x whole l e k)
-    (ap (λ (w : Option Heading). item_rule d t (headed_item w (item_at_view x))) (sym q) ∙ n)
+    (ap (λ (w : Option Heading). item_rule d t (headed_item w (item_at_view x))) (sym q) ∙ n))
 
 -- it breaks none
 pub item_passed : (d t : Declared) (g h : Option Heading) (xs : List CodeItemAt) (i : ℕ) (x : CodeItemAt)
-    (whole : Option (CheckRule × ℕ)) →
-    i < length xs → x ≡ get_or xs i x → items_breach d t (headed_items_under g (items_view (drop i xs))) ≡ whole →
+    (whole : Option Refusal) →
+    i < length xs → x ≡ get_or xs i x → items_refusal d t (headed_items_under g (items_view (drop i xs))) ≡ whole →
     h ≡ heading_at g (item_view x.item) → item_rule d t (headed_item h (item_at_view x)) ≡ None →
-    items_breach d (with_item t (headed_item h (item_at_view x))) (headed_items_under h (items_view (drop (i + 1) xs)))
+    items_refusal d (with_item t (headed_item h (item_at_view x))) (headed_items_under h (items_view (drop (i + 1) xs)))
     ≡ whole
 item_passed d t g h xs i x whole l e k q n =
     let v = heading_at g (item_view x.item) in
     rw q
-    (passed (item_rule d t (headed_item v (item_at_view x))) x.line
-    (items_breach d (with_item t (headed_item v (item_at_view x)))
+    (passed (item_rule d t (headed_item v (item_at_view x)))
+    (refused x.line (item_wrong d t (headed_item v (item_at_view x))))
+    (items_refusal d (with_item t (headed_item v (item_at_view x)))
     (headed_items_under v (items_view (drop (i + 1) xs))))
     whole (item_turn d t g xs i x whole l e k)
     (ap (λ (w : Option Heading). item_rule d t (headed_item w (item_at_view x))) (sym q) ∙ n))
@@ -106,11 +108,11 @@ filled_end t h xs i whole l k =
     ap (λ (ys : List CodeItemAt). with_items t (headed_items_under h (items_view ys))) (sym (drop_all i xs l)) ∙ k
 
 -- and no item is left that could break a rule
-pub items_end : (d t : Declared) (h : Option Heading) (xs : List CodeItemAt) (i : ℕ) (whole : Option (CheckRule × ℕ)) →
-    length xs ≤ i → items_breach d t (headed_items_under h (items_view (drop i xs))) ≡ whole → whole ≡ None
-unfolding items_breach
+pub items_end : (d t : Declared) (h : Option Heading) (xs : List CodeItemAt) (i : ℕ) (whole : Option Refusal) →
+    length xs ≤ i → items_refusal d t (headed_items_under h (items_view (drop i xs))) ≡ whole → whole ≡ None
+unfolding items_refusal
 items_end d t h xs i whole l k =
-    sym k ∙ ap (λ (ys : List CodeItemAt). items_breach d t (headed_items_under h (items_view ys))) (drop_all i xs l)
+    sym k ∙ ap (λ (ys : List CodeItemAt). items_refusal d t (headed_items_under h (items_view ys))) (drop_all i xs l)
 
 -- ---- sections
 
@@ -122,11 +124,11 @@ headed_end t xs i whole l k = ap (λ (ys : List CodeSection). with_sections t (m
     (sym (drop_all i xs l)) ∙ k
 
 -- and no section is left
-pub sections_end : (d t : Declared) (xs : List CodeSection) (i : ℕ) (whole : Option (CheckRule × ℕ)) →
-    length xs ≤ i → sections_breach d t (map section_view (drop i xs)) ≡ whole → whole ≡ None
-unfolding sections_breach
+pub sections_end : (d t : Declared) (xs : List CodeSection) (i : ℕ) (whole : Option Refusal) →
+    length xs ≤ i → sections_refusal d t (map section_view (drop i xs)) ≡ whole → whole ≡ None
+unfolding sections_refusal
 sections_end d t xs i whole l k =
-    sym k ∙ ap (λ (ys : List CodeSection). sections_breach d t (map section_view ys)) (drop_all i xs l)
+    sym k ∙ ap (λ (ys : List CodeSection). sections_refusal d t (map section_view ys)) (drop_all i xs l)
 
 -- the tables with the next head
 pub headed_turn : (t : Declared) (xs : List CodeSection) (i : ℕ) (x : CodeSection) (whole : Declared) →
@@ -137,112 +139,117 @@ headed_turn t xs i x whole l e k =
     ap (λ (ys : List CodeSection). with_sections t (map section_view ys)) (sym (left_at xs i x l e)) ∙ k
 
 -- the breach of the next section, else of those after it
-pub section_turn : (d t : Declared) (xs : List CodeSection) (i : ℕ) (x : CodeSection) (whole : Option (CheckRule × ℕ)) →
-    i < length xs → x ≡ get_or xs i x → sections_breach d t (map section_view (drop i xs)) ≡ whole →
-    option_or (section_breach d t (section_view x))
-    (sections_breach d (with_head t (section_view x).head) (map section_view (drop (i + 1) xs))) ≡ whole
-unfolding sections_breach
+pub section_turn : (d t : Declared) (xs : List CodeSection) (i : ℕ) (x : CodeSection) (whole : Option Refusal) →
+    i < length xs → x ≡ get_or xs i x → sections_refusal d t (map section_view (drop i xs)) ≡ whole →
+    option_or (section_refusal d t (section_view x))
+    (sections_refusal d (with_head t (section_view x).head) (map section_view (drop (i + 1) xs))) ≡ whole
+unfolding sections_refusal
 section_turn d t xs i x whole l e k =
-    ap (λ (ys : List CodeSection). sections_breach d t (map section_view ys)) (sym (left_at xs i x l e)) ∙ k
+    ap (λ (ys : List CodeSection). sections_refusal d t (map section_view ys)) (sym (left_at xs i x l e)) ∙ k
 
 -- a fault of it is one of all
 pub section_told : (f : CheckFault) (d t : Declared) (xs : List CodeSection) (i : ℕ) (x : CodeSection)
-    (whole : Option (CheckRule × ℕ)) →
-    i < length xs → x ≡ get_or xs i x → sections_breach d t (map section_view (drop i xs)) ≡ whole →
-    IsBreach f (section_breach d t (section_view x)) →
-    IsBreach f whole
+    (whole : Option Refusal) →
+    i < length xs → x ≡ get_or xs i x → sections_refusal d t (map section_view (drop i xs)) ≡ whole →
+    IsRefusal f (section_refusal d t (section_view x)) →
+    IsRefusal f whole
 section_told f d t xs i x whole l e k h =
-    subst (IsBreach f) (section_turn d t xs i x whole l e k)
-    (fault_first f (section_breach d t (section_view x))
-    (sections_breach d (with_head t (section_view x).head) (map section_view (drop (i + 1) xs))) h)
+    subst (IsRefusal f) (section_turn d t xs i x whole l e k)
+    (fault_first f (section_refusal d t (section_view x))
+    (sections_refusal d (with_head t (section_view x).head) (map section_view (drop (i + 1) xs))) h)
 
 -- it has no breach
 pub section_passed : (d t : Declared) (xs : List CodeSection) (i : ℕ) (x : CodeSection)
-    (whole : Option (CheckRule × ℕ)) →
-    i < length xs → x ≡ get_or xs i x → sections_breach d t (map section_view (drop i xs)) ≡ whole →
-    section_breach d t (section_view x) ≡ None →
-    sections_breach d (with_head t (section_view x).head) (map section_view (drop (i + 1) xs)) ≡ whole
+    (whole : Option Refusal) →
+    i < length xs → x ≡ get_or xs i x → sections_refusal d t (map section_view (drop i xs)) ≡ whole →
+    section_refusal d t (section_view x) ≡ None →
+    sections_refusal d (with_head t (section_view x).head) (map section_view (drop (i + 1) xs)) ≡ whole
 section_passed d t xs i x whole l e k h =
-    ap (λ (o : Option (CheckRule × ℕ)). option_or o
-    (sections_breach d (with_head t (section_view x).head) (map section_view (drop (i + 1) xs)))) (sym h)
+    ap (λ (o : Option Refusal). option_or o
+    (sections_refusal d (with_head t (section_view x).head) (map section_view (drop (i + 1) xs)))) (sym h)
     ∙ section_turn d t xs i x whole l e k
 
 -- ---- local DEFINEs
 
 -- the rule of the next one, else the breach of those after it
 pub local_turn : (d : Declared) (xs : List CodeLocalNames) (i : ℕ) (x : CodeLocalNames)
-    (whole : Option (CheckRule × ℕ)) →
-    i < length xs → x ≡ get_or xs i x → locals_breach d (map local_view (drop i xs)) ≡ whole →
-    option_or (option_map (λ k. (k, x.line)) (local_rule d (local_view x)))
-    (locals_breach d (map local_view (drop (i + 1) xs))) ≡ whole
-unfolding locals_breach local_rule
+    (whole : Option Refusal) →
+    i < length xs → x ≡ get_or xs i x → locals_refusal d (map local_view (drop i xs)) ≡ whole →
+    option_or (option_map (refused x.line (λ broken. local_wrong d (local_view x))) (local_rule d (local_view x)))
+    (locals_refusal d (map local_view (drop (i + 1) xs))) ≡ whole
+unfolding locals_refusal local_rule
 local_turn d xs i x whole l e k =
-    ap (λ (ys : List CodeLocalNames). locals_breach d (map local_view ys)) (sym (left_at xs i x l e)) ∙ k
+    ap (λ (ys : List CodeLocalNames). locals_refusal d (map local_view ys)) (sym (left_at xs i x l e)) ∙ k
 
 -- it breaks a rule
 pub local_told : (d : Declared) (xs : List CodeLocalNames) (i : ℕ) (x : CodeLocalNames)
-    (whole : Option (CheckRule × ℕ)) (r : CheckRule) →
-    i < length xs → x ≡ get_or xs i x → locals_breach d (map local_view (drop i xs)) ≡ whole →
+    (whole : Option Refusal) (r : CheckRule) →
+    i < length xs → x ≡ get_or xs i x → locals_refusal d (map local_view (drop i xs)) ≡ whole →
     local_rule d (local_view x) ≡ Some r →
-    whole ≡ Some (r, x.line)
+    whole ≡ Some (refused x.line (λ broken. local_wrong d (local_view x)) r)
 local_told d xs i x whole r l e k n =
-    told (local_rule d (local_view x)) x.line (locals_breach d (map local_view (drop (i + 1) xs))) whole r
+    told (local_rule d (local_view x)) (refused x.line (λ broken. local_wrong d (local_view x)))
+    (locals_refusal d (map local_view (drop (i + 1) xs))) whole r
     (local_turn d xs i x whole l e k) n
 
 -- it breaks none
 pub local_passed : (d : Declared) (xs : List CodeLocalNames) (i : ℕ) (x : CodeLocalNames)
-    (whole : Option (CheckRule × ℕ)) →
-    i < length xs → x ≡ get_or xs i x → locals_breach d (map local_view (drop i xs)) ≡ whole →
+    (whole : Option Refusal) →
+    i < length xs → x ≡ get_or xs i x → locals_refusal d (map local_view (drop i xs)) ≡ whole →
     local_rule d (local_view x) ≡ None →
-    locals_breach d (map local_view (drop (i + 1) xs)) ≡ whole
+    locals_refusal d (map local_view (drop (i + 1) xs)) ≡ whole
 local_passed d xs i x whole l e k n =
-    passed (local_rule d (local_view x)) x.line (locals_breach d (map local_view (drop (i + 1) xs))) whole
+    passed (local_rule d (local_view x)) (refused x.line (λ broken. local_wrong d (local_view x)))
+    (locals_refusal d (map local_view (drop (i + 1) xs))) whole
     (local_turn d xs i x whole l e k) n
 
 -- at the end none is left
-pub locals_end : (d : Declared) (xs : List CodeLocalNames) (i : ℕ) (whole : Option (CheckRule × ℕ)) →
-    length xs ≤ i → locals_breach d (map local_view (drop i xs)) ≡ whole → whole ≡ None
-unfolding locals_breach
-locals_end d xs i whole l k = sym k ∙ ap (λ (ys : List CodeLocalNames). locals_breach d (map local_view ys))
+pub locals_end : (d : Declared) (xs : List CodeLocalNames) (i : ℕ) (whole : Option Refusal) →
+    length xs ≤ i → locals_refusal d (map local_view (drop i xs)) ≡ whole → whole ≡ None
+unfolding locals_refusal
+locals_end d xs i whole l k = sym k ∙ ap (λ (ys : List CodeLocalNames). locals_refusal d (map local_view ys))
     (drop_all i xs l)
 
 -- ---- places
 
 -- the lowest rule of the first place, else the breach of those after it
 pub place_turn : (d : Declared) (m f : Bool) (p : Spot) (ps : List Spot) →
-    places_breach d m f (p ∷ ps)
-    ≡ option_or (option_map (λ k. (k, p.line)) (place_rule d m f p ps)) (places_breach d m (is_find p.place) ps)
-unfolding places_breach place_rule
+    places_refusal d m f (p ∷ ps)
+    ≡ option_or (option_map (refused p.line (place_wrong d (uses_from p.place ps))) (place_rule d m f p ps))
+    (places_refusal d m (is_find p.place) ps)
+unfolding places_refusal place_rule
 place_turn d m f p ps = refl
 
 -- it breaks a rule
 pub place_told : (d : Declared) (m f : Bool) (rest : List CodeSpot) (x : CodeSpot) (xs : List CodeSpot)
-    (whole : Option (CheckRule × ℕ)) (r : CheckRule) →
-    rest ≡ x ∷ xs → places_breach d m f (spots rest) ≡ whole → place_rule d m f (spot_view x) (spots xs) ≡ Some r →
-    whole ≡ Some (r, x.line)
+    (whole : Option Refusal) (r : CheckRule) →
+    rest ≡ x ∷ xs → places_refusal d m f (spots rest) ≡ whole → place_rule d m f (spot_view x) (spots xs) ≡ Some r →
+    whole ≡ Some (refused x.line (place_wrong d (uses_from (place_view x.place) (spots xs))) r)
 place_told d m f rest x xs whole r e k n =
-    told (place_rule d m f (spot_view x) (spots xs)) x.line
-    (places_breach d m (is_find (place_view x.place)) (spots xs)) whole r
+    told (place_rule d m f (spot_view x) (spots xs))
+    (refused x.line (place_wrong d (uses_from (place_view x.place) (spots xs))))
+    (places_refusal d m (is_find (place_view x.place)) (spots xs)) whole r
     (sym (place_turn d m f (spot_view x) (spots xs))
-    ∙ (ap (λ (ys : List CodeSpot). places_breach d m f (spots ys)) (sym e) ∙ k)) n
+    ∙ (ap (λ (ys : List CodeSpot). places_refusal d m f (spots ys)) (sym e) ∙ k)) n
 
 -- it breaks none
 pub place_passed : (d : Declared) (m f : Bool) (rest : List CodeSpot) (x : CodeSpot) (xs : List CodeSpot)
-    (whole : Option (CheckRule × ℕ)) →
-    rest ≡ x ∷ xs → places_breach d m f (spots rest) ≡ whole → place_rule d m f (spot_view x) (spots xs) ≡ None →
-    places_breach d m (is_find (place_view x.place)) (spots xs) ≡ whole
+    (whole : Option Refusal) →
+    rest ≡ x ∷ xs → places_refusal d m f (spots rest) ≡ whole → place_rule d m f (spot_view x) (spots xs) ≡ None →
+    places_refusal d m (is_find (place_view x.place)) (spots xs) ≡ whole
 place_passed d m f rest x xs whole e k n =
-    passed (place_rule d m f (spot_view x) (spots xs)) x.line
-    (places_breach d m (is_find (place_view x.place)) (spots xs)) whole
+    passed (place_rule d m f (spot_view x) (spots xs))
+    (refused x.line (place_wrong d (uses_from (place_view x.place) (spots xs))))
+    (places_refusal d m (is_find (place_view x.place)) (spots xs)) whole
     (sym (place_turn d m f (spot_view x) (spots xs))
-    ∙ (ap (λ (ys : List CodeSpot). places_breach d m f (spots ys)) (sym e) ∙ k)) n
+    ∙ (ap (λ (ys : List CodeSpot). places_refusal d m f (spots ys)) (sym e) ∙ k)) n
 
 -- at the end none is left
-pub places_end : (d : Declared) (m f : Bool) (rest : List CodeSpot) (whole : Option (CheckRule × ℕ)) →
-    length rest ≡ 0 → places_breach d m f (spots rest) ≡ whole → whole ≡ None
-unfolding places_breach
+pub places_end : (d : Declared) (m f : Bool) (rest : List CodeSpot) (whole : Option Refusal) →
+    length rest ≡ 0 → places_refusal d m f (spots rest) ≡ whole → whole ≡ None
+unfolding places_refusal
 places_end d m f rest whole e k = sym k
-    ∙ ap (λ (ys : List CodeSpot). places_breach d m f (spots ys)) (nil_from_length rest e)
+    ∙ ap (λ (ys : List CodeSpot). places_refusal d m f (spots ys)) (nil_from_length rest e)
 
 -- ---- lines
 

@@ -1,5 +1,5 @@
 -- What an expression or a condition comes to when it is asked for in a section of a text.
-use Rattle.std.specs.Prelude.{◌≡◌, ℕ, Bool, not, ◌||◌, List, [], map, length, slice_get, slice_index_or}
+use Rattle.std.specs.Prelude.{◌≡◌, ℕ, Bool, not, ◌||◌, List, [], slice_get, slice_index_or}
 use Rattle.std.specs.Prelude.{Option, Some, None, Result, Ok, Err}
 use Rattle.std.specs.List.{All, find, flat_map}
 use Rattle.ss_words.specs.Lists.{Name}

@@ -1,5 +1,5 @@
 -- The first rule of the checker that a program breaks, in the order of its statements.
-use Rattle.std.specs.Prelude.{ℕ, false, not, List, [], ◌∷◌, ◌++◌, map, Option, unwrap_or}
+use Rattle.std.specs.Prelude.{ℕ, false, not, List, [], ◌∷◌, ◌++◌, map, Option, None, unwrap_or}
 use Rattle.std.specs.List.{list_any}
 use Rattle.ss_preamble.specs.Tree.{Decls}
 use Rattle.ss_routines.specs.Tree.{Head}
@@ -8,7 +8,8 @@ use Rattle.ss_check.specs.declared.fault.CheckRule.{CheckRule}
 use Rattle.ss_check.specs.declared.fault.CheckRule.TheVariants.{WrongMain}
 use Rattle.ss_check.specs.Declarations.{Declared}
 use Rattle.ss_check.specs.Declarations.{HeadedItem, headed_items, is_main, declared_by, declared_by_program}
-use Rattle.ss_check.specs.Statements.{Statement, rule_where, first_breach}
+use Rattle.ss_check.specs.declared.wrong.Reason.TheVariants.{NoMain}
+use Rattle.ss_check.specs.Statements.{Statement, Refusal, about, rule_where, first_breach, first_refusal}
 use Rattle.ss_check.specs.ItemRules.{item_statement, head_statement, local_statement}
 use Rattle.ss_check.specs.PlaceRules.{place_statements}
 
@@ -47,6 +48,7 @@ abbrev pub end_statement : Option ℕ → List Section → Statement
 end_statement end sections = record {
   line = last_end (unwrap_or end 1) sections;
   breaks = rule_where WrongMain (not (list_any (λ s. is_main s.head) sections));
+  wrong = λ rule. about NoMain None;
 }
 
 -- items under their headings, and sections
@@ -62,3 +64,7 @@ statements decls sections =
 -- the first breach of a program, if there is one
 abbrev pub breach : Decls → List Section → Option (CheckRule × ℕ)
 breach decls sections = first_breach (statements decls sections)
+
+-- the first breach of a program with what is wrong, if there is one
+abbrev pub refusal : Decls → List Section → Option Refusal
+refusal decls sections = first_refusal (statements decls sections)

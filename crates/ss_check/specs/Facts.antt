@@ -1,6 +1,6 @@
 -- Names in lists, and tables of facts on names.
 use Rattle.std.specs.Prelude.{Bool, false, not, ◌||◌, if◌then◌else◌, List, [], ◌∷◌, ◌++◌, map, bytes_eq, Option}
-use Rattle.std.specs.Prelude.{option_map}
+use Rattle.std.specs.Prelude.{Some, None, option_map}
 use Rattle.std.specs.List.{list_any, find, fold}
 use Rattle.ss_words.specs.Lists.{Name}
 
@@ -14,6 +14,16 @@ is_among name names = list_any (bytes_eq name) names
 abbrev pub repeats : List Name → List Name → Bool
 repeats before [] = false
 repeats before (n ∷ ns) = is_among n before || repeats (before ++ n ∷ []) ns
+
+-- the first of these names that is among those before it, if there is one
+abbrev pub first_repeat : List Name → List Name → Option Name
+first_repeat before [] = None
+first_repeat before (n ∷ ns) = if is_among n before then Some n else first_repeat (before ++ n ∷ []) ns
+
+-- the first name, if there is one
+abbrev pub first_of : List Name → Option Name
+first_of [] = None
+first_of (n ∷ ns) = Some n
 
 -- whether one of these names is not among others
 abbrev pub is_one_outside : List Name → List Name → Bool

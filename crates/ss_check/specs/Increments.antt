@@ -1,21 +1,27 @@
 -- The tables of a program with more items or heads, and the first breach of the parts after others.
-use Rattle.std.specs.Prelude.{◌≡◌, ℕ, Bool, true, false, List, [], ◌∷◌, ◌++◌, map, Option, None}
+use Rattle.std.specs.Prelude.{◌≡◌, Bool, true, false, nat_lt, List, [], ◌∷◌, ◌++◌, length, map, Option, None}
+use Rattle.std.specs.Prelude.{if◌then◌else◌}
+use Rattle.std.specs.List.{find}
 use Rattle.std.specs.Option.{option_or}
+use Rattle.ss_words.specs.Lists.{Name}
 use Rattle.ss_preamble.specs.declared.item.Heading.{Heading}
-use Rattle.ss_preamble.specs.Tree.{ItemAt}
+use Rattle.ss_preamble.specs.Tree.{Item, ItemAt}
 use Rattle.ss_routines.specs.Tree.{Head, MainHead, RoutineHead, EventHead}
 use Rattle.ss_routines.specs.Places.{LocalNames, Spot, Section}
 use Rattle.ss_check.specs.declared.fault.CheckRule.{CheckRule}
+use Rattle.ss_check.specs.declared.fault.CheckRule.TheVariants as rule
+use Rattle.ss_check.specs.declared.wrong.Reason.TheVariants as why
+use Rattle.ss_check.specs.declared.wrong.Wrong.{Wrong}
 use Rattle.ss_check.specs.NameKind.{Routine}
 use Rattle.ss_check.specs.Declarations.{Declared}
 use Rattle.ss_check.specs.Declarations.{HeadedItem, attributes_in, classes_in, counts_of, declarations}
 use Rattle.ss_check.specs.Declarations.{disciplined_sets, external_in, is_main, members_in, owners_in, priority_in}
-use Rattle.ss_check.specs.Declarations.{tied_events}
-use Rattle.ss_check.specs.Facts.{fact, names_of, repeats}
-use Rattle.ss_check.specs.ItemRules.{item_statement, head_statement, local_statement}
-use Rattle.ss_check.specs.NameKinds.{one_conflicts}
+use Rattle.ss_check.specs.Declarations.{events_in, parameters, sets_in, sets_joined, tied_events}
+use Rattle.ss_check.specs.Facts.{fact, first_of, first_repeat, names_of, repeats}
+use Rattle.ss_check.specs.ItemRules.{item_statement, head_statement, local_statement, name_breaks, wrong_key_of}
+use Rattle.ss_check.specs.NameKinds.{first_conflict, one_conflicts}
 use Rattle.ss_check.specs.PlaceRules.{place_statements}
-use Rattle.ss_check.specs.Statements.{breach_of, first_breach}
+use Rattle.ss_check.specs.Statements.{Refusal, about, about_or, refusal_of, first_refusal}
 
 -- an item under a heading
 abbrev pub headed_item : Option Heading → ItemAt → HeadedItem
@@ -76,25 +82,84 @@ pub record IsOnce (declared : Declared) : Type 0 where
 -- ---- breaches; d: the declarations of the whole program; b: the declarations before
 
 -- the first breach of items
-unfoldable pub items_breach : Declared → Declared → List HeadedItem → Option (CheckRule × ℕ)
-items_breach d b [] = None
-items_breach d b (x ∷ xs) = option_or (breach_of (item_statement d b x)) (items_breach d (with_item b x) xs)
+unfoldable pub items_refusal : Declared → Declared → List HeadedItem → Option Refusal
+items_refusal d b [] = None
+items_refusal d b (x ∷ xs) = option_or (refusal_of (item_statement d b x)) (items_refusal d (with_item b x) xs)
 
 -- the first breach of local DEFINEs
-unfoldable pub locals_breach : Declared → List LocalNames → Option (CheckRule × ℕ)
-locals_breach declared ls = first_breach (map (local_statement declared) ls)
+unfoldable pub locals_refusal : Declared → List LocalNames → Option Refusal
+locals_refusal declared ls = first_refusal (map (local_statement declared) ls)
 
 -- the first breach of places, in MAIN or not, directly after a FIND or not
-unfoldable pub places_breach : Declared → Bool → Bool → List Spot → Option (CheckRule × ℕ)
-places_breach declared in_main behind_find ps = first_breach (place_statements declared in_main behind_find ps)
+unfoldable pub places_refusal : Declared → Bool → Bool → List Spot → Option Refusal
+places_refusal declared in_main behind_find ps = first_refusal (place_statements declared in_main behind_find ps)
 
 -- the first breach of a section
-unfoldable pub section_breach : Declared → Declared → Section → Option (CheckRule × ℕ)
-section_breach d b section =
-    option_or (breach_of (head_statement d b section))
-    (option_or (locals_breach d section.locals) (places_breach d (is_main section.head) false section.places))
+unfoldable pub section_refusal : Declared → Declared → Section → Option Refusal
+section_refusal d b section =
+    option_or (refusal_of (head_statement d b section))
+    (option_or (locals_refusal d section.locals) (places_refusal d (is_main section.head) false section.places))
 
 -- the first breach of sections
-unfoldable pub sections_breach : Declared → Declared → List Section → Option (CheckRule × ℕ)
-sections_breach d b [] = None
-sections_breach d b (s ∷ ss) = option_or (section_breach d b s) (sections_breach d (with_head b s.head) ss)
+unfoldable pub sections_refusal : Declared → Declared → List Section → Option Refusal
+sections_refusal d b [] = None
+sections_refusal d b (s ∷ ss) = option_or (section_refusal d b s) (sections_refusal d (with_head b s.head) ss)
+
+-- ---- what is wrong, by the tables with the item or the head; t: those tables
+
+-- with an item that breaks C1
+abbrev pub twice_with : Declared → Wrong
+twice_with t =
+    about_or why.DeclaredTwice (first_conflict [] t.kinds)
+    (about_or why.DisciplinedTwice (first_repeat [] t.disciplines)
+    (about_or why.BrokenTwice (first_repeat [] t.ties)
+    (about why.ExternalTwice (first_repeat [] t.external))))
+
+-- C4
+abbrev pub owner_with : Declared → Declared → Item → Wrong
+owner_with d t i =
+    about_or why.Ownerless (find (name_breaks d rule.WrongOwner) (sets_in i))
+    (about why.OwnedTwice (first_repeat [] (names_of t.owners)))
+
+-- C5
+abbrev pub member_with : Declared → Declared → Item → Wrong
+member_with d t i =
+    about_or why.Memberless (find (name_breaks d rule.WrongMember) (sets_in i))
+    (about_or why.JoinedTwice (first_repeat [] (names_of t.members))
+    (about why.JoinedBySystem (first_of (sets_joined i))))
+
+-- C12: a PRIORITY named classes before if there are more of them than this item names
+abbrev pub priority_with : Declared → Declared → Item → Wrong
+priority_with d t i = if nat_lt (length (priority_in i)) (length t.priority)
+    then about why.SecondPriority None
+    else about_or why.OrderedTwice (first_repeat [] t.priority)
+    (about why.NoEvent (find (name_breaks d rule.WrongPriority) (priority_in i)))
+
+-- with an item, by a rule that it breaks
+abbrev pub item_wrong_with : Declared → Declared → Item → CheckRule → Wrong
+item_wrong_with d t i rule.DeclaredTwice = twice_with t
+item_wrong_with d t i rule.WrongClass = about why.WrongClass (find (name_breaks d rule.WrongClass) (classes_in i))
+item_wrong_with d t i rule.WrongOwner = owner_with d t i
+item_wrong_with d t i rule.WrongMember = member_with d t i
+item_wrong_with d t i rule.WrongKey = about why.WrongKey (wrong_key_of d i)
+item_wrong_with d t i rule.WrongEvent = about why.NoSection (find (name_breaks d rule.WrongEvent) (classes_in i))
+item_wrong_with d t i _ = priority_with d t i
+
+-- with parameters: two have one name, or one has a declared name
+abbrev pub parameter_wrong : Declared → List Name → Wrong
+parameter_wrong d ns =
+    about_or why.ParameterTwice (first_repeat [] ns)
+    (about why.DeclaredTwice (find (name_breaks d rule.DeclaredTwice) ns))
+
+-- with a head that breaks C1
+abbrev pub head_twice_with : Declared → Declared → Head → Wrong
+head_twice_with d t h =
+    about_or why.DeclaredTwice (first_conflict [] t.kinds)
+    (about_or why.DeclaredTwice (first_repeat [] t.events) (parameter_wrong d (parameters h)))
+
+-- with a head, by a rule that it breaks
+abbrev pub head_wrong_with : Declared → Declared → Head → CheckRule → Wrong
+head_wrong_with d t h rule.DeclaredTwice = head_twice_with d t h
+head_wrong_with d t h rule.WrongCount = about why.WrongCount (first_of (events_in h))
+head_wrong_with d t h rule.WrongEvent = about why.NoEvent (first_of (events_in h))
+head_wrong_with d t h _ = about why.SecondMain None

@@ -1,26 +1,30 @@
 -- The rules that items of the preamble, heads of sections and local DEFINEs break.
 use Rattle.std.specs.Prelude.{Bool, true, false, not, ◌||◌, ◌&&◌, nat_lt, List, [], ◌∷◌, ◌++◌, length, Option, Some}
-use Rattle.std.specs.Prelude.{None, is_none}
-use Rattle.std.specs.List.{list_any, filter}
+use Rattle.std.specs.Prelude.{None, is_none, option_map}
+use Rattle.std.specs.List.{list_any, filter, find}
 use Rattle.ss_words.specs.Lists.{Name, all_of}
 use Rattle.ss_preamble.specs.declared.item.Heading.{Heading}
 use Rattle.ss_preamble.specs.Tree.{Key, SetDiscipline, Ranked, EventRule, BreakTies, ExternalEvents, Item, OfEvery}
-use Rattle.ss_preamble.specs.Tree.{Orders}
+use Rattle.ss_preamble.specs.Tree.{Definition, Defines, Orders, Sets, Variables}
 use Rattle.ss_routines.specs.Tree.{Head}
 use Rattle.ss_routines.specs.Places.{LocalNames, Section}
 use Rattle.ss_check.specs.declared.fault.CheckRule.{CheckRule}
 use Rattle.ss_check.specs.declared.fault.CheckRule.TheVariants.{DeclaredTwice, WrongClass, WrongOwner, WrongMember}
 use Rattle.ss_check.specs.declared.fault.CheckRule.TheVariants.{WrongKey, WrongCount, WrongEvent, WrongMain}
 use Rattle.ss_check.specs.declared.fault.CheckRule.TheVariants.{WrongPriority}
+use Rattle.ss_check.specs.NameKind.{NameKind}
 use Rattle.ss_check.specs.Declarations.{Declared}
-use Rattle.ss_check.specs.Facts.{is_among, repeats, is_one_outside, fact_of, names_of}
-use Rattle.ss_check.specs.NameKinds.{one_conflicts, names_set}
+use Rattle.ss_check.specs.declared.fault.CheckRule.TheVariants as rule
+use Rattle.ss_check.specs.declared.wrong.Reason.TheVariants as why
+use Rattle.ss_check.specs.declared.wrong.Wrong.{Wrong}
+use Rattle.ss_check.specs.Facts.{Fact, is_among, repeats, first_repeat, first_of, is_one_outside, fact_of, names_of}
+use Rattle.ss_check.specs.NameKinds.{one_conflicts, first_conflict, names_set}
 use Rattle.ss_check.specs.Declarations.{HeadedItem, class_of_item, declarations, owners_in, sets_joined, members_in}
 use Rattle.ss_check.specs.Declarations.{disciplined_sets, disciplines_in, sets_in, tied_events, ties_in, external_in}
 use Rattle.ss_check.specs.Declarations.{priority_in, classes_in, given_of, parameters, is_main, routine_facts}
 use Rattle.ss_check.specs.Declarations.{events_in, kind_of, is_declared, attribute_count, is_event_class}
 use Rattle.ss_check.specs.ResolvedNames.{attributes_of}
-use Rattle.ss_check.specs.Statements.{Statement, rule_where, lowest}
+use Rattle.ss_check.specs.Statements.{Statement, about, about_or, rule_where, lowest}
 
 -- BELONGS without a class
 abbrev pub joins_system : Option Name → List Name → Bool
@@ -84,6 +88,51 @@ module _ (d : Declared) where
   abbrev pub lacks_class : Head → Bool
   lacks_class h = list_any (λ c. not (is_event_class d c)) (events_in h)
 
+  -- ---- what is wrong, by the rule that is broken
+
+  -- a name that breaks this rule by itself, if an item, a parameter or a local DEFINE names it
+  abbrev pub name_breaks : CheckRule → Name → Bool
+  name_breaks rule.DeclaredTwice n = is_declared d n
+  name_breaks rule.WrongClass n = not (is_event_class d n)
+  name_breaks rule.WrongOwner n = not (is_among n (names_of d.owners))
+  name_breaks rule.WrongMember n = not (is_among n (names_of d.members))
+  name_breaks rule.WrongEvent n = is_without_section n
+  name_breaks rule.WrongPriority n = not (is_event_class d n)
+  name_breaks _ n = false
+
+  -- the first wrong one of several keys of a class; without a class the first one
+  abbrev pub wrong_key : Option Name → List Key → Option Name
+  wrong_key None [] = None
+  wrong_key None (k ∷ ks) = Some k.name
+  wrong_key (Some c) keys = option_map (λ k. k.name) (find (is_wrong_key c) keys)
+
+  -- the first wrong key of a discipline of sets whose members are of this class
+  abbrev pub wrong_rank : Option Name → SetDiscipline → Option Name
+  wrong_rank c (Ranked keys) = wrong_key c (all_of keys)
+  wrong_rank c _ = None
+
+  -- the first wrong key of a set of this discipline
+  abbrev pub wrong_rank_of : SetDiscipline → Option Name → Option Name
+  wrong_rank_of kind (Some s) = wrong_rank (fact_of d.members s) kind
+  wrong_rank_of kind None = None
+
+  -- the first wrong key of a DEFINE: of its first set that has one
+  abbrev pub wrong_set_key : Definition → Option Name
+  wrong_set_key (Variables names) = None
+  wrong_set_key (Sets names kind) =
+      wrong_rank_of kind (find (λ s. has_wrong_rank (fact_of d.members s) kind) (all_of names))
+
+  -- the first wrong key of the ties that an item breaks
+  abbrev pub wrong_tie_key : EventRule → Option Name
+  wrong_tie_key (BreakTies c keys) = wrong_key (Some c) (all_of keys)
+  wrong_tie_key _ = None
+
+  -- the first wrong key of an item
+  abbrev pub wrong_key_of : Item → Option Name
+  wrong_key_of (Defines s) = wrong_set_key s
+  wrong_key_of (Orders r) = wrong_tie_key r
+  wrong_key_of _ = None
+
 -- ---- items and heads after others; d: all declarations of the program; b: those before
 
 module _ (d b : Declared) where
@@ -115,6 +164,44 @@ module _ (d b : Declared) where
   abbrev pub lacks_section : Item → Bool
   lacks_section i = list_any (λ c. not (is_among c b.classes) && is_without_section d c) (classes_in i)
 
+  -- what is wrong with an item that breaks C1
+  abbrev pub item_twice : Item → List (Fact NameKind) → Wrong
+  item_twice i facts =
+      about_or why.DeclaredTwice (first_conflict b.kinds facts)
+      (about_or why.DisciplinedTwice (first_repeat b.disciplines (disciplined_sets i))
+      (about_or why.BrokenTwice (first_repeat b.ties (tied_events i))
+      (about why.ExternalTwice (first_repeat b.external (external_in i)))))
+
+  -- C4
+  abbrev pub wrong_owner : Item → Wrong
+  wrong_owner i =
+      about_or why.Ownerless (find (name_breaks d rule.WrongOwner) (sets_in i))
+      (about why.OwnedTwice (first_repeat (names_of b.owners) (names_of (owners_in i))))
+
+  -- C5
+  abbrev pub wrong_member : Item → Wrong
+  wrong_member i =
+      about_or why.Memberless (find (name_breaks d rule.WrongMember) (sets_in i))
+      (about_or why.JoinedTwice (first_repeat (names_of b.members) (names_of (members_in i)))
+      (about why.JoinedBySystem (first_of (sets_joined i))))
+
+  -- C12, after a PRIORITY that names these
+  abbrev pub wrong_priority : List Name → Item → Wrong
+  wrong_priority (c ∷ cs) i = about why.SecondPriority None
+  wrong_priority [] i =
+      about_or why.OrderedTwice (first_repeat [] (priority_in i))
+      (about why.NoEvent (find (name_breaks d rule.WrongPriority) (priority_in i)))
+
+  -- what is wrong with an item, by a rule that it breaks
+  abbrev pub item_wrong : HeadedItem → CheckRule → Wrong
+  item_wrong x rule.DeclaredTwice = item_twice x.item (declarations x)
+  item_wrong x rule.WrongClass = about why.WrongClass (find (name_breaks d rule.WrongClass) (classes_in x.item))
+  item_wrong x rule.WrongOwner = wrong_owner x.item
+  item_wrong x rule.WrongMember = wrong_member x.item
+  item_wrong x rule.WrongKey = about why.WrongKey (wrong_key_of d x.item)
+  item_wrong x rule.WrongEvent = about why.NoSection (find (name_breaks d rule.WrongEvent) (classes_in x.item))
+  item_wrong x _ = wrong_priority b.priority x.item
+
   -- an item with the rules that it breaks
   abbrev pub item_statement : HeadedItem → Statement
   item_statement x = record {
@@ -127,6 +214,7 @@ module _ (d b : Declared) where
         rule_where WrongKey (has_wrong_keys d x.item) ++
         rule_where WrongEvent (lacks_section x.item) ++
         rule_where WrongPriority (has_wrong_priority d b.priority (priority_in x.item));
+    wrong = item_wrong x;
   }
 
   -- the lowest rule that an item breaks
@@ -145,6 +233,21 @@ module _ (d b : Declared) where
   abbrev pub is_second_main : Head → Bool
   is_second_main h = is_main h && b.has_main
 
+  -- what is wrong with a head that breaks C1
+  abbrev pub head_twice : Head → Wrong
+  head_twice h =
+      about_or why.DeclaredTwice (first_conflict b.kinds (routine_facts h))
+      (about_or why.DeclaredTwice (first_repeat b.events (events_in h))
+      (about_or why.ParameterTwice (first_repeat [] (parameters h))
+      (about why.DeclaredTwice (find (name_breaks d rule.DeclaredTwice) (parameters h)))))
+
+  -- what is wrong with the head of a section, by a rule that it breaks
+  abbrev pub head_wrong : Head → CheckRule → Wrong
+  head_wrong h rule.DeclaredTwice = head_twice h
+  head_wrong h rule.WrongCount = about why.WrongCount (first_of (events_in h))
+  head_wrong h rule.WrongEvent = about why.NoEvent (first_of (events_in h))
+  head_wrong h _ = about why.SecondMain None
+
   -- the head of a section with the rules that it breaks
   abbrev pub head_statement : Section → Statement
   head_statement s = record {
@@ -154,11 +257,17 @@ module _ (d b : Declared) where
         rule_where WrongCount (has_too_many d s.head) ++
         rule_where WrongEvent (lacks_class d s.head) ++
         rule_where WrongMain (is_second_main s.head);
+    wrong = head_wrong s.head;
   }
 
   -- the lowest rule that the head of a section breaks
   unfoldable pub head_rule : Section → Option CheckRule
   head_rule s = lowest (head_statement s).breaks
+
+-- what is wrong with a local DEFINE that breaks C1
+abbrev pub local_wrong : Declared → LocalNames → Wrong
+local_wrong declared locals =
+    about why.DeclaredTwice (find (name_breaks declared rule.DeclaredTwice) (all_of locals.names))
 
 -- a local DEFINE with the rules that it breaks; C1: a name that is declared
 abbrev pub local_statement : Declared → LocalNames → Statement
@@ -166,6 +275,7 @@ local_statement declared locals =
     record {
       line = locals.line;
       breaks = rule_where DeclaredTwice (list_any (is_declared declared) (all_of locals.names));
+      wrong = λ broken. local_wrong declared locals;
     }
 
 -- the lowest rule that a local DEFINE breaks

@@ -29,3 +29,5 @@ pub mod Symbols
 pub mod Asked
 pub mod AskedView
 pub mod AskedExample
+pub mod WrongNames
+pub mod WrongExample

@@ -1,5 +1,6 @@
 -- The kinds as which names are declared.
 use Rattle.std.specs.Prelude.{Bool, true, false, not, ◌||◌, List, [], ◌∷◌, ◌++◌, codes, bytes_eq, Option, Some, None}
+use Rattle.std.specs.Prelude.{if◌then◌else◌}
 use Rattle.ss_words.specs.Lists.{Name}
 use Rattle.ss_preamble.specs.declared.item.Heading.{Heading}
 use Rattle.ss_preamble.specs.declared.item.Heading.TheVariants.{PermanentEntities, TemporaryEntities, EventNotices}
@@ -76,6 +77,13 @@ conflicts (Some j) kind = not (may_repeat j kind)
 abbrev pub one_conflicts : List (Fact NameKind) → List (Fact NameKind) → Bool
 one_conflicts before [] = false
 one_conflicts before (f ∷ fs) = conflicts (fact_of before f.name) f.what || one_conflicts (before ++ f ∷ []) fs
+
+-- the name of the first of these declarations that conflicts with the kind of its name by those
+-- before it, if there is one
+abbrev pub first_conflict : List (Fact NameKind) → List (Fact NameKind) → Option Name
+first_conflict before [] = None
+first_conflict before (f ∷ fs) =
+    if conflicts (fact_of before f.name) f.what then Some f.name else first_conflict (before ++ f ∷ []) fs
 
 -- ---- kinds; none is that of a local variable
 

@@ -1,7 +1,7 @@
 -- The rules that the places of a section break.
 use Rattle.std.specs.Prelude.{ℕ, Bool, true, false, not, ◌||◌, ◌&&◌, ◌==◌, nat_lt, nat_le, List, [], ◌∷◌, ◌++◌, length}
 use Rattle.std.specs.Prelude.{Option, Some, None}
-use Rattle.std.specs.List.{list_any}
+use Rattle.std.specs.List.{list_any, find}
 use Rattle.ss_words.specs.Lists.{Name}
 use Rattle.ss_report.specs.Pictures.{field_count, has_decimal_field}
 use Rattle.ss_routines.specs.Simple.{Times, StartSimulation, Exchanges, Print}
@@ -10,6 +10,10 @@ use Rattle.ss_routines.specs.Places.{If, Find, Gather, Place, Simply, Branches, 
 use Rattle.ss_check.specs.declared.fault.CheckRule.{CheckRule}
 use Rattle.ss_check.specs.declared.fault.CheckRule.TheVariants.{WrongClass, WrongUse, WrongCount, FixedTarget}
 use Rattle.ss_check.specs.declared.fault.CheckRule.TheVariants.{WrongPicture, StartOutsideMain, WithoutFind}
+use Rattle.ss_check.specs.declared.fault.CheckRule.TheVariants as rule
+use Rattle.ss_check.specs.declared.wrong.Reason.{Reason}
+use Rattle.ss_check.specs.declared.wrong.Reason.TheVariants as why
+use Rattle.ss_check.specs.declared.wrong.Wrong.{Wrong}
 use Rattle.ss_check.specs.LanguageFunction.{LanguageFunction}
 use Rattle.ss_check.specs.LanguageFunction.{Absolute, Greatest, Least, Quotient, Remainder}
 use Rattle.ss_check.specs.NameKind.{NameKind}
@@ -20,7 +24,7 @@ use Rattle.ss_check.specs.Facts.{fact_of, is_among, names_of}
 use Rattle.ss_check.specs.NameKinds.{names_set, names_routine, names_function, names_variable, names_fixed, serves}
 use Rattle.ss_check.specs.Declarations.{kind_of, is_of_system, attribute_count}
 use Rattle.ss_check.specs.Uses.{Use, Value, Target, InSet, LoopVariable, OfClass, Notice, Routine, uses}
-use Rattle.ss_check.specs.Statements.{Statement, rule_where, lowest}
+use Rattle.ss_check.specs.Statements.{Statement, about, rule_where, lowest}
 
 -- no value: a set or a routine
 abbrev pub is_valueless : Option NameKind → Bool
@@ -141,6 +145,50 @@ standing_breaks in_main behind_find place =
     rule_where StartOutsideMain (is_start place && not in_main)
     ++ rule_where WithoutFind (asks_find place && not behind_find)
 
+-- ---- what is wrong with a place, by the rule that is broken
+
+-- a use breaks this rule on names
+abbrev pub breaks_rule : Declared → CheckRule → Use → Bool
+breaks_rule declared rule.WrongClass u = is_wrong_class declared u
+breaks_rule declared rule.WrongUse u = is_misused declared u
+breaks_rule declared rule.WrongCount u = is_wrong_count declared u
+breaks_rule declared rule.FixedTarget u = is_fixed declared u
+breaks_rule declared _ u = false
+
+-- the name of a use
+abbrev pub name_used : Use → Name
+name_used (Value n arguments) = n
+name_used (Target n subscripted) = n
+name_used (InSet n subscripted) = n
+name_used (LoopVariable n) = n
+name_used (OfClass need n) = n
+name_used (Notice n values) = n
+name_used (Routine n values targets) = n
+
+-- the reason of a rule
+abbrev pub place_reason : CheckRule → Reason
+place_reason rule.WrongClass = why.WrongClass
+place_reason rule.WrongUse = why.WrongUse
+place_reason rule.WrongCount = why.WrongCount
+place_reason rule.FixedTarget = why.Fixed
+place_reason rule.WrongPicture = why.WrongPicture
+place_reason rule.StartOutsideMain = why.StartOutsideMain
+place_reason _ = why.WithoutFind
+
+-- the reason of a rule that a use breaks
+abbrev pub use_reason : CheckRule → Use → Reason
+use_reason rule.FixedTarget (LoopVariable n) = why.NoVariable
+use_reason broken u = place_reason broken
+
+-- what is wrong by the use that breaks a rule, if the rule is about names
+abbrev pub use_wrong : CheckRule → Option Use → Wrong
+use_wrong broken (Some u) = about (use_reason broken u) (Some (name_used u))
+use_wrong broken None = about (place_reason broken) None
+
+-- what is wrong with a place of these uses: the first use that breaks the rule
+abbrev pub place_wrong : Declared → List Use → CheckRule → Wrong
+place_wrong declared us broken = use_wrong broken (find (breaks_rule declared broken) us)
+
 -- a place, with its uses, and the rules that it breaks
 abbrev pub place_statement : Declared → Bool → Bool → List Use → Spot → Statement
 place_statement declared in_main behind_find us spot = record {
@@ -149,6 +197,7 @@ place_statement declared in_main behind_find us spot = record {
       use_breaks declared us ++
       rule_where WrongPicture (has_wrong_picture spot.place) ++
       standing_breaks in_main behind_find spot.place;
+  wrong = place_wrong declared us;
 }
 
 -- the lowest rule that a place breaks, with others after it

@@ -5,8 +5,6 @@ use Rattle.std.specs.List.{filter, flat_map, position_or_len}
 use Rattle.ss_words.specs.Lists.{Name}
 use Rattle.ss_routines.specs.Tree.{Head}
 use Rattle.ss_routines.specs.Places.{Section}
-use Rattle.ss_words.specs.declared.terms.OwnerKept.{OwnerKept}
-use Rattle.ss_words.specs.declared.terms.MemberKept.{MemberKept}
 use Rattle.ss_program.specs.declared.variable.Variable.{Variable}
 use Rattle.ss_program.specs.declared.variable.Variable.TheVariants.{Global, Local, Clock}
 use Rattle.ss_program.specs.declared.target.Target.{Target}

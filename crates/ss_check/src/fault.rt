@@ -1,5 +1,6 @@
 //! The refusals of the checker and the rules that they name.
 
+use crate::wrong::Wrong;
 use std::alloc::{AllocError, AllocFailed};
 use thiserror::Error;
 
@@ -64,11 +65,15 @@ impl CheckRule {
 }
 
 /// Why a spelled program is refused: the statement that begins on `line` breaks `rule` (lines count
-/// from 1). Or that a growth was refused: `Memory`.
-#[derive(Clone, Copy, Debug, Drop, Error)]
+/// from 1), and `wrong` says why and by which name. Or that a growth was refused: `Memory`.
+#[derive(Debug, Drop, Error)]
 pub enum CheckFault {
     #[error("line {line}: {rule:?}")]
-    Broken { rule: CheckRule, line: usize },
+    Broken {
+        rule: CheckRule,
+        line: usize,
+        wrong: Wrong,
+    },
     #[error("out of memory")]
     Memory,
 }

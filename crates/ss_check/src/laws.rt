@@ -1,6 +1,9 @@
 //! Laws on the definitions. Each function does nothing, and its contract says the law.
 ghost use Rattle.ss_check.specs.AskedExample.{AskedNamesAreJudged};
 ghost use Rattle.ss_check.specs.Asked.{AskedExpressionsAreSound, AskedConditionsAreSound, OwnPlacesHaveNoFault};
+ghost use Rattle.ss_check.specs.WrongExample.{SecondNamesAreSaid, FirstWrongUsesAreSaid, WrongItemsAreSaid};
+ghost use Rattle.ss_check.specs.WrongExample.{OtherRulesSayNoName};
+ghost use Rattle.ss_check.specs.WrongNames.{PlacesNameTheirUse, LocalsNameTheDeclared};
 ghost use Rattle.ss_check.specs.FurtherExamples.{SectionsAreDeclaredOnce, OrdersAreGivenOnce};
 ghost use Rattle.ss_check.specs.FurtherExamples.{LocalsHaveNamesOfTheirOwn, OrdersNameEvents, ValuesAreNoRoutines};
 ghost use Rattle.ss_check.specs.FurtherExamples.{KeysAreOfTheirClass, NoticesHaveAttributesForValues};
@@ -226,4 +229,35 @@ pub fn own_places_have_no_fault()
 /// unknown there, and the rules that they break.
 pub fn asked_names_are_judged()
     ensures { AskedNamesAreJudged }
+{}
+
+/// A refusal by C1 says the name that is declared a second time.
+pub fn second_names_are_said()
+    ensures { SecondNamesAreSaid }
+{}
+
+/// A refusal of a place says the first name that breaks the rule.
+pub fn first_wrong_uses_are_said()
+    ensures { FirstWrongUsesAreSaid }
+{}
+
+/// A refusal of an item says the set, the key or the event that is wrong.
+pub fn wrong_items_are_said()
+    ensures { WrongItemsAreSaid }
+{}
+
+/// A refusal by a rule that is about no name says none.
+pub fn other_rules_say_no_name()
+    ensures { OtherRulesSayNoName }
+{}
+
+/// A place that breaks a rule on names is refused by its first use that breaks this rule, and by
+/// the name of that use.
+pub fn places_name_their_use()
+    ensures { PlacesNameTheirUse }
+{}
+
+/// A local DEFINE that breaks a rule is refused by its first name that is declared.
+pub fn locals_name_the_declared()
+    ensures { LocalsNameTheDeclared }
 {}

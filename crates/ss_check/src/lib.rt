@@ -17,9 +17,11 @@ mod resolved;
 mod rules;
 mod symbols;
 mod uses;
+mod wrong;
 
 pub use asked::AskedFault;
 pub use fault::{CheckFault, CheckRule};
 pub use program::check;
 pub use ss_program::{Named, Program};
 pub use symbols::SymbolTable;
+pub use wrong::{Reason, Wrong};

@@ -13,7 +13,7 @@ ghost use Rattle.ss_check.specs.Declarations.{declared_by_program};
 ghost use Rattle.ss_check.specs.PlaceRules.{has_wrong_picture};
 ghost use Rattle.ss_check.specs.Resolved as resolved;
 ghost use Rattle.ss_check.specs.ResolvedNames.{names as names_of, number};
-ghost use Rattle.ss_check.specs.Statements.{IsBreach};
+ghost use Rattle.ss_check.specs.Statements.{IsBreach, IsRefusal};
 
 use crate::declared::name_tables::NameTables;
 use crate::declared::tables::Tables;
@@ -32,8 +32,8 @@ use std::alloc::{AllocError, Global};
 /// table, and each picture has its fields (docs/LANGUAGE.md, "Rules of the checker"). The
 /// declarations are within the limits, as `preamble` ensures.
 ///
-/// `Broken` gives the first statement that breaks a rule, by its line, and the lowest of the rules
-/// that it breaks. `Memory` says that a growth was refused.
+/// `Broken` gives the first statement that breaks a rule, by its line, the lowest of the rules that
+/// it breaks, and what is wrong by that rule. `Memory` says that a growth was refused.
 pub fn check(alloc: Global, decls: Decls, sections: Sections) -> Result<Program, CheckFault>
     requires { IsWithin (items_of (preamble.decls_view decls)) }
     ensures sound { IfOk result (λ _. rules.breach (preamble.decls_view decls) sections ≡ None) }
@@ -41,6 +41,8 @@ pub fn check(alloc: Global, decls: Decls, sections: Sections) -> Result<Program,
         (λ program. program ≡ resolved.program_resolved (preamble.decls_view decls) sections) }
     ensures err { IfErr result
         (λ f. IsBreach f (rules.breach (preamble.decls_view decls) sections)) }
+    ensures wrong { IfErr result
+        (λ f. IsRefusal f (rules.refusal (preamble.decls_view decls) sections)) }
 {
     let sections = sections.into_list();
     match check_rules(alloc, &decls, &sections) {

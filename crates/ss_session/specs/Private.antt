@@ -1,5 +1,5 @@
 -- How each private function of the session ends. No public contract cites this module.
-use Rattle.std.specs.Prelude.{ℕ, ◌+◌, ◌≡◌, false, List, [], ◌++◌, Option, Result, Ok, Err}
+use Rattle.std.specs.Prelude.{ℕ, ◌+◌, ◌≡◌, List, [], ◌++◌, Option, Result, Ok, Err}
 use Rattle.std.specs.Io.KnownBytes.{Appends}
 use Rattle.ss_state.specs.Run.{Input}
 use Rattle.ss_debug.specs.Command.{command_of}

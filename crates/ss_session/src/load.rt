@@ -8,19 +8,27 @@ ghost use Rattle.ss_session.specs.Model.{accepted, IsOfModel, IsOutcome, Spells}
 ghost use Rattle.ss_session.specs.Load.{IsLoadFault};
 
 use crate::letting_go::{drop_decls, drop_symbols};
-use ss_check::{CheckFault, CheckRule, Program, SymbolTable, check};
+use ss_check::{CheckFault, CheckRule, Program, SymbolTable, Wrong, check};
 use ss_preamble::{Decls, preamble};
 use ss_routines::{Sections, sections};
 use ss_words::{TextFault, TextRule, words};
 use std::alloc::Global;
 
 /// Why a model is no program, or that memory for reading it was refused.
-#[derive(Clone, Copy, Debug, Drop, PartialEq, Eq)]
+#[derive(Debug, Drop)]
 pub enum LoadFault {
     /// The model's text is refused, by this rule L or P at this line.
-    Text { rule: TextRule, line: usize },
-    /// The spelled model is refused, by this rule C at this line.
-    Check { rule: CheckRule, line: usize },
+    Text {
+        rule: TextRule,
+        line: usize,
+    },
+    /// The spelled model is refused, by this rule C at this line; `wrong` says why and by which
+    /// name.
+    Check {
+        rule: CheckRule,
+        line: usize,
+        wrong: Wrong,
+    },
     /// Memory was refused.
     Memory,
 }
@@ -47,7 +55,7 @@ impl From<CheckFault> for LoadFault {
 
     fn from(refusal: CheckFault) -> LoadFault {
         match refusal {
-            CheckFault::Broken { rule, line } => LoadFault::Check { rule, line },
+            CheckFault::Broken { rule, line, wrong } => LoadFault::Check { rule, line, wrong },
             CheckFault::Memory => LoadFault::Memory,
         }
     }
@@ -70,6 +78,7 @@ fn spelled(alloc: Global, model: &[u8]) -> Result<(Decls, Sections), LoadFault>
 }
 
 /// The program that a model is (docs/LANGUAGE.md), or the one rule and line by which it is refused.
+#[tactic(auto, using(crate::proofs::Loads::loads))]
 pub fn load_program(alloc: Global, model: &[u8]) -> Result<Program, LoadFault>
     ensures ok { IfOk result (λ program. IsOutcome model.now (accepted program)) }
     ensures err { IfErr result (λ fault. IsLoadFault fault model.now) }
@@ -87,6 +96,7 @@ pub struct Loaded {
 
 /// The program that a model is, with the symbol table by which expressions and conditions are asked
 /// for in its sections; or the one rule and line by which the model is refused.
+#[tactic(auto, using(crate::proofs::Loads::loads))]
 pub fn load_with_symbols(alloc: Global, model: &[u8]) -> Result<Loaded, LoadFault>
     ensures ok { IfOk result (λ loaded. IsOutcome model.now (accepted loaded.program)) }
     ensures symbols { IfOk result (λ loaded. IsOfModel model.now loaded.program loaded.symbols) }

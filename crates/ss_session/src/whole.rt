@@ -6,7 +6,7 @@ ghost use Rattle.ss_debug.specs.Turn.{initial_debugger_state};
 ghost use Rattle.ss_debug.specs.View.{debugger_state_of};
 ghost use Rattle.ss_check.specs.Asked.{IsSymbolsOf};
 ghost use Rattle.ss_session.specs.Model.{accepted, IsOfModel, IsOutcome};
-ghost use Rattle.ss_session.specs.Load.{IsLoadFault};
+ghost use Rattle.ss_session.specs.Load.{IsLoadFault, refused_by};
 ghost use Rattle.ss_session.specs.Transcript.{refusal_line};
 ghost use Rattle.ss_session.specs.Session.{SessionSays};
 ghost use Rattle.ss_session.specs.Private.{LineEnds, SessionEnds};
@@ -16,12 +16,13 @@ use crate::ending::{Cut, End, SessionFault};
 use crate::load::{LoadFault, load_program, load_with_symbols};
 use crate::outlet::{Outlet, put_all};
 use crate::refusal::refusal_text;
-use ss_check::SymbolTable;
+use ss_check::{CheckRule, SymbolTable};
 use ss_data::Feed;
 use ss_debug::Debugger;
 use ss_links::{LinkedSets, SetBoard};
 use ss_machine::Machine;
 use ss_program::Program;
+use ss_words::TextRule;
 use std::alloc::{AllocError, Global};
 
 /// Writes the line of a refused model.
@@ -120,6 +121,25 @@ pub fn open_debugger_with_symbols(
     }
 }
 
+/// A fault of the reading of a model, without what is wrong with the program.
+#[derive(Clone, Copy)]
+enum Refusal {
+    Text { rule: TextRule, line: usize },
+    Check { rule: CheckRule, line: usize },
+    Memory,
+}
+
+/// The rule and the line of a fault of the reading.
+fn refused_by(fault: LoadFault) -> Refusal
+    ensures { result ≡ refused_by fault }
+{
+    match fault {
+        LoadFault::Text { rule, line } => Refusal::Text { rule, line },
+        LoadFault::Check { rule, line, .. } => Refusal::Check { rule, line },
+        LoadFault::Memory => Refusal::Memory,
+    }
+}
+
 /// The whole session, by one fact on how it ends.
 fn session_by_cases<S: SetBoard, W: Outlet>(
     alloc: Global,
@@ -141,13 +161,13 @@ fn session_by_cases<S: SetBoard, W: Outlet>(
         Err(fault) => {
             drop(pending);
             drop(sets);
-            match fault {
-                LoadFault::Memory => Err(SessionFault::Memory),
-                LoadFault::Text { rule, line } => {
+            match refused_by(fault) {
+                Refusal::Memory => Err(SessionFault::Memory),
+                Refusal::Text { rule, line } => {
                     refuse(alloc, rule.code(), line, out)?;
                     Err(SessionFault::Text)
                 }
-                LoadFault::Check { rule, line } => {
+                Refusal::Check { rule, line } => {
                     refuse(alloc, rule.code(), line, out)?;
                     Err(SessionFault::Check)
                 }

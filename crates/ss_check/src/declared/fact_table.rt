@@ -3,7 +3,7 @@
 ghost use Rattle.std.specs.Prelude.{◌≡◌, ◌<◌, ◌==◌, true, false, [], ◌∷◌, ◌++◌, bytes_eq, length, option_map};
 ghost use Rattle.std.specs.Prelude.{slice_get, Some, OnErr, OnOk};
 ghost use Rattle.std.specs.List.{position_or_len};
-ghost use Rattle.ss_check.specs.Facts.{fact, fact_of, is_among, names_of, repeats};
+ghost use Rattle.ss_check.specs.Facts.{fact, fact_of, first_repeat, is_among, names_of, repeats};
 
 use crate::declared::fact::Fact;
 use ss_program::Name;
@@ -18,21 +18,23 @@ pub struct FactTable<T> {
     alloc: Global,
     facts: Vec<Fact<T>>,
     first: BTreeMap<Vec<u8>, usize>,
-    has_repeat: bool,
+    /// The first name that has a second fact.
+    repeat: Option<Vec<u8>>,
 }
 
 impl<T> Model for FactTable<T> {
-    ghost use Rattle.std.specs.Prelude.{List, [], ◌≡◌};
+    ghost use Rattle.std.specs.Prelude.{List, [], ◌≡◌, option_map};
     ghost use Rattle.ss_check.specs.Facts.{Fact as FactData};
     ghost use Rattle.ss_program.specs.NameIndex.{IsIndex};
-    ghost use Rattle.ss_check.specs.Facts.{names_of, repeats};
+    ghost use Rattle.ss_check.specs.Facts.{names_of, first_repeat};
 
     ghost Value = { List (FactData T) };
 
     ghost view = { λ a. a.facts.items };
 
     ghost invariant = { λ a.
-        IsIndex (names_of a.facts.items) a.first × (a.has_repeat ≡ repeats [] (names_of a.facts.items)) };
+        IsIndex (names_of a.facts.items) a.first
+        × (option_map (λ n. n.items) a.repeat ≡ first_repeat [] (names_of a.facts.items)) };
 }
 
 impl<T: Drop> FactTable<T> {
@@ -44,7 +46,7 @@ impl<T: Drop> FactTable<T> {
             alloc,
             facts: Vec::new(alloc),
             first: BTreeMap::new(alloc),
-            has_repeat: false,
+            repeat: None,
         }
     }
 
@@ -56,7 +58,7 @@ impl<T: Drop> FactTable<T> {
     }
 
     /// How many facts there are.
-    fn len(&self) -> usize
+    pub fn len(&self) -> usize
         ensures { result ≡ length self.now }
     {
         self.facts.len()
@@ -99,10 +101,21 @@ impl<T: Drop> FactTable<T> {
     }
 
     /// Whether some name has two facts.
+    #[tactic(auto, using(crate::proofs::FactTables::repeat_found))]
     pub fn has_repeat(&self) -> bool
         ensures { result ≡ repeats [] (names_of self.now) }
     {
-        self.has_repeat
+        self.first_repeat().is_some()
+    }
+
+    /// The name of the first fact whose name has one before it.
+    pub fn first_repeat(&self) -> Option<&[u8]>
+        ensures { option_map (λ n. n.now) result ≡ first_repeat [] (names_of self.now) }
+    {
+        match &self.repeat {
+            Some(name) => Some(name),
+            None => None,
+        }
     }
 
     /// The place of the first fact of this name, or the number of facts.
@@ -122,24 +135,26 @@ impl<T: Drop> FactTable<T> {
     {
         let is_there = self.has(name);
         let bytes = Vec::from_slice(self.alloc, name)?;
-        if is_there {
-            let name = Name { bytes };
-            return self.add_again(Fact { name, what });
-        }
         let key = Vec::from_slice(self.alloc, name)?;
         let name = Name { bytes };
+        if is_there {
+            return self.add_again(Fact { name, what }, key);
+        }
         self.add_first(Fact { name, what }, key)
     }
 
-    /// Puts a fact at the end of a name that has one.
-    fn add_again(&mut self, fact: Fact<T>) -> Result<(), AllocError>
-        requires { is_among fact.name (names_of self.now) ≡ true }
+    /// Puts a fact at the end of a name that has one; the key is this name.
+    fn add_again(&mut self, fact: Fact<T>, key: Vec<u8>) -> Result<(), AllocError>
+        requires there { is_among fact.name (names_of self.now) ≡ true }
+        requires same { key.items ≡ fact.name }
         ensures ok { OnOk result (self.new ≡ self.old ++ fact ∷ []) }
         ensures err { OnErr result (self.new ≡ self.old) }
     {
         self.facts.reserve(1)?;
         self.facts.push_reserved(fact);
-        self.has_repeat = true;
+        if self.repeat.is_none() {
+            self.repeat = Some(key);
+        }
         Ok(())
     }
 

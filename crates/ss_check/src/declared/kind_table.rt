@@ -6,7 +6,8 @@ ghost use Rattle.std.specs.List.{list_any};
 ghost use Rattle.ss_check.specs.Facts.{fact, fact_of, is_among, names_of};
 ghost use Rattle.ss_check.specs.FactsView.{facts_view};
 ghost use Rattle.ss_check.specs.KindView.{kind_view};
-ghost use Rattle.ss_check.specs.NameKinds.{is_attribute_of as is_attribute, one_conflicts};
+ghost use Rattle.ss_check.specs.NameKinds.{first_conflict, is_attribute_of as is_attribute};
+ghost use Rattle.ss_check.specs.NameKinds.{one_conflicts};
 ghost use Rattle.ss_check.specs.ResolvedNames.{names_where};
 
 use crate::declared::fact::Fact;
@@ -18,23 +19,26 @@ use std::marker::Model;
 /// The kinds as which names are declared, in the order of the text.
 #[derive(Drop)]
 pub struct KindTable {
+    alloc: Global,
     table: FactTable<NameKind>,
-    has_conflict: bool,
+    /// The name of the first declaration that conflicts with the kind of its name before.
+    conflict: Option<Vec<u8>>,
 }
 
 impl Model for KindTable {
-    ghost use Rattle.std.specs.Prelude.{List, [], ◌≡◌};
+    ghost use Rattle.std.specs.Prelude.{List, [], ◌≡◌, option_map};
     ghost use Rattle.ss_check.specs.Facts.{Fact};
     ghost use Rattle.ss_check.specs.FactsView.{facts_view};
     ghost use Rattle.ss_check.specs.KindView.{kind_view};
     ghost use Rattle.ss_check.specs.NameKind.{NameKind as NameKindData};
-    ghost use Rattle.ss_check.specs.NameKinds.{one_conflicts};
+    ghost use Rattle.ss_check.specs.NameKinds.{first_conflict};
 
     ghost Value = { List (Fact NameKindData) };
 
     ghost view = { λ a. facts_view kind_view a.table };
 
-    ghost invariant = { λ a. a.has_conflict ≡ one_conflicts [] (facts_view kind_view a.table) };
+    ghost invariant = { λ a. option_map (λ n. n.items) a.conflict
+        ≡ first_conflict [] (facts_view kind_view a.table) };
 }
 
 impl KindTable {
@@ -43,8 +47,9 @@ impl KindTable {
         ensures { result ≡ [] }
     {
         KindTable {
+            alloc,
             table: FactTable::new(alloc),
-            has_conflict: false,
+            conflict: None,
         }
     }
 
@@ -91,21 +96,35 @@ impl KindTable {
     }
 
     /// Whether some declaration conflicts with the kind of its name before.
+    #[tactic(auto, using(crate::proofs::Conflicts::conflict_found))]
     pub fn has_conflict(&self) -> bool
         ensures { result ≡ one_conflicts [] self.now }
     {
-        self.has_conflict
+        self.first_conflict().is_some()
+    }
+
+    /// The name of the first declaration that conflicts with the kind of its name before.
+    pub fn first_conflict(&self) -> Option<&[u8]>
+        ensures { option_map (λ n. n.now) result ≡ first_conflict [] self.now }
+    {
+        match &self.conflict {
+            Some(name) => Some(name),
+            None => None,
+        }
     }
 
     /// Declares a name as this too. If memory is refused the table is as before.
-    #[tactic(auto, using(crate::proofs::Conflicts::conflicts_push, crate::proofs::TableTurns::facts_view_push))]
+    #[tactic(auto, using(crate::proofs::Conflicts::conflict_push, crate::proofs::TableTurns::facts_view_push))]
     pub fn add(&mut self, name: &[u8], kind: NameKind) -> Result<(), AllocError>
         ensures ok { OnOk result (self.new ≡ self.old ++ fact name.now (kind_view kind) ∷ []) }
         ensures err { OnErr result (self.new ≡ self.old) }
     {
-        let conflict = conflicts(self.get(name), &kind);
+        if self.conflict.is_some() || !conflicts(self.get(name), &kind) {
+            return self.table.add(name, kind);
+        }
+        let first = Vec::from_slice(self.alloc, name)?;
         self.table.add(name, kind)?;
-        self.has_conflict |= conflict;
+        self.conflict = Some(first);
         Ok(())
     }
 }

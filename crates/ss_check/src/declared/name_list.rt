@@ -1,7 +1,7 @@
 //! A list of names that finds a repeat.
 
-ghost use Rattle.std.specs.Prelude.{◌≡◌, ◌==◌, [], ◌∷◌, ◌++◌, length, OnErr, OnOk};
-ghost use Rattle.ss_check.specs.Facts.{is_among, names_of, repeats};
+ghost use Rattle.std.specs.Prelude.{◌≡◌, ◌==◌, [], ◌∷◌, ◌++◌, length, option_map, OnErr, OnOk};
+ghost use Rattle.ss_check.specs.Facts.{first_repeat, is_among, names_of, repeats};
 
 use crate::declared::fact::Fact;
 use crate::declared::fact_table::FactTable;
@@ -61,6 +61,21 @@ impl NameList {
         ensures { result ≡ repeats [] self.now }
     {
         self.table.has_repeat()
+    }
+
+    /// The first name that is in the list before its place.
+    pub fn first_repeat(&self) -> Option<&[u8]>
+        ensures { option_map (λ n. n.now) result ≡ first_repeat [] self.now }
+    {
+        self.table.first_repeat()
+    }
+
+    /// How many names there are.
+    #[tactic(auto, using(crate::proofs::FactTables::names_length))]
+    pub fn len(&self) -> usize
+        ensures { result ≡ length self.now }
+    {
+        self.table.len()
     }
 
     /// Puts a name at the end. If memory is refused the list is as before.

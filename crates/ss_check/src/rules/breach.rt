@@ -8,21 +8,25 @@ ghost use Rattle.ss_check.specs.Increments.{IsOnce};
 ghost use Rattle.ss_check.specs.Breach as rules;
 ghost use Rattle.ss_check.specs.Declarations as declared;
 ghost use Rattle.ss_check.specs.Declarations.{declared_by, declared_by_program};
-ghost use Rattle.ss_check.specs.Statements.{IsBreach};
+ghost use Rattle.ss_check.specs.Statements.{IsBreach, IsRefusal};
 
 use crate::declared::tables::Tables;
 use crate::fault::{CheckFault, CheckRule};
 use crate::rules::heads::{head_rule, is_main, local_rule};
 use crate::rules::items::item_rule;
 use crate::rules::places::{is_find, place_rule};
+use crate::rules::wrong_heads::{head_wrong, local_wrong};
+use crate::rules::wrong_items::item_wrong;
+use crate::rules::wrong_uses::place_wrong;
+use crate::wrong::{Reason, about};
 use ss_preamble::{Decls, Heading, Item, ItemAt};
 use ss_routines::{LocalNames, Section, Spot};
 use std::alloc::{AllocError, Global};
 
 /// The declarations of a program that breaks no rule (docs/LANGUAGE.md, "Rules of the checker").
 ///
-/// `Broken` gives the first statement that breaks a rule, by its line, and the lowest of the rules
-/// that it breaks. `Memory` says that a growth was refused.
+/// `Broken` gives the first statement that breaks a rule, by its line, the lowest of the rules that
+/// it breaks, and what is wrong by that rule. `Memory` says that a growth was refused.
 pub fn check_rules(alloc: Global, decls: &Decls, sections: &[Section]) -> Result<Tables, CheckFault>
     ensures sound { IfOk result
         (λ _. rules.breach (preamble.decls_view decls.now) (map view.section_view sections.now)
@@ -32,6 +36,8 @@ pub fn check_rules(alloc: Global, decls: &Decls, sections: &[Section]) -> Result
         (map view.section_view sections.now)) }
     ensures err { IfErr result (λ f. IsBreach f
         (rules.breach (preamble.decls_view decls.now) (map view.section_view sections.now))) }
+    ensures wrong { IfErr result (λ f. IsRefusal f
+        (rules.refusal (preamble.decls_view decls.now) (map view.section_view sections.now))) }
 {
     let whole = tables(alloc, &decls.items, sections)?;
     match check_whole(alloc, &whole, decls, sections) {
@@ -55,10 +61,10 @@ fn check_whole(
         ≡ declared_by_program (preamble.decls_view decls.now).items
         (map view.section_view sections.now) }
     ensures sound { IfOk result
-        (λ _. rules.breach (preamble.decls_view decls.now) (map view.section_view sections.now)
+        (λ _. rules.refusal (preamble.decls_view decls.now) (map view.section_view sections.now)
         ≡ None) }
-    ensures err { IfErr result (λ f. IsBreach f
-        (rules.breach (preamble.decls_view decls.now) (map view.section_view sections.now))) }
+    ensures err { IfErr result (λ f. IsRefusal f
+        (rules.refusal (preamble.decls_view decls.now) (map view.section_view sections.now))) }
 {
     let mut before = Tables::new(alloc)?;
     let checked = check_statements(alloc, whole, &mut before, decls, sections);
@@ -80,17 +86,18 @@ fn check_statements(
         (map view.section_view sections.now) }
     requires start { before.old ≡ declared_by [] [] }
     ensures sound { IfOk result
-        (λ _. rules.breach (preamble.decls_view decls.now) (map view.section_view sections.now)
+        (λ _. rules.refusal (preamble.decls_view decls.now) (map view.section_view sections.now)
         ≡ None) }
-    ensures err { IfErr result (λ f. IsBreach f
-        (rules.breach (preamble.decls_view decls.now) (map view.section_view sections.now))) }
+    ensures err { IfErr result (λ f. IsRefusal f
+        (rules.refusal (preamble.decls_view decls.now) (map view.section_view sections.now))) }
 {
     check_items(alloc, whole, before, &decls.items)?;
     check_sections(alloc, whole, before, sections)?;
     if !whole.has_main {
         let line = last_end(decls.end.unwrap_or(FIRST_LINE), sections);
         let rule = CheckRule::WrongMain;
-        return Err(CheckFault::Broken { rule, line });
+        let wrong = about(alloc, Reason::NoMain, None)?;
+        return Err(CheckFault::Broken { rule, line, wrong });
     }
     Ok(())
 }
@@ -176,12 +183,12 @@ fn check_items(
     items: &[ItemAt],
 ) -> Result<(), CheckFault>
     requires { IsOnce before.old }
-    ensures sound { IfOk result (λ _. later.items_breach whole.now before.old
+    ensures sound { IfOk result (λ _. later.items_refusal whole.now before.old
         (declared.headed_items (preamble.items_view items.now)) ≡ None) }
     ensures once { OnOk result (IsOnce before.new) }
     ensures tables { OnOk result (before.new
         ≡ later.with_items before.old (declared.headed_items (preamble.items_view items.now))) }
-    ensures err { IfErr result (λ f. IsBreach f (later.items_breach whole.now before.old
+    ensures err { IfErr result (λ f. IsRefusal f (later.items_refusal whole.now before.old
         (declared.headed_items (preamble.items_view items.now)))) }
 {
     let mut heading = None;
@@ -189,7 +196,8 @@ fn check_items(
         heading = heading_at(heading, &one.item);
         if let Some(rule) = item_rule(alloc, whole, before, heading, one)? {
             let line = one.line;
-            return Err(CheckFault::Broken { rule, line });
+            let wrong = item_wrong(alloc, whole, before, &one.item, rule)?;
+            return Err(CheckFault::Broken { rule, line, wrong });
         }
     }
     Ok(())
@@ -204,9 +212,9 @@ fn check_sections(
     sections: &[Section],
 ) -> Result<(), CheckFault>
     requires { IsOnce before.old }
-    ensures sound { IfOk result (λ _. later.sections_breach whole.now before.old
+    ensures sound { IfOk result (λ _. later.sections_refusal whole.now before.old
         (map view.section_view sections.now) ≡ None) }
-    ensures err { IfErr result (λ f. IsBreach f (later.sections_breach whole.now before.old
+    ensures err { IfErr result (λ f. IsRefusal f (later.sections_refusal whole.now before.old
         (map view.section_view sections.now))) }
 {
     for section in sections {
@@ -224,33 +232,35 @@ fn check_section(
     section: &Section,
 ) -> Result<(), CheckFault>
     requires { IsOnce before.old }
-    ensures sound { IfOk result (λ _. later.section_breach whole.now before.old
+    ensures sound { IfOk result (λ _. later.section_refusal whole.now before.old
         (view.section_view section.now) ≡ None) }
     ensures once { OnOk result (IsOnce before.new) }
     ensures tables { OnOk result (before.new
         ≡ later.with_head before.old (view.section_view section.now).head) }
-    ensures err { IfErr result (λ f. IsBreach f (later.section_breach whole.now before.old
+    ensures err { IfErr result (λ f. IsRefusal f (later.section_refusal whole.now before.old
         (view.section_view section.now))) }
 {
     if let Some(rule) = head_rule(alloc, whole, before, section)? {
         let line = section.line;
-        return Err(CheckFault::Broken { rule, line });
+        let wrong = head_wrong(alloc, whole, before, section, rule)?;
+        return Err(CheckFault::Broken { rule, line, wrong });
     }
-    check_locals(whole, &section.locals)?;
+    check_locals(alloc, whole, &section.locals)?;
     check_places(alloc, whole, is_main(section), &section.places)
 }
 
 /// Looks at each local DEFINE, and reports the first breach.
-fn check_locals(whole: &Tables, locals: &[LocalNames]) -> Result<(), CheckFault>
+fn check_locals(alloc: Global, whole: &Tables, locals: &[LocalNames]) -> Result<(), CheckFault>
     ensures sound { IfOk result
-        (λ _. later.locals_breach whole.now (map view.local_view locals.now) ≡ None) }
+        (λ _. later.locals_refusal whole.now (map view.local_view locals.now) ≡ None) }
     ensures err { IfErr result
-        (λ f. IsBreach f (later.locals_breach whole.now (map view.local_view locals.now))) }
+        (λ f. IsRefusal f (later.locals_refusal whole.now (map view.local_view locals.now))) }
 {
     for local in locals {
         if let Some(rule) = local_rule(whole, local) {
             let line = local.line;
-            return Err(CheckFault::Broken { rule, line });
+            let wrong = local_wrong(alloc, whole, local)?;
+            return Err(CheckFault::Broken { rule, line, wrong });
         }
     }
     Ok(())
@@ -264,16 +274,17 @@ fn check_places(
     places: &[Spot],
 ) -> Result<(), CheckFault>
     ensures sound { IfOk result
-        (λ _. later.places_breach whole.now in_main false (view.spots places.now) ≡ None) }
+        (λ _. later.places_refusal whole.now in_main false (view.spots places.now) ≡ None) }
     ensures err { IfErr result
-        (λ f. IsBreach f (later.places_breach whole.now in_main false (view.spots places.now))) }
+        (λ f. IsRefusal f (later.places_refusal whole.now in_main false (view.spots places.now))) }
 {
     let mut behind_find = false;
     let mut rest = places;
     while let Some((spot, behind)) = rest.split_first() {
         if let Some(rule) = place_rule(alloc, whole, in_main, behind_find, spot, behind)? {
             let line = spot.line;
-            return Err(CheckFault::Broken { rule, line });
+            let wrong = place_wrong(alloc, whole, rule, &spot.place, behind)?;
+            return Err(CheckFault::Broken { rule, line, wrong });
         }
         behind_find = is_find(&spot.place);
         rest = behind;

@@ -119,7 +119,7 @@ fn repeats_parameter(alloc: Global, section: &Section) -> Result<bool, AllocErro
 }
 
 /// Adds the names of a section's parameters.
-fn add_parameters(list: &mut NameList, section: &Section) -> Result<(), AllocError>
+pub(crate) fn add_parameters(list: &mut NameList, section: &Section) -> Result<(), AllocError>
     ensures { OnOk result
         (list.new ≡ list.old ++ declared.parameters (view.section_view section.now).head) }
 {

@@ -57,7 +57,7 @@ fn any_other_rank(whole: &Tables, sets: &[Name], kind: &SetDiscipline) -> bool
 
 /// Whether a set is ranked by a name that is no attribute of its members, or has no members and is
 /// ranked.
-fn is_wrong_rank(whole: &Tables, set: &[u8], kind: &SetDiscipline) -> bool
+pub(crate) fn is_wrong_rank(whole: &Tables, set: &[u8], kind: &SetDiscipline) -> bool
     ensures { result ≡ rules.has_wrong_rank whole.now (fact_of whole.now.members set.now)
         (view.set_discipline_view kind.now) }
 {
@@ -86,7 +86,7 @@ fn any_other_key(whole: &Tables, class: &[u8], keys: &[Key]) -> bool
     keys.iter().any(|key| is_wrong_key(whole, class, key))
 }
 
-fn is_wrong_key(whole: &Tables, class: &[u8], key: &Key) -> bool
+pub(crate) fn is_wrong_key(whole: &Tables, class: &[u8], key: &Key) -> bool
     ensures { result ≡ rules.is_wrong_key whole.now class.now (view.key_view key.now) }
 {
     !whole.kinds.has_attribute(class, key.name.bytes())

@@ -40,7 +40,7 @@ pub(crate) fn place_rule(
 }
 
 /// Adds the uses of the statement at a place with others after it: COMPUTE is one of two places.
-fn add_statement<'a>(
+pub(crate) fn add_statement<'a>(
     uses: &mut UseList<'a>,
     place: &'a Place,
     behind: &'a [Spot],

@@ -21,7 +21,7 @@ pub(crate) fn any_wrong_class(whole: &Tables, uses: &[Use<'_>]) -> bool
     uses.iter().any(|one| is_wrong_class(whole, one))
 }
 
-fn is_wrong_class(whole: &Tables, name_use: &Use<'_>) -> bool
+pub(crate) fn is_wrong_class(whole: &Tables, name_use: &Use<'_>) -> bool
     ensures { result ≡ rules.is_wrong_class whole.now (use_view name_use.now) }
 {
     match name_use {
@@ -37,7 +37,7 @@ pub(crate) fn any_misused(whole: &Tables, uses: &[Use<'_>]) -> bool
     uses.iter().any(|one| is_misused(whole, one))
 }
 
-fn is_misused(whole: &Tables, name_use: &Use<'_>) -> bool
+pub(crate) fn is_misused(whole: &Tables, name_use: &Use<'_>) -> bool
     ensures { result ≡ rules.is_misused whole.now (use_view name_use.now) }
 {
     match name_use {
@@ -139,7 +139,7 @@ pub(crate) fn any_wrong_count(whole: &Tables, uses: &[Use<'_>]) -> bool
     uses.iter().any(|one| is_wrong_count(whole, one))
 }
 
-fn is_wrong_count(whole: &Tables, name_use: &Use<'_>) -> bool
+pub(crate) fn is_wrong_count(whole: &Tables, name_use: &Use<'_>) -> bool
     ensures { result ≡ rules.is_wrong_count whole.now (use_view name_use.now) }
 {
     match name_use {
@@ -168,7 +168,7 @@ pub(crate) fn any_fixed(whole: &Tables, uses: &[Use<'_>]) -> bool
     uses.iter().any(|one| is_fixed(whole, one))
 }
 
-fn is_fixed(whole: &Tables, name_use: &Use<'_>) -> bool
+pub(crate) fn is_fixed(whole: &Tables, name_use: &Use<'_>) -> bool
     ensures { result ≡ rules.is_fixed whole.now (use_view name_use.now) }
 {
     match name_use {

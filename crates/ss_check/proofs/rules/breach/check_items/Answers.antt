@@ -1,19 +1,26 @@
 use Rattle.std.proofs.Common.{sym, ◌∙◌}
 use Rattle.ss_preamble.specs.View.{item_at_view, items_view}
-use Rattle.ss_check.specs.Increments.{headed_item, items_breach, with_items}
+use Rattle.ss_check.specs.Increments.{headed_item, items_refusal, with_items}
 use Rattle.ss_check.specs.Declarations.{headed_items}
 use Rattle.ss_check.proofs.ItemRules.{once_behind_item}
 use Rattle.ss_check.proofs.Turns.{filled_end, filled_turn, item_passed, item_told, items_end}
+use Rattle.ss_check.proofs.Wrongs.{item_wrong_is}
 use Rattle.ss_check.proofs.rules.breach.check_items.Goals as goal
 
 pub returns-in-Some-clause-err : goal.returns-in-Some-clause-err
 returns-in-Some-clause-err c =
-    item_told c.args.whole.now c.loop-one.before c.loop-one.heading c.heading_at-heading.result c.args.items.now
+    rw (
+      c.in_ok-wrong.ensures,
+      item_wrong_is c.args.whole.now c.loop-one.before c.item_rule.new.before
+          (headed_item c.heading_at-heading.result (item_at_view c.one-item.result)) c.in-Some.rule
+          c.loop-one.invariant.once c.in_ok-rule.ensures.tables,
+    )
+    (item_told c.args.whole.now c.loop-one.before c.loop-one.heading c.heading_at-heading.result c.args.items.now
     c.loop-one.one-index
-    c.one-item.result (items_breach c.args.whole.now c.args.before.now
+    c.one-item.result (items_refusal c.args.whole.now c.args.before.now
     (headed_items (items_view c.args.items.now))) c.in-Some.rule
     c.loop-one-test.true c.one-item.is c.loop-one.invariant.sound c.heading_at-heading.ensures
-    (sym c.in_ok-rule.ensures.rule ∙ c.in-Some.is)
+    (sym c.in_ok-rule.ensures.rule ∙ c.in-Some.is))
 
 pub loop-one-preserved : goal.loop-one-preserved
 loop-one-preserved c =
@@ -27,7 +34,7 @@ loop-one-preserved c =
           (item_passed c.args.whole.now c.loop-one.before c.loop-one.heading c.heading_at-heading.result
           c.args.items.now
           c.loop-one.one-index c.one-item.result
-          (items_breach c.args.whole.now c.args.before.now (headed_items (items_view c.args.items.now)))
+          (items_refusal c.args.whole.now c.args.before.now (headed_items (items_view c.args.items.now)))
           c.loop-one-test.true c.one-item.is c.loop-one.invariant.sound c.heading_at-heading.ensures none);
       tables = rw (c.in_ok-rule.ensures.tables, c.heading_at-heading.ensures)
           (filled_turn c.loop-one.before c.loop-one.heading c.args.items.now c.loop-one.one-index c.one-item.result
@@ -38,7 +45,7 @@ loop-one-preserved c =
 pub returns-clause-sound : goal.returns-clause-sound
 returns-clause-sound c =
     items_end c.args.whole.now c.loop-one.before c.loop-one.heading c.args.items.now c.loop-one.one-index
-    (items_breach c.args.whole.now c.args.before.now (headed_items (items_view c.args.items.now))) c.loop-one-test.false
+    (items_refusal c.args.whole.now c.args.before.now (headed_items (items_view c.args.items.now))) c.loop-one-test.false
     c.loop-one.invariant.sound
 
 pub returns-clause-tables : goal.returns-clause-tables

@@ -1,24 +1,25 @@
 use Rattle.std.proofs.Common.{sym, ◌∙◌}
 use Rattle.std.specs.Prelude.{map}
 use Rattle.ss_routines.specs.View.{local_view}
-use Rattle.ss_check.specs.Increments.{locals_breach}
+use Rattle.ss_check.specs.Increments.{locals_refusal}
 use Rattle.ss_check.proofs.Turns.{local_passed, local_told, locals_end}
 use Rattle.ss_check.proofs.rules.breach.check_locals.Goals as goal
 
 pub returns-in-Some-clause-err : goal.returns-in-Some-clause-err
 returns-in-Some-clause-err c =
-    local_told c.args.whole.now c.args.locals.now c.loop-local.local-index c.local-item.result
-    (locals_breach c.args.whole.now
+    rw c.in_ok-wrong.ensures
+    (local_told c.args.whole.now c.args.locals.now c.loop-local.local-index c.local-item.result
+    (locals_refusal c.args.whole.now
     (map local_view c.args.locals.now)) c.in-Some.rule c.loop-local-test.true c.local-item.is
-    c.loop-local.invariant (sym c.local_rule.ensures ∙ c.in-Some.is)
+    c.loop-local.invariant (sym c.local_rule.ensures ∙ c.in-Some.is))
 
 pub loop-local-preserved : goal.loop-local-preserved
 loop-local-preserved c =
     local_passed c.args.whole.now c.args.locals.now c.loop-local.local-index c.local-item.result
-    (locals_breach c.args.whole.now (map local_view c.args.locals.now)) c.loop-local-test.true c.local-item.is
+    (locals_refusal c.args.whole.now (map local_view c.args.locals.now)) c.loop-local-test.true c.local-item.is
     c.loop-local.invariant (sym c.local_rule.ensures ∙ c.in_default.is)
 
 pub returns-clause-sound : goal.returns-clause-sound
 returns-clause-sound c =
     locals_end c.args.whole.now c.args.locals.now c.loop-local.local-index
-    (locals_breach c.args.whole.now (map local_view c.args.locals.now)) c.loop-local-test.false c.loop-local.invariant
+    (locals_refusal c.args.whole.now (map local_view c.args.locals.now)) c.loop-local-test.false c.loop-local.invariant

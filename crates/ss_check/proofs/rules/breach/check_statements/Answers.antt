@@ -46,7 +46,7 @@ returns-then-not-whole-clause-err c =
       none = c.requires.start;
       items = rw c.deref.ensures.value at c.in_ok-check_items.ensures.tables;
     } in
-    rw (c.last_end-line.ensures, c.unwrap_or.ensures)
+    rw (c.last_end-line.ensures, c.unwrap_or.ensures, c.in_ok-wrong.ensures)
     (fault_end p ss c.args.whole.now c.args.before.now c.check_items.new.before t
     (rw c.deref.ensures.value at c.in_ok-check_items.ensures.sound) c.in_ok-check_sections.ensures.sound
     (sym (ap (λ (d : Declared). d.has_main) c.whole.view_is) ∙ c.if-not-whole.true))

@@ -1,7 +1,7 @@
-use Rattle.std.proofs.Common.{◌≡◌, ap, arith, false, length}
+use Rattle.std.proofs.Common.{◌≡◌, ◌∙◌, ap, arith, false, length}
 use Rattle.ss_program.proofs.NameIndex.{index_same}
 use Rattle.ss_check.specs.Facts.{is_among, names_of}
-use Rattle.ss_check.proofs.FactTables.{index_first, repeats_first}
+use Rattle.ss_check.proofs.FactTables.{index_first, repeat_first}
 use Rattle.ss_check.proofs.declared.fact_table.FactTable.add_first.Goals as goal
 
 pub invariant_of-self-in_err-insert : goal.invariant_of-self-in_err-insert
@@ -21,5 +21,5 @@ invariant_of-self-2 g c =
     rw (c.push_reserved.ensures.items, c.reserve.ensures.items) (
       index_first c.self.inside.facts.items c.args.fact c.self.inside.first c.insert.new.self c.args.key
           c.len.result c.requires.same size c.in_ok-insert.ensures.updates absent c.self.invariant.0,
-      repeats_first c.self.inside.facts.items c.args.fact c.self.inside.has_repeat absent c.self.invariant.1,
+      c.self.invariant.1 ∙ repeat_first c.self.inside.facts.items c.args.fact absent,
     )
