@@ -6,15 +6,13 @@ use Rattle.ss_words.specs.declared.reserved.Reserved.{Reserved as AReserved}
 use Rattle.ss_words.specs.declared.reserved.Reserved.TheVariants as r
 use Rattle.ss_words.specs.Plain.{PlainAt, name, number, mark, picture}
 use Rattle.ss_names.specs.declared.collected.Wanted.{Wanted}
-use Rattle.ss_names.specs.declared.collected.Wanted.TheVariants.{Declared, Owned, Joined, Sections, Keys, Ordered}
+use Rattle.ss_names.specs.declared.collected.Wanted.TheVariants.{Declared, Owned, Joined, Keys, Ordered}
 use Rattle.ss_names.specs.declared.collected.Wanted.TheVariants.{Disciplines, Ties, Externals}
 use Rattle.ss_names.specs.declared.here.Here.{Here}
 use Rattle.ss_names.specs.declared.meaning.Meaning.{Meaning}
 use Rattle.ss_names.specs.declared.meaning.Meaning.TheVariants as m
 use Rattle.ss_names.specs.Here.{at_name, behind}
-use Rattle.ss_names.specs.declared.values.List.TheVariants as l
 use Rattle.ss_names.specs.Meanings.{Declaration, with_declaration}
-use Rattle.ss_names.specs.Values.{given_count, in_list}
 
 -- the meaning of a name directly after this last word: a set that is owned
 abbrev pub owned_behind : Option AReserved → Option Meaning → Option Meaning
@@ -26,11 +24,6 @@ abbrev pub joined_behind : Option AReserved → Option Meaning → Option Meanin
 joined_behind (Some r.To) names = names
 joined_behind _ names = None
 
--- an event that has a section
-abbrev pub section_behind : Option Mark → Option Meaning
-section_behind (Some (Reserved r.Event)) = Some m.Event
-section_behind _ = None
-
 -- in the list after OWNS
 abbrev pub behind_owns : Here → Option Meaning
 behind_owns here = owned_behind here.last here.names
@@ -38,10 +31,6 @@ behind_owns here = owned_behind here.last here.names
 -- in the list after BELONGS TO
 abbrev pub behind_belongs : Here → Option Meaning
 behind_belongs here = joined_behind here.last here.names
-
--- directly after EVENT
-abbrev pub behind_event : Here → Option Meaning
-behind_event here = section_behind here.before
 
 -- HIGH or LOW
 abbrev pub is_rank : Option AReserved → Bool
@@ -99,7 +88,6 @@ abbrev pub collected_as : Wanted → Here → Option Meaning
 collected_as Declared here = here.names
 collected_as Owned here = behind_owns here
 collected_as Joined here = behind_belongs here
-collected_as Sections here = behind_event here
 collected_as Keys here = behind_rank here
 collected_as Ordered here = behind_priority here
 collected_as Disciplines here = behind_define here
@@ -126,40 +114,26 @@ class_at here class word = if is_every here.last || is_define here.last
 abbrev pub class_of : Here → List ℕ → List ℕ
 class_of here class = if is_every here.begun || is_rank here.last then class else []
 
--- how many values the head of a routine is given, before these words; 0 for another name
-abbrev pub head_given : Meaning → List PlainAt → ℕ
-head_given m.Routine ws = given_count ws
-head_given _ ws = 0
-
--- how many values the head of a routine yields, before these words; 0 for another name
-abbrev pub head_yielded : Meaning → List PlainAt → ℕ
-head_yielded m.Routine ws = in_list l.Yielded ws
-head_yielded _ ws = 0
-
--- a name on a line, with its place, is declared as this here, before these words
-abbrev pub declaration : Here → List ℕ → List ℕ → PlainAt → List PlainAt → Meaning → Declaration
-declaration here class n word ws meaning = record {
+-- a name on a line, with its place, is declared as this here
+abbrev pub declaration : Here → List ℕ → List ℕ → PlainAt → Meaning → Declaration
+declaration here class n word meaning = record {
   name = n;
   meaning = meaning;
   of = class_of here class;
   line = word.line;
-  index = word.index;
-  given = head_given meaning ws;
-  yielded = head_yielded meaning ws;
 }
 
 -- the collected declarations, with a name put to them if it is wanted
-abbrev pub with_name :
-    List Declaration → Wanted → Here → List ℕ → List ℕ → PlainAt → List PlainAt → List Declaration
-with_name ds wanted h class n w ws = elim (collected_as wanted h) [
-  | Some meaning ↦ with_declaration ds (declaration h class n w ws meaning)
+abbrev pub with_name : List Declaration → Wanted → Here → List ℕ → List ℕ → PlainAt → List Declaration
+with_name ds wanted h class n w = elim (collected_as wanted h) [
+  | Some meaning ↦ with_declaration ds (declaration h class n w meaning)
   | None ↦ ds
 ]
 
--- the collected declarations, with a word put to them, before these words
-abbrev pub with_word : List Declaration → Wanted → Here → List ℕ → PlainAt → List PlainAt → List Declaration
-with_word ds wanted here class word ws = elim word.word [
-  | name n ↦ with_name ds wanted here class n word ws
+-- the collected declarations, with a word put to them
+abbrev pub with_word : List Declaration → Wanted → Here → List ℕ → PlainAt → List Declaration
+with_word ds wanted here class word = elim word.word [
+  | name n ↦ with_name ds wanted here class n word
   | number n ↦ ds
   | mark k ↦ ds
   | picture ls ↦ ds
@@ -170,4 +144,4 @@ unfoldable pub collection : Wanted → List Declaration → Here → List ℕ �
 collection wanted ds here class [] = ds
 collection wanted ds here class (w ∷ ws) =
     let k = here_at here w in
-    collection wanted (with_word ds wanted k class w ws) (behind k w.word w.line ws) (class_at k class w) ws
+    collection wanted (with_word ds wanted k class w) (behind k w.word w.line ws) (class_at k class w) ws

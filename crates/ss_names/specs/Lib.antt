@@ -16,9 +16,6 @@ pub mod Printed
 pub mod Warnings
 pub mod Known
 pub mod Index
-pub mod Breaches
-pub mod Counts
-pub mod Parameters
 pub mod Landmarks
 pub mod Pictures
 pub mod Statements

@@ -15,12 +15,6 @@ pub record Declaration : Type 0 where
   pub of : List ℕ
   -- its line
   pub line : ℕ
-  -- the place of its word among the words of the text
-  pub index : ℕ
-  -- how many values the head of a routine is given, 0 for another name
-  pub given : ℕ
-  -- how many values the head of a routine yields, 0 for another name
-  pub yielded : ℕ
 
 -- a declaration of the code
 abbrev pub declaration_at : Row → Declaration
@@ -29,23 +23,11 @@ declaration_at row = record {
   meaning = row.meaning;
   of = row.of.now;
   line = row.line;
-  index = row.index;
-  given = row.given;
-  yielded = row.yielded;
 }
 
 -- the names of declarations
 abbrev pub names_of : List Declaration → List (List ℕ)
 names_of ds = map (λ d. d.name) ds
-
--- a name may have two declarations: of one set, or of classes under one kind of heading
-abbrev pub may_repeat : Meaning → Meaning → Bool
-may_repeat m.Set m.Set = true
-may_repeat m.Class m.Class = true
-may_repeat m.Permanent m.Permanent = true
-may_repeat m.Temporary m.Temporary = true
-may_repeat m.Event m.Event = true
-may_repeat _ _ = false
 
 -- the declaration of a name among these, if it has one
 abbrev pub declared_as : List Declaration → List ℕ → Option Declaration
@@ -55,13 +37,3 @@ declared_as (d ∷ ds) n = if bytes_eq n d.name then Some d else declared_as ds 
 -- declarations with a further one, unless its name has one
 abbrev pub with_declaration : List Declaration → Declaration → List Declaration
 with_declaration ds declaration = if is_some (declared_as ds declaration.name) then ds else ds ++ declaration ∷ []
-
--- an attribute
-abbrev pub is_attribute : Meaning → Bool
-is_attribute m.Attribute = true
-is_attribute _ = false
-
--- the class of each attribute
-unfoldable pub attribute_classes : List Declaration → List (List ℕ)
-attribute_classes [] = []
-attribute_classes (d ∷ ds) = if is_attribute d.meaning then d.of ∷ attribute_classes ds else attribute_classes ds

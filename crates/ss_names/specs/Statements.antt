@@ -13,22 +13,12 @@ use Rattle.ss_names.specs.declared.statements.Beginning.{Beginning}
 use Rattle.ss_names.specs.declared.statements.StatementRule.{StatementRule}
 use Rattle.ss_names.specs.declared.statements.Track.{Track}
 use Rattle.ss_names.specs.declared.statements.StatementRule.TheVariants as rule
-use Rattle.ss_names.specs.declared.statements.TheConstants.{STATEMENT_RULES}
 use Rattle.ss_names.specs.Collected.{here_at}
 use Rattle.ss_names.specs.Here.{at_start, behind}
 use Rattle.ss_names.specs.Landmarks.{Landmarks, is_main, landmarks_behind, no_landmarks}
 use Rattle.ss_names.specs.Pictures.{fields_in, first_picture, picture_text, value_count}
 use Rattle.ss_names.specs.Positions.{first_mark}
 use Rattle.ss_names.specs.Saying.{name_text, number_text}
-
--- the rule next to this code in a table, if it is there
-abbrev pub rule_in : List ℕ → List (List ℕ × StatementRule) → Option StatementRule
-rule_in code [] = None
-rule_in code (row ∷ rows) = if bytes_eq row.0 code then Some row.1 else rule_in code rows
-
--- the rule with this code, if it is about statements
-unfoldable pub statement_rule : List ℕ → Option StatementRule
-statement_rule code = rule_in code (map (λ row. (row.0.now, row.1)) STATEMENT_RULES)
 
 -- ---- which statement
 

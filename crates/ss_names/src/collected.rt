@@ -7,7 +7,6 @@ ghost use Rattle.ss_names.specs.Here.{at_start};
 use crate::declarations::Declarations;
 use crate::here::Here;
 use crate::meaning::{Meaning, Row};
-use crate::values::{List, given_count, in_list};
 use ss_words::{Mark, Plain, PlainWord, Reserved};
 use std::alloc::{AllocError, Global};
 
@@ -20,8 +19,6 @@ pub enum Wanted {
     Owned,
     /// The sets after BELONGS TO.
     Joined,
-    /// The events that have a section.
-    Sections,
     /// The keys of sets, in their DEFINE.
     Keys,
     /// The names after PRIORITY ORDER IS.
@@ -42,7 +39,6 @@ fn collected_as(wanted: Wanted, here: Here) -> Option<Meaning>
         Wanted::Declared => here.names,
         Wanted::Owned => behind_owns(here),
         Wanted::Joined => behind_belongs(here),
-        Wanted::Sections => behind_event(here),
         Wanted::Keys => behind_rank(here),
         Wanted::Ordered => behind_priority(here),
         Wanted::Disciplines => behind_define(here),
@@ -65,15 +61,6 @@ fn behind_belongs(here: Here) -> Option<Meaning>
 {
     match here.last {
         Some(Reserved::To) => here.names,
-        _ => None,
-    }
-}
-
-fn behind_event(here: Here) -> Option<Meaning>
-    ensures { result ≡ spec.behind_event here }
-{
-    match here.before {
-        Some(Mark::Reserved(Reserved::Event)) => Some(Meaning::Event),
         _ => None,
     }
 }
@@ -175,26 +162,6 @@ fn class_of<'a>(here: Here, class: &'a [u8]) -> &'a [u8]
     b""
 }
 
-/// How many values the head of a routine is given, before these words; 0 for another name.
-fn head_given(meaning: Meaning, behind: &[PlainWord<'_>]) -> usize
-    ensures { result ≡ spec.head_given meaning (map plain_at behind.now) }
-{
-    match meaning {
-        Meaning::Routine => given_count(behind),
-        _ => 0,
-    }
-}
-
-/// How many values the head of a routine yields, before these words; 0 for another name.
-fn head_yielded(meaning: Meaning, behind: &[PlainWord<'_>]) -> usize
-    ensures { result ≡ spec.head_yielded meaning (map plain_at behind.now) }
-{
-    match meaning {
-        Meaning::Routine => in_list(List::Yielded, behind),
-        _ => 0,
-    }
-}
-
 /// The place of a word, and the class or set of its clause.
 #[derive(Clone, Copy)]
 struct InClause<'a> {
@@ -204,17 +171,15 @@ struct InClause<'a> {
     class: &'a [u8],
 }
 
-/// Puts a word to the collected declarations, if it is wanted, before these words.
+/// Puts a word to the collected declarations, if it is wanted.
 fn collect_word<'a>(
     found: &mut Declarations<'a>,
     wanted: Wanted,
     at: InClause<'a>,
     word: &PlainWord<'a>,
-    behind: &[PlainWord<'a>],
 ) -> Result<(), AllocError>
     ensures { OnOk result (found.new
-        ≡ spec.with_word found.old wanted at.entry.here at.entry.class.now
-        (plain_at word.now) (map plain_at behind.now)) }
+        ≡ spec.with_word found.old wanted at.entry.here at.entry.class.now (plain_at word.now)) }
 {
     let Plain::Name(name) = word.kind() else {
         return Ok(());
@@ -225,9 +190,6 @@ fn collect_word<'a>(
             meaning,
             of: class_of(at.here, at.class),
             line: word.line(),
-            index: word.index,
-            given: head_given(meaning, behind),
-            yielded: head_yielded(meaning, behind),
         }),
         None => Ok(()),
     }
@@ -248,7 +210,7 @@ pub fn collect_into<'a>(
     let mut rest = words;
     while let [word, behind @ ..] = rest {
         let at = here_at(here, word);
-        collect_word(found, wanted, InClause { here: at, class }, word, behind)?;
+        collect_word(found, wanted, InClause { here: at, class }, word)?;
         class = class_at(at, class, word);
         here = at.behind(word.kind(), word.line(), behind);
         rest = behind;

@@ -3,8 +3,8 @@ ghost use Rattle.std.specs.Prelude.{◌≡◌, ◌<◌, ◌++◌, [], is_some, l
 ghost use Rattle.ss_names.specs.Meanings as spec;
 ghost use Rattle.ss_names.specs.Meanings.{declaration_at};
 
-use crate::meaning::{Meaning, Row};
-use ss_program::{NameCounts, NameTable};
+use crate::meaning::Row;
+use ss_program::NameTable;
 use std::alloc::{AllocError, Global};
 use std::marker::Model;
 
@@ -72,13 +72,6 @@ impl<'a> Declarations<'a> {
         self.get(name).is_some()
     }
 
-    /// The declarations, in order.
-    fn rows(&self) -> &[Row<'a>]
-        ensures { map declaration_at result.now ≡ self.now }
-    {
-        &self.rows
-    }
-
     /// Puts a declaration at the end, unless its name has one.
     pub fn add(&mut self, row: Row<'a>) -> Result<(), AllocError>
         ensures { OnOk result
@@ -92,38 +85,6 @@ impl<'a> Declarations<'a> {
         self.rows.push_reserved(row);
         Ok(())
     }
-}
-
-/// Appends the class of each attribute among declarations.
-pub fn add_attribute_classes(
-    declarations: &Declarations<'_>,
-    names: &mut NameCounts,
-) -> Result<(), AllocError>
-    ensures { OnOk result (names.new ≡ names.old ++ spec.attribute_classes declarations.now) }
-{
-    add_classes(declarations.rows(), names)
-}
-
-/// Appends the class of each attribute among rows.
-#[tactic(auto, unfolding(crate::specs::Meanings::attribute_classes))]
-fn add_classes(rows: &[Row<'_>], names: &mut NameCounts) -> Result<(), AllocError>
-    ensures { OnOk result (names.new
-        ≡ names.old ++ spec.attribute_classes (map declaration_at rows.now)) }
-{
-    let mut rest = rows;
-    while let [row, behind @ ..] = rest {
-        if is_attribute(row.meaning) {
-            names.add(row.of)?;
-        }
-        rest = behind;
-    }
-    Ok(())
-}
-
-fn is_attribute(meaning: Meaning) -> bool
-    ensures { result ≡ spec.is_attribute meaning }
-{
-    matches!(meaning, Meaning::Attribute)
 }
 
 ghost use Rattle.std.specs.Prelude.{bytes_eq, map, position};

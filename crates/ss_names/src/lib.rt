@@ -1,13 +1,10 @@
 //! The names of a model, and warnings of suspicious words in it.
 #![tactic(auto)]
 
-mod breach;
 mod breaches;
 mod collected;
-mod counts;
 mod declarations;
 mod dropped;
-mod events;
 mod here;
 mod index;
 mod keys;
@@ -17,13 +14,11 @@ mod language;
 mod meaning;
 mod names;
 mod once;
-mod parameters;
 mod pictures;
 mod position;
 mod printed;
 mod ranked;
 mod roles;
-mod second;
 mod spoken;
 mod statements;
 mod unread;

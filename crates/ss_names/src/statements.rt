@@ -28,38 +28,6 @@ pub enum StatementRule {
     WithoutFind,
 }
 
-/// The codes of these rules. The definitions read this table too.
-pub const STATEMENT_RULES: [(&[u8], StatementRule); 5] = [
-    (b"C10", StatementRule::WrongPicture),
-    (b"C11", StatementRule::WrongMain),
-    (b"C12", StatementRule::SecondPriority),
-    (b"C13", StatementRule::WrongStart),
-    (b"C14", StatementRule::WithoutFind),
-];
-
-/// The rule with this code, as `C10`, if it is one of these.
-#[tactic(auto, unfolding(crate::specs::Statements::statement_rule))]
-pub fn statement_rule(code: &[u8]) -> Option<StatementRule>
-    ensures { result ≡ spec.statement_rule code.now }
-{
-    rule_in(code, &STATEMENT_RULES)
-}
-
-fn rule_in(
-    code: &[u8],
-    mut rows: &'static [(&'static [u8], StatementRule)],
-) -> Option<StatementRule>
-    ensures { result ≡ spec.rule_in code.now (map (λ row. (row.0.now, row.1)) rows.entry.now) }
-{
-    while let [row, rest @ ..] = rows {
-        if row.0 == code {
-            return Some(row.1);
-        }
-        rows = rest;
-    }
-    None
-}
-
 /// Whether a rule asks about the statement that this word begins.
 fn asks_about(rule: StatementRule, word: Reserved) -> bool
     ensures { result ≡ spec.asks_about rule word }
