@@ -18,7 +18,8 @@ use Rattle.ss_changes.specs.Parts.{below_of, each_of, global_part, local_part, f
 use Rattle.ss_changes.specs.Parts.{attributes_of, attribute_parts, entity_part, entities_in, absent_in, entity_parts}
 use Rattle.ss_changes.specs.Parts.{list_part, owners_in, list_parts, notices_in, notice_parts, parts_of}
 use Rattle.ss_changes.specs.Changes.{is_changed, told_of, changes_among, changes_between}
-use Rattle.ss_changes.specs.View.{local_counts, living_in, owners_among}
+use Rattle.ss_changes.specs.View.{local_counts, living_in, owners_among, attributes_among, entities_among, lists_among}
+use Rattle.ss_changes.specs.View.{single_parts}
 use Rattle.ss_changes.proofs.Orders.{below_length, below_at, both_same, below_same, each_same}
 
 -- ---- locals
@@ -43,7 +44,7 @@ below_there p s u counts frames h k =
 -- ---- entities
 
 -- those of a class
-living_at : (p : ProgramTable) (u : State) (c : ℕ) → c < length p.classes →
+pub living_at : (p : ProgramTable) (u : State) (c : ℕ) → c < length p.classes →
     slice_index_or (living_in p u) c [] ≡ living_numbers u.store c
 living_at p u c h = below_at (λ c. living_numbers u.store c) (length p.classes) c [] h
 
@@ -75,12 +76,12 @@ entities_same p s u c =
 
 -- ---- lists
 
-owners_same : (p : ProgramTable) (u : State) (owner : Owner) → IsSoundOwner (length p.classes) owner →
+pub owners_same : (p : ProgramTable) (u : State) (owner : Owner) → IsSoundOwner (length p.classes) owner →
     owners_among (living_in p u) owner ≡ owners_in u owner
 owners_same p u System h = refl
 owners_same p u (OwnedBy c) h = living_at p u c h
 
-sound_owner : (p : ProgramTable) (n : ℕ) → IsSound p → n < length p.sets →
+pub sound_owner : (p : ProgramTable) (n : ℕ) → IsSound p → n < length p.sets →
     IsSoundOwner (length p.classes) (set_of p n).owner
 sound_owner p n sound h =
     let none : SetTable = record { name = []; discipline = Fifo; owner = System; member = 0 } in
@@ -88,22 +89,6 @@ sound_owner p n sound h =
     (sound.tables.sets n none h).owner
 
 -- ---- all
-
-abbrev attributes_among : ProgramTable → List (List ℕ) → List Part
-attributes_among p living =
-    below_of (λ c. each_of (attributes_of p c) (slice_index_or living c [])) (length living)
-
-abbrev entities_among : List (List ℕ) → List (List ℕ) → List Part
-entities_among lived living =
-    below_of (λ c. each_of (entity_part c) (slice_index_or lived c [])
-    ++ each_of (entity_part c) (slice_index_or living c [])) (length living)
-
-abbrev lists_among : ProgramTable → List (List ℕ) → List Part
-lists_among p living =
-    below_of (λ n. each_of (list_part n) (owners_among living (set_of p n).owner)) (length p.sets)
-
-abbrev once : List Part
-once = parts.Taken ∷ parts.Entry ∷ parts.Clock ∷ parts.Report ∷ []
 
 attributes_same : (p : ProgramTable) (s u : State) →
     changes_among p s u (attributes_among p (living_in p u))
@@ -114,7 +99,7 @@ attributes_same p s u =
     ∙ below_same (told_of p s u) (is_changed p s u) among (attribute_parts p u) (length p.classes)
     (λ c h. ap (λ ks. changes_among p s u (each_of (attributes_of p c) ks)) (living_at p u c h))
 
-all_entities_same : (p : ProgramTable) (s u : State) →
+pub all_entities_same : (p : ProgramTable) (s u : State) →
     changes_among p s u (entities_among (living_in p s) (living_in p u))
     ≡ changes_among p s u (below_of (entity_parts p s u) (length p.classes))
 all_entities_same p s u =
@@ -137,7 +122,7 @@ lists_same p s u sound =
 abbrev pub compared : ProgramTable → State → ℕ → ℕ → List (List ℕ) → List (List ℕ) → List Part → List Part
 compared p s n count lived living notices =
     below_of global_part (length p.globals) ++ below_of (local_part n) count ++ attributes_among p living
-    ++ entities_among lived living ++ lists_among p living ++ notices_in p s ++ absent_in p s notices ++ once
+    ++ entities_among lived living ++ lists_among p living ++ notices_in p s ++ absent_in p s notices ++ single_parts
 
 pub compared_same : (p : ProgramTable) (s u : State) → IsSound p →
     changes_among p s u (compared p s (frames_below s u) (slice_index_or (local_counts p u) (frames_below s u) 0)
@@ -155,8 +140,8 @@ compared_same p s u sound =
     let to_entities = to_attributes ++ below_of (entity_parts p s u) (length p.classes) in
     let to_lists = to_entities ++ below_of (list_parts p u) (length p.sets) in
     rw (locals_there p s u)
-    (same (variables ++ attributes ++ entities ++ lists ++ earlier ++ new) once
-    (to_lists ++ (earlier ++ new)) once
+    (same (variables ++ attributes ++ entities ++ lists ++ earlier ++ new) single_parts
+    (to_lists ++ (earlier ++ new)) single_parts
     (ap (changes_among p s u) (append_assoc (variables ++ attributes ++ entities ++ lists) earlier new)
     ∙ same (variables ++ attributes ++ entities ++ lists) (earlier ++ new) to_lists (earlier ++ new)
     (same (variables ++ attributes ++ entities) lists to_entities (below_of (list_parts p u) (length p.sets))

@@ -154,7 +154,7 @@ among_notices c k (m ∷ ms) (inl e) = inl (rw (e.0, e.1) refl)
 among_notices c k (m ∷ ms) (inr h) = inr (among_notices c k ms h)
 
 -- the least is one of them
-abbrev IsOneOf : Pending → List Pending → Type 0
+abbrev pub IsOneOf : Pending → List Pending → Type 0
 IsOneOf l [] = ⊥
 IsOneOf l (m ∷ ms) = (l ≡ m) ⊎ IsOneOf l ms
 
@@ -165,7 +165,7 @@ least_by rules n m ms false l (inl e) = inl e
 least_by rules n m ms true l (inr h) = inr (inr h)
 least_by rules n m ms false l (inr h) = inr (inr h)
 
-least_is_one : (rules : List Rule) (n : Pending) (ms : List Pending) → IsOneOf (least_of rules n ms) (n ∷ ms)
+pub least_is_one : (rules : List Rule) (n : Pending) (ms : List Pending) → IsOneOf (least_of rules n ms) (n ∷ ms)
 least_is_one rules n [] = inl refl
 least_is_one rules n (m ∷ ms) =
     least_by rules n m ms (is_before rules m n) _ (least_is_one rules (cond (is_before rules m n) m n) ms)
@@ -205,7 +205,7 @@ less_by j l m ms false e f (inl same) more =
     let t : (m.notice == j) ≡ true = (Decides-eqb m.notice j).1 g in absurd (cc)
 less_by j l m ms false e f (inr h) more = omega (arith, more h)
 
-one_less : (j : ℕ) (l : Pending) (ms : List Pending) → l.notice ≡ j → IsOneOf l ms →
+pub one_less : (j : ℕ) (l : Pending) (ms : List Pending) → l.notice ≡ j → IsOneOf l ms →
     length (without_notice j ms) < length ms
 one_less j l [] f h = absurd h
 one_less j l (m ∷ ms) f h = less_by j l m ms _ refl f h (λ more. one_less j l ms f more)
@@ -221,7 +221,7 @@ stays_by j k m ms true false e f g h = h
 stays_by j k m ms false true e f g h = rw f refl
 stays_by j k m ms false false e f g h = rw f h
 
-stays : (j k : ℕ) (ms : List Pending) → (j == k) ≡ false → pending_at (without_notice j ms) k ≡ pending_at ms k
+pub stays : (j k : ℕ) (ms : List Pending) → (j == k) ≡ false → pending_at (without_notice j ms) k ≡ pending_at ms k
 stays j k [] g = refl
 stays j k (m ∷ ms) g = stays_by j k m ms _ _ refl refl g (stays j k ms g)
 

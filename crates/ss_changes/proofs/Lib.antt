@@ -6,3 +6,6 @@ pub mod Notices
 pub mod Exactness
 pub mod Saying
 pub mod Completeness
+pub mod Rising
+pub mod Pending
+pub mod Across

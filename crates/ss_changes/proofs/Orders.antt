@@ -48,7 +48,7 @@ below_at f (suc n) i d h = below_last f n i d _ refl h (λ less. below_at f n i 
 abbrev pub among : {A B : Type 0} → (A → B) → (A → Bool) → List A → List B
 among told test xs = map told (filter test xs)
 
-among_append : {A B : Type 0} (told : A → B) (test : A → Bool) (xs ys : List A) →
+pub among_append : {A B : Type 0} (told : A → B) (test : A → Bool) (xs ys : List A) →
     among told test (xs ++ ys) ≡ among told test xs ++ among told test ys
 among_append told test xs ys =
     ap (map told) (filter-append test xs ys) ∙ map-append told (filter test xs) (filter test ys)

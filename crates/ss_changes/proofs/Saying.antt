@@ -4,6 +4,7 @@ use Rattle.std.proofs.Common.{◌∙◌, ◌⊎◌, inl, inr, arith, rules, nat_
 use Rattle.std.proofs.Common.{Result, Ok, Err, OnOk}
 use Rattle.std.specs.Prelude.{codes, ◌&&◌}
 use Rattle.std.proofs.lemmas.Bool.{lt-ltb}
+use Rattle.std.proofs.lemmas.Bool.Decides.{nat_tests}
 use Rattle.ss_program.specs.Program.{ProgramTable}
 use Rattle.ss_state.specs.declared.status.Status.{Status}
 use Rattle.ss_state.specs.declared.status.Status.TheVariants.{Ready, Stopped, Finished, Faulted}
@@ -14,8 +15,9 @@ use Rattle.ss_state.specs.Run.{Input, run}
 use Rattle.ss_debug.specs.Answer.{earliest_word}
 use Rattle.ss_debug.specs.View.{DebuggerView}
 use Rattle.ss_changes.specs.declared.change.Change.{Change}
-use Rattle.ss_changes.specs.Changes.{changes_between, changed_at}
+use Rattle.ss_changes.specs.Changes.{changes_between, changed_at, changes_across, turned}
 use Rattle.ss_changes.specs.Texts.{first_changes, all_changes, changed_text, stop_changes, stop_changes_ahead}
+use Rattle.ss_changes.specs.Texts.{stop_changes_since}
 use Rattle.ss_changes.specs.View.{IsAt, HasReturned, program_of, state_of, state_before}
 
 -- a consequence of a result that holds if a call succeeded
@@ -133,3 +135,40 @@ pub ahead_told_at : (m n : Moment) → m.state ≡ run m.input (position m) → 
 ahead_told_at m n k h =
     let back : position m + 1 - 1 ≡ position m = omega arith in
     rw (h.input, h.position, back) (ahead_told m.input (position m) (rw k at h.ready) h.before_last)
+
+-- ---- a movement
+
+-- one that went forward
+since_later : (t : Input) (p q : ℕ) → p < q →
+    stop_changes_since t p q
+    ≡ first_changes (codes "CHANGED") t.program (run t q) (changes_across t.program (run t p) (run t q))
+unfolding stop_changes_since
+since_later t p q h = rw (lt-ltb p q h) refl
+
+not_less : (p q : ℕ) → q < p → nat_lt p q ≡ false
+not_less p q h = grind (arith, nat_tests, h)
+
+-- one that went back
+since_earlier : (t : Input) (p q : ℕ) → q < p →
+    stop_changes_since t p q
+    ≡ first_changes (codes "WILL CHANGE") t.program (run t q) (map turned (changes_across t.program (run t p) (run t q)))
+unfolding stop_changes_since
+since_earlier t p q h = rw (not_less p q h, lt-ltb q p h) refl
+
+-- one of no step
+pub since_same : (t : Input) (p q : ℕ) → p ≡ q → stop_changes_since t p q ≡ []
+unfolding stop_changes_since
+since_same t p q h = rw (h, not_below q) refl
+
+-- as a machine at its end shows it
+pub since_forward : (m : Moment) (p : ℕ) (cs : List Change) (old new : List ℕ) → m.state ≡ run m.input (position m) →
+    p < position m → cs ≡ changes_across m.input.program (run m.input p) m.state →
+    new ≡ old ++ first_changes (codes "CHANGED") m.input.program m.state cs →
+    new ≡ old ++ stop_changes_since m.input p (position m)
+since_forward m p cs old new here h e k = rw (since_later m.input p (position m) h, ← here, ← e) k
+
+pub since_back : (m : Moment) (p : ℕ) (cs : List Change) (old new : List ℕ) → m.state ≡ run m.input (position m) →
+    position m < p → cs ≡ map turned (changes_across m.input.program (run m.input p) m.state) →
+    new ≡ old ++ first_changes (codes "WILL CHANGE") m.input.program m.state cs →
+    new ≡ old ++ stop_changes_since m.input p (position m)
+since_back m p cs old new here h e k = rw (since_earlier m.input p (position m) h, ← here, ← e) k

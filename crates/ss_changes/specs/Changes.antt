@@ -7,7 +7,7 @@ use Rattle.ss_state.specs.Run.{Input, run}
 use Rattle.ss_changes.specs.declared.part.Part.{Part}
 use Rattle.ss_changes.specs.declared.change.Change.{Change}
 use Rattle.ss_changes.specs.Values.{value_in, is_told}
-use Rattle.ss_changes.specs.Parts.{parts_of}
+use Rattle.ss_changes.specs.Parts.{parts_of, shared_parts}
 
 -- whether a part is shown as changed between two states
 abbrev pub is_changed : ProgramTable → State → State → Part → Bool
@@ -25,6 +25,14 @@ changes_among program state u xs = map (told_of program state u) (filter (is_cha
 -- the changes between two states, in order
 abbrev pub changes_between : ProgramTable → State → State → List Change
 changes_between program state u = changes_among program state u (parts_of program state u)
+
+-- the changes between two states that are perhaps many steps apart, in order
+abbrev pub changes_across : ProgramTable → State → State → List Change
+changes_across program state u = changes_among program state u (shared_parts program state u)
+
+-- a change with its values exchanged
+abbrev pub turned : Change → Change
+turned change = record { part = change.part; before = change.after; after = change.before }
 
 -- the changes of step p
 unfoldable pub changed_at : Input → ℕ → List Change

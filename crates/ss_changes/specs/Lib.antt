@@ -4,5 +4,6 @@ pub mod Parts
 pub mod Changes
 pub mod Texts
 pub mod View
+pub mod Snapshots
 pub mod Laws
 pub mod Examples

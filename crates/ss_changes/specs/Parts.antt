@@ -1,5 +1,7 @@
 -- The parts of two states, one after the other, each kind in the order of its table.
-use Rattle.std.specs.Prelude.{ℕ, zero, suc, ◌-◌, min, not, List, [], ◌∷◌, ◌++◌, length, Option, Some, None}
+use Rattle.std.specs.Prelude.{ℕ, zero, suc, ◌-◌, min, not, Bool, false, nat_eq, if◌then◌else◌}
+use Rattle.std.specs.Prelude.{List, [], ◌∷◌, ◌++◌, length, Option, Some, None}
+use Rattle.std.specs.Option.{option_map}
 use Rattle.std.specs.List.{filter}
 use Rattle.ss_program.specs.declared.kinds.Owner.{Owner}
 use Rattle.ss_program.specs.declared.kinds.Owner.TheVariants.{System, OwnedBy}
@@ -117,12 +119,37 @@ notice_parts program state u = notices_in program state ++ absent_in program sta
 
 -- ---- all
 
--- the parts of two states: variables, locals of the last frame that both have, attributes,
--- entities, lists, notices, and the four parts of which there is one
-abbrev pub parts_of : ProgramTable → State → State → List Part
-parts_of program state u =
-    below_of global_part (length program.globals) ++ local_parts program state u
+-- the parts of two states with these locals: variables, attributes, entities, lists, notices, and the
+-- four parts of which there is one
+abbrev pub parts_with : List Part → ProgramTable → State → State → List Part
+parts_with locals program state u =
+    below_of global_part (length program.globals) ++ locals
     ++ below_of (attribute_parts program u) (length program.classes)
     ++ below_of (entity_parts program state u) (length program.classes)
     ++ below_of (list_parts program u) (length program.sets) ++ notice_parts program state u
     ++ Taken ∷ Entry ∷ Clock ∷ Report ∷ []
+
+-- the parts of two states, with the locals of the last frame that both have
+abbrev pub parts_of : ProgramTable → State → State → List Part
+parts_of program state u = parts_with (local_parts program state u) program state u
+
+-- ---- of two states that are perhaps many steps apart
+
+-- the section that the frame with n frames below it runs
+abbrev pub section_below : State → ℕ → Option ℕ
+section_below state n = option_map (λ f. f.0) (frame_place state (length state.below - n))
+
+-- whether two frames run the same section
+abbrev pub is_same_section : Option ℕ → Option ℕ → Bool
+is_same_section (Some a) (Some b) = nat_eq a b
+is_same_section _ _ = false
+
+-- the locals of the last frame that both states have, if it runs the same section in both
+abbrev pub shared_locals : ProgramTable → State → State → List Part
+shared_locals program state u =
+    if is_same_section (section_below state (frames_below state u)) (section_below u (frames_below state u))
+    then local_parts program state u else []
+
+-- the parts of two states, but no locals of a frame that runs another section in each
+abbrev pub shared_parts : ProgramTable → State → State → List Part
+shared_parts program state u = parts_with (shared_locals program state u) program state u

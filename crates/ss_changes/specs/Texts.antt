@@ -1,6 +1,6 @@
--- The texts that show the changes of a step.
+-- The texts that show the changes of a step, or of a movement.
 use Rattle.std.specs.Prelude.{ℕ, ◌+◌, ◌-◌, nat_lt, ◌&&◌, if◌then◌else◌, List, [], ◌∷◌, ◌++◌, length, take, codes}
-use Rattle.std.specs.Prelude.{decimal, slice_index_or}
+use Rattle.std.specs.Prelude.{decimal, slice_index_or, map}
 use Rattle.std.specs.Fmt.{signed_decimal}
 use Rattle.ss_program.specs.declared.kinds.Owner.{Owner}
 use Rattle.ss_program.specs.declared.kinds.Owner.TheVariants.{System, OwnedBy}
@@ -20,7 +20,7 @@ use Rattle.ss_changes.specs.declared.value.PartValue.TheVariants.{Absent, Number
 use Rattle.ss_changes.specs.declared.change.Change.{Change}
 use Rattle.ss_changes.specs.declared.limits.TheConstants.{MOST_TOLD, MOST_LISTED, MOST_COLUMNS}
 use Rattle.ss_changes.specs.Parts.{local_names}
-use Rattle.ss_changes.specs.Changes.{changed_at}
+use Rattle.ss_changes.specs.Changes.{changed_at, changes_across, turned}
 
 -- ---- parts
 
@@ -139,3 +139,11 @@ unfoldable pub stop_changes_ahead : Input → ℕ → List ℕ
 stop_changes_ahead input p =
     if is_ready_at input p && nat_lt p LAST_POSITION
     then first_changes (codes "WILL CHANGE") input.program (run input (p + 1)) (changed_at input p) else []
+
+-- the text at the stop in state q of a movement from state p: what differs, as what changed going
+-- forward, or as what will change on the way to state p again
+unfoldable pub stop_changes_since : Input → ℕ → ℕ → List ℕ
+stop_changes_since input p q =
+    let changes = changes_across input.program (run input p) (run input q) in
+    if nat_lt p q then first_changes (codes "CHANGED") input.program (run input q) changes else
+    if nat_lt q p then first_changes (codes "WILL CHANGE") input.program (run input q) (map turned changes) else []

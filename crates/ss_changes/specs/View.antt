@@ -2,17 +2,18 @@
 use Rattle.std.specs.Prelude.{ℕ, suc, ◌≡◌, ◌+◌, ◌-◌, ◌≤◌, List, [], ◌∷◌, ◌++◌, length, slice_index_or, if◌then◌else◌}
 use Rattle.ss_program.specs.declared.kinds.Owner.{Owner}
 use Rattle.ss_program.specs.declared.kinds.Owner.TheVariants.{System, OwnedBy}
-use Rattle.ss_program.specs.Program.{ProgramTable}
+use Rattle.ss_program.specs.Program.{ProgramTable, set_of}
 use Rattle.ss_state.specs.State.{State}
 use Rattle.ss_machine.specs.Moment.{position}
 use Rattle.ss_state.specs.Run.{run}
 use Rattle.ss_debug.specs.View.{DebuggerView}
 use Rattle.ss_inspect.specs.Living.{living_numbers}
 use Rattle.ss_changes.specs.declared.part.Part.{Part}
+use Rattle.ss_changes.specs.declared.part.Part.TheVariants.{Taken, Entry, Clock, Report}
 use Rattle.ss_changes.specs.declared.change.Change.{Change}
 use Rattle.ss_changes.specs.declared.value.PartValue.{PartValue}
 use Rattle.ss_changes.specs.Values.{value_in, is_told}
-use Rattle.ss_changes.specs.Parts.{below_of, local_names}
+use Rattle.ss_changes.specs.Parts.{below_of, each_of, local_names, attributes_of, entity_part, list_part}
 
 -- a debugger is at position q of the run, and all else is as it was
 pub record IsAt (old : DebuggerView) (q : ℕ) (new : DebuggerView) : Type 0 where
@@ -89,3 +90,23 @@ abbrev pub told_against : ProgramTable → State → List Part → List PartValu
 told_against program u [] values = []
 told_against program u (x ∷ xs) [] = []
 told_against program u (x ∷ xs) (v ∷ vs) = told_if x v (value_in program u x) ++ told_against program u xs vs
+
+-- the attributes of some entities of each class
+abbrev pub attributes_among : ProgramTable → List (List ℕ) → List Part
+attributes_among program living =
+    below_of (λ c. each_of (attributes_of program c) (slice_index_or living c [])) (length living)
+
+-- some entities of each class, then others
+abbrev pub entities_among : List (List ℕ) → List (List ℕ) → List Part
+entities_among lived living =
+    below_of (λ c. each_of (entity_part c) (slice_index_or lived c [])
+    ++ each_of (entity_part c) (slice_index_or living c [])) (length living)
+
+-- the lists of each set, for the system or for some entities of each class
+abbrev pub lists_among : ProgramTable → List (List ℕ) → List Part
+lists_among program living =
+    below_of (λ n. each_of (list_part n) (owners_among living (set_of program n).owner)) (length program.sets)
+
+-- the parts of which there is one
+abbrev pub single_parts : List Part
+single_parts = Taken ∷ Entry ∷ Clock ∷ Report ∷ []

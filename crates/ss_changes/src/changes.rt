@@ -43,7 +43,7 @@ fn push_if_told<S: SetBoard>(
 }
 
 /// Appends those of some parts that are shown, with these values before and their values now.
-fn push_told<S: SetBoard>(
+pub fn push_told<S: SetBoard>(
     alloc: Global,
     machine: &Machine<S>,
     parts: &[Part],

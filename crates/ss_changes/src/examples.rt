@@ -5,6 +5,7 @@ ghost use Rattle.std.specs.Prelude.{◌≡◌, ◌++◌, [], codes, replicate};
 ghost use Rattle.ss_inspect.specs.Examples as seen;
 ghost use Rattle.ss_changes.specs.declared.value.PartValue.TheVariants.{Listed};
 ghost use Rattle.ss_changes.specs.Texts.{changed_text, stop_changes, stop_changes_ahead};
+ghost use Rattle.ss_changes.specs.Texts.{stop_changes_since};
 ghost use Rattle.ss_changes.specs.Texts.{brief_text, cut_text};
 ghost use Rattle.ss_changes.specs.Examples as e;
 
@@ -79,4 +80,35 @@ fn edges_of_what_is_kept_are_told()
     ensures last { changed_text e.jobs_run 0 13 ≡ codes "NOTHING CHANGED\n" }
     ensures last_alone_kept { changed_text e.jobs_run 12 13 ≡ codes "NOTHING CHANGED\n" }
     ensures last_at_stop { stop_changes e.jobs_run 12 13 ≡ [] }
+{}
+
+/// Movements forward over several steps: what differs, and not what changed on the way; locals of
+/// the last frame that both states have.
+fn movements_tell_what_differs()
+    ensures far { stop_changes_since e.jobs_run 0 5
+        ≡ codes "CHANGED VAR JOB: 0 -> 1\nCHANGED VAR N: 0 -> 3\nCHANGED VAR M: 0 -> 4\n"
+        ++ codes "CHANGED VAR X: 0 -> 9\nCHANGED JOB 1: NONE -> LIVES\nAND 2 MORE\n" }
+    ensures filed { stop_changes_since e.jobs_run 5 10
+        ≡ codes "CHANGED VAR X: 9 -> 5\nCHANGED JOB 1 SIZE: 0 -> 5\nCHANGED SET ROW: 1 -> EMPTY\n" }
+    ensures out { stop_changes_since e.jobs_run 6 8 ≡ codes "CHANGED VAR X: 9 -> 5\n" }
+    ensures call { stop_changes_since e.jobs_run 5 7 ≡ [] }
+    ensures nothing { stop_changes_since e.jobs_run 4 4 ≡ [] }
+    ensures passed { stop_changes_since seen.ticks_run 0 2
+        ≡ codes "CHANGED VAR TICK: 0 -> 1\nCHANGED CLOCK: 0 -> 3\n" }
+    ensures notices { stop_changes_since seen.ticks_run 1 3
+        ≡ codes "CHANGED TICK 1: LIVES -> NONE\nCHANGED TICK 1 AT: 3 -> NONE\n"
+        ++ codes "CHANGED CLOCK: 0 -> 3\nCHANGED REPORT: 0 BYTES -> 2 BYTES\n" }
+{}
+
+/// Movements back over several steps: the values in the state reached come first.
+fn movements_back_tell_what_will_differ()
+    ensures entity { stop_changes_since e.jobs_run 5 3
+        ≡ codes "WILL CHANGE VAR JOB: 0 -> 1\nWILL CHANGE JOB 1: NONE -> LIVES\n"
+        ++ codes "WILL CHANGE SET ROW: EMPTY -> 1\n" }
+    ensures local { stop_changes_since e.jobs_run 7 6 ≡ codes "WILL CHANGE VAR Q: 0 -> 5\n" }
+    ensures ended { stop_changes_since e.jobs_run 11 10
+        ≡ codes "WILL CHANGE JOB 1: LIVES -> NONE\n" }
+    ensures notices { stop_changes_since seen.ticks_run 3 1
+        ≡ codes "WILL CHANGE TICK 1: LIVES -> NONE\nWILL CHANGE TICK 1 AT: 3 -> NONE\n"
+        ++ codes "WILL CHANGE CLOCK: 0 -> 3\nWILL CHANGE REPORT: 0 BYTES -> 2 BYTES\n" }
 {}

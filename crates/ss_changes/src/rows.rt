@@ -1,6 +1,6 @@
-//! The names of a frame's locals.
+//! The section of a frame, and the names of its locals.
 ghost use Rattle.std.specs.Prelude.{◌≡◌};
-ghost use Rattle.ss_changes.specs.Parts.{names_in, local_names};
+ghost use Rattle.ss_changes.specs.Parts.{names_in, local_names, section_below, is_same_section};
 
 use ss_links::SetBoard;
 use ss_machine::Machine;
@@ -22,4 +22,23 @@ pub fn local_names<S: SetBoard>(machine: &Machine<S>, below: usize) -> &[Name]
 {
     let depth = (machine.frames() - 1).saturating_sub(below);
     names_in(machine.program(), machine.frame_place(depth))
+}
+
+/// The section that the frame with `below` frames below it runs.
+pub fn section_below<S: SetBoard>(machine: &Machine<S>, below: usize) -> Option<usize>
+    ensures { result ≡ section_below machine.now.state below }
+{
+    let depth = (machine.frames() - 1).saturating_sub(below);
+    let (section, _) = machine.frame_place(depth)?;
+    Some(section)
+}
+
+/// Whether two frames run the same section.
+pub fn is_same_section(one: Option<usize>, other: Option<usize>) -> bool
+    ensures { result ≡ is_same_section one other }
+{
+    match (one, other) {
+        (Some(one), Some(other)) => one == other,
+        _ => false,
+    }
 }
