@@ -6,14 +6,15 @@ ghost use Rattle.ss_check.specs.AskedView.{asked_fault_view};
 ghost use Rattle.ss_values.specs.Values.{value_of, subscript_value};
 ghost use Rattle.ss_values.specs.Conditions.{holds};
 ghost use Rattle.ss_expressions.specs.Answers as spec;
-ghost use Rattle.ss_expressions.specs.Senses.{IsSoundSense, set_in};
+ghost use Rattle.ss_expressions.specs.Senses.{IsSoundSense, judged_sense, set_in};
 ghost use Rattle.ss_expressions.specs.SensesView.{sense_view};
 ghost use Rattle.ss_expressions.specs.AskedView.{asked_view};
+ghost use Rattle.ss_expressions.specs.WantedView.{wanted_view};
 
 use crate::asked::{Asked, asked_in};
 use crate::listed::{push_class, push_list};
 use crate::sense::{Sense, judged, set_in};
-use crate::wanted::wanted_of;
+use crate::wanted::{Wanted, wanted_of};
 use ss_check::{AskedFault, CheckRule, SymbolTable};
 use ss_debug::{push_integer, push_number};
 use ss_links::SetBoard;
@@ -189,8 +190,31 @@ fn push_sense<S: SetBoard>(
     }
 }
 
-/// The answer to what is asked.
+/// The answer to what is wanted, by the names of the section of the last frame.
 #[tactic(auto, using(crate::proofs::Scopes::sense_sound))]
+fn answer_wanted<S: SetBoard>(
+    alloc: Global,
+    machine: &Machine<S>,
+    symbols: &SymbolTable,
+    text: &[u8],
+    wanted: &Wanted,
+) -> Result<Vec<u8>, AllocError>
+    requires { IsSymbolsOf machine.now.input.program symbols.now }
+    ensures { IfOk result (λ answer. answer.items
+        ≡ spec.judged_answer machine.now.input.program machine.now.state text.now
+        (judged_sense symbols.now machine.now.state.frame.section (wanted_view wanted.now))) }
+{
+    machine.known();
+    let (section, _) = machine.place();
+    let mut answer = Vec::new(alloc);
+    match judged(symbols, section, wanted)? {
+        Ok(sense) => push_sense(&mut answer, machine, text, &sense)?,
+        Err(fault) => push_refused(&mut answer, fault)?,
+    }
+    Ok(answer)
+}
+
+/// The answer to what is asked.
 fn answer_to<S: SetBoard>(
     alloc: Global,
     machine: &Machine<S>,
@@ -203,15 +227,8 @@ fn answer_to<S: SetBoard>(
         ≡ spec.answer_to symbols.now machine.now.input.program machine.now.state text.now
         (asked_view asked)) }
 {
-    machine.known();
-    let (section, _) = machine.place();
     let wanted = wanted_of(alloc, machine.program(), asked);
-    let mut answer = Vec::new(alloc);
-    match judged(symbols, section, &wanted)? {
-        Ok(sense) => push_sense(&mut answer, machine, text, &sense)?,
-        Err(fault) => push_refused(&mut answer, fault)?,
-    }
-    Ok(answer)
+    answer_wanted(alloc, machine, symbols, text, &wanted)
 }
 
 /// The answer to a text that is an expression or a condition of the language (docs/LANGUAGE.md,

@@ -14,12 +14,13 @@ ghost use Rattle.ss_expressions.specs.MeaningsView.{meant_view};
 ghost use Rattle.ss_expressions.specs.Senses.{judged_sense, set_in, IsSoundSense};
 ghost use Rattle.ss_expressions.specs.SensesView.{sense_view};
 ghost use Rattle.ss_expressions.specs.Wanted.{wanted_of};
+ghost use Rattle.ss_expressions.specs.WantedView.{wanted_view};
 
 use crate::answer::{push_list_of, push_refused};
 use crate::asked::{Asked, asked_in};
 use crate::listed::{list_value, push_class};
 use crate::sense::{Sense, judged, set_in};
-use crate::wanted::wanted_of;
+use crate::wanted::{Wanted, wanted_of};
 use ss_check::SymbolTable;
 use ss_inspect::living_numbers;
 use ss_links::SetBoard;
@@ -277,6 +278,27 @@ pub enum Meant {
     Refused(Vec<u8>),
 }
 
+/// The meaning of what is wanted in the section with this number, or the answer that says why it has
+/// none.
+fn meaning_wanted(
+    alloc: Global,
+    symbols: &SymbolTable,
+    section: usize,
+    wanted: &Wanted,
+) -> Result<Meant, AllocError>
+    ensures { IfOk result (λ m. meant_view m ≡ spec.meant_judged section
+        (judged_sense symbols.now section (wanted_view wanted.now))) }
+{
+    match judged(symbols, section, wanted)? {
+        Ok(sense) => Ok(Meant::As(Meaning::new(alloc, section, sense))),
+        Err(fault) => {
+            let mut answer = Vec::new(alloc);
+            push_refused(&mut answer, fault)?;
+            Ok(Meant::Refused(answer))
+        }
+    }
+}
+
 /// The meaning of what is asked in the section with this number, or the answer that says why it has
 /// none.
 #[tactic(auto, using(crate::proofs::Scopes::sense_sound))]
@@ -295,14 +317,7 @@ fn meaning_judged<S: SetBoard>(
         (λ m. spec.IsSoundMeant machine.now.input.program (meant_view m)) }
 {
     let wanted = wanted_of(alloc, machine.program(), asked);
-    match judged(symbols, section, &wanted)? {
-        Ok(sense) => Ok(Meant::As(Meaning::new(alloc, section, sense))),
-        Err(fault) => {
-            let mut answer = Vec::new(alloc);
-            push_refused(&mut answer, fault)?;
-            Ok(Meant::Refused(answer))
-        }
-    }
+    meaning_wanted(alloc, symbols, section, &wanted)
 }
 
 /// The meaning of a text that is an expression, a condition, a list or the name of a class

@@ -5,16 +5,20 @@ ghost use Rattle.ss_check.specs.Asked.{IsSymbolsOf};
 ghost use Rattle.ss_check.specs.AskedView.{asked_fault_view};
 ghost use Rattle.ss_readings.specs.ValueView.{value_if};
 ghost use Rattle.ss_expressions.specs.Answers.{refused_answer};
+ghost use Rattle.ss_expressions.specs.AskedView.{asked_view};
 ghost use Rattle.ss_expressions.specs.Meanings.{IsMeaningOf};
 ghost use Rattle.ss_expressions.specs.MeaningsView.{meant_view};
+ghost use Rattle.ss_expressions.specs.Senses.{judged_sense};
 ghost use Rattle.ss_expressions.specs.Valued as spec;
 ghost use Rattle.ss_expressions.specs.ValuedView.{judgement_view};
+ghost use Rattle.ss_expressions.specs.Wanted.{wanted_of};
+ghost use Rattle.ss_expressions.specs.WantedView.{wanted_view};
 
 use crate::answer::push_refused;
-use crate::asked::asked_in;
+use crate::asked::{Asked, asked_in};
 use crate::meaning::{Meant, meaning_of};
 use crate::sense::judged;
-use crate::wanted::wanted_of;
+use crate::wanted::{Wanted, wanted_of};
 use ss_check::{AskedFault, SymbolTable};
 use ss_links::SetBoard;
 use ss_machine::Machine;
@@ -78,6 +82,37 @@ fn refusal(alloc: Global, fault: AskedFault<'_>) -> Result<Vec<u8>, AllocError>
     Ok(answer)
 }
 
+/// Whether what is wanted has a meaning by the names of the section with this number, or why not.
+fn judgement_wanted(
+    alloc: Global,
+    symbols: &SymbolTable,
+    section: usize,
+    wanted: &Wanted,
+) -> Result<Judgement, AllocError>
+    ensures { IfOk result (λ j. judgement_view j
+        ≡ spec.judgement (judged_sense symbols.now section (wanted_view wanted.now))) }
+{
+    match judged(symbols, section, wanted)? {
+        Ok(_) => Ok(Judgement::Meant),
+        Err(fault) => Ok(Judgement::Refused(refusal(alloc, fault)?)),
+    }
+}
+
+/// Whether what is asked has a meaning by the names of the section with this number, or why not.
+fn judgement_asked(
+    alloc: Global,
+    program: &Program,
+    symbols: &SymbolTable,
+    section: usize,
+    asked: Asked,
+) -> Result<Judgement, AllocError>
+    ensures { IfOk result (λ j. judgement_view j ≡ spec.judgement
+        (judged_sense symbols.now section (wanted_of program.now (asked_view asked)))) }
+{
+    let wanted = wanted_of(alloc, program, asked);
+    judgement_wanted(alloc, symbols, section, &wanted)
+}
+
 /// What a text comes to by the names of the section with this number: whether it has a meaning
 /// there, or why not. `None` if it is no expression, condition, list or name of a class.
 ///
@@ -93,12 +128,8 @@ pub fn judged_text(
     ensures { IfOk result (λ o. option_view judgement_view o
         ≡ spec.judged_text symbols.now program.now section text.now) }
 {
-    let Some(asked) = asked_in(alloc, text)? else {
-        return Ok(None);
-    };
-    let wanted = wanted_of(alloc, program, asked);
-    match judged(symbols, section, &wanted)? {
-        Ok(_) => Ok(Some(Judgement::Meant)),
-        Err(fault) => Ok(Some(Judgement::Refused(refusal(alloc, fault)?))),
+    match asked_in(alloc, text)? {
+        None => Ok(None),
+        Some(asked) => Ok(Some(judgement_asked(alloc, program, symbols, section, asked)?)),
     }
 }

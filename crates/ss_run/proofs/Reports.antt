@@ -31,15 +31,15 @@ unfolding ReportSays
 refused_end (Refused line) whole (load.Text rule number) model data_text asked old e r o =
     let r = rw e at r in
     ((inl (rule, number, o, r.0), appends_none _, refl), (inl (rule, number, o, r.1), r.2, r.3))
-refused_end (Refused line) whole (load.Check rule number) model data_text asked old e r o =
+refused_end (Refused line) whole (load.Check rule number wrong) model data_text asked old e r o =
     let r = rw e at r in
-    ((inr (rule, number, o, r.0), appends_none _, refl), (inr (rule, number, o, r.1), r.2, r.3))
+    ((inr (rule, number, o.0, r.0), appends_none _, refl), (inr (rule, number, wrong, o.0, o.1, r.1), r.2, r.3))
 refused_end (Refused line) whole load.Memory model data_text asked old e r o = absurd r
 refused_end Done whole (load.Text rule number) model data_text asked old e r o = absurd (rw e at r)
-refused_end Done whole (load.Check rule number) model data_text asked old e r o = absurd (rw e at r)
+refused_end Done whole (load.Check rule number wrong) model data_text asked old e r o = absurd (rw e at r)
 refused_end Done whole load.Memory model data_text asked old e r o = absurd r
 refused_end (Faulted line) whole (load.Text rule number) model data_text asked old e r o = absurd (rw e at r)
-refused_end (Faulted line) whole (load.Check rule number) model data_text asked old e r o = absurd (rw e at r)
+refused_end (Faulted line) whole (load.Check rule number wrong) model data_text asked old e r o = absurd (rw e at r)
 refused_end (Faulted line) whole load.Memory model data_text asked old e r o = absurd r
 
 -- the results for a model that was not loaded

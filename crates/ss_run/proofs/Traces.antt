@@ -14,6 +14,7 @@ use Rattle.ss_state.specs.Run.{Input, input_with}
 use Rattle.ss_debug.specs.Move.{is_ready_at}
 use Rattle.ss_session.specs.declared.load.LoadFault.{LoadFault}
 use Rattle.ss_session.specs.declared.load.LoadFault.TheVariants as load
+use Rattle.ss_check.specs.declared.wrong.Wrong.{Wrong}
 use Rattle.ss_session.specs.Load.{IsLoadFault}
 use Rattle.ss_session.specs.Model.{IsOfModel}
 use Rattle.ss_session.specs.Texts.{OutletState}
@@ -252,10 +253,11 @@ trace_says (Err cut) program symbols model data_text ms asked old new trace trac
     inr (h.2, (program, symbols, o, part))
 
 ends_refused : (end : RunEnd) (whole : WholeRun) (model data_text code : List ℕ) (number : ℕ) (ms : List Measure)
-    (trace : OutletState) → RefusesBy end whole model code number → EndsTraced end model data_text ms trace trace
-ends_refused (Refused line) whole model data_text code number ms trace r = (appends_none trace.taken, refl)
-ends_refused Done whole model data_text code number ms trace r = absurd r
-ends_refused (Faulted line) whole model data_text code number ms trace r = absurd r
+    (trace : OutletState) (wrong : Wrong) → RefusesBy end whole model code number wrong →
+    EndsTraced end model data_text ms trace trace
+ends_refused (Refused line) whole model data_text code number ms trace wrong r = (appends_none trace.taken, refl)
+ends_refused Done whole model data_text code number ms trace wrong r = absurd r
+ends_refused (Faulted line) whole model data_text code number ms trace wrong r = absurd r
 
 ends_unread : (end : RunEnd) (whole : WholeRun) (model data_text code : List ℕ) (number : ℕ) (ms : List Measure)
     (trace : OutletState) → RefusesText end whole model code number → EndsTraced end model data_text ms trace trace
@@ -267,8 +269,8 @@ no_trace : (whole : WholeRun) (fault : LoadFault) (model data_text : List ℕ) (
     (trace : OutletState) → IsRefusal (Ok whole) model fault → EndsTraced whole.end model data_text ms trace trace
 no_trace whole (load.Text rule number) model data_text ms trace r =
     ends_unread whole.end whole model data_text _ number ms trace r
-no_trace whole (load.Check rule number) model data_text ms trace r =
-    ends_refused whole.end whole model data_text _ number ms trace r
+no_trace whole (load.Check rule number wrong) model data_text ms trace r =
+    ends_refused whole.end whole model data_text _ number ms trace wrong r
 no_trace whole load.Memory model data_text ms trace r = absurd r
 
 -- the results for a model that was not loaded

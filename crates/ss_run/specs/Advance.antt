@@ -19,6 +19,7 @@ use Rattle.ss_run.specs.declared.whole_run.RunCut.{RunCut}
 use Rattle.ss_run.specs.declared.whole_run.RunCut.TheVariants.{Write, Memory}
 use Rattle.ss_run.specs.declared.whole_run.WholeRun.{WholeRun}
 use Rattle.ss_sentences.specs.Refusals.{IsSaid}
+use Rattle.ss_check.specs.declared.wrong.Wrong.{Wrong}
 use Rattle.ss_run.specs.Explained.{refusal_explanation}
 use Rattle.ss_run.specs.Report.{IsRunEnd, SaysEnd, RunEnds}
 use Rattle.ss_run.specs.Results.{Wanted}
@@ -58,18 +59,19 @@ RefusesText Done whole model code number = ⊥
 RefusesText (Faulted line) whole model code number = ⊥
 
 -- the result for a model that the rule of the checker with this code refuses
-abbrev pub RefusesBy : RunEnd → WholeRun → List ℕ → List ℕ → ℕ → Type 0
-RefusesBy (Refused line) whole model code number =
+abbrev pub RefusesBy : RunEnd → WholeRun → List ℕ → List ℕ → ℕ → Wrong → Type 0
+RefusesBy (Refused line) whole model code number wrong =
     (line.items ≡ refusal_line code number)
-    × (whole.explanation.items ≡ refusal_explanation model code number) × (whole.unfit ≡ 0)
+    × (whole.explanation.items ≡ refusal_explanation model code number wrong) × (whole.unfit ≡ 0)
     × (whole.results.items ≡ [])
-RefusesBy Done whole model code number = ⊥
-RefusesBy (Faulted line) whole model code number = ⊥
+RefusesBy Done whole model code number wrong = ⊥
+RefusesBy (Faulted line) whole model code number wrong = ⊥
 
 -- the result for a model that was not loaded
 abbrev pub IsRefusal : Result WholeRun RunCut → List ℕ → LoadFault → Type 0
 IsRefusal (Ok whole) model (load.Text rule number) = RefusesText whole.end whole model (text_rule_code rule) number
-IsRefusal (Ok whole) model (load.Check rule number) = RefusesBy whole.end whole model (check_rule_code rule) number
+IsRefusal (Ok whole) model (load.Check rule number wrong) =
+    RefusesBy whole.end whole model (check_rule_code rule) number wrong
 IsRefusal (Ok whole) model load.Memory = ⊥
 IsRefusal (Err Memory) model fault = Unit {0}
 IsRefusal (Err Write) model fault = ⊥

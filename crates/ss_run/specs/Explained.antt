@@ -4,6 +4,7 @@ use Rattle.std.specs.Prelude.{zero, suc, Some, if◌then◌else◌}
 use Rattle.std.specs.List.{before_first, after_first}
 use Rattle.ss_program.specs.Program.{ProgramTable}
 use Rattle.ss_state.specs.State.{State}
+use Rattle.ss_check.specs.declared.wrong.Wrong.{Wrong}
 use Rattle.ss_debug.specs.CommandLines.{separates, line_separators}
 use Rattle.ss_sentences.specs.Wording.{rule_sentence}
 use Rattle.ss_faults.specs.Sentence.{fault_text}
@@ -33,8 +34,7 @@ abbrev pub line_of_text : List ℕ → ℕ → List ℕ
 line_of_text text l = without_return (before_first (separates line_separators) (behind_lines (l - 1) text))
 
 -- the text after the line of a model that the rule of the checker with this code refuses at line l:
--- the rule's sentence, the line of the model after its number, and the name that the breach is
--- about
-unfoldable pub refusal_explanation : List ℕ → List ℕ → ℕ → List ℕ
-refusal_explanation model code l =
-    rule_line code ++ decimal l ++ codes "> " ++ line_of_text model l ++ codes "\n" ++ breach_text model code l
+-- the rule's sentence, the line of the model after its number, and what is wrong
+unfoldable pub refusal_explanation : List ℕ → List ℕ → ℕ → Wrong → List ℕ
+refusal_explanation model code l wrong =
+    rule_line code ++ decimal l ++ codes "> " ++ line_of_text model l ++ codes "\n" ++ breach_text model l wrong

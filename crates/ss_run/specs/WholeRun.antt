@@ -6,6 +6,8 @@ use Rattle.ss_check.specs.CheckRules.{check_rule_code}
 use Rattle.ss_check.specs.Symbols.{Symbols}
 use Rattle.ss_program.specs.Program.{ProgramTable}
 use Rattle.ss_state.specs.Run.{Input, run, input_with}
+use Rattle.ss_check.specs.declared.wrong.Wrong.{Wrong}
+use Rattle.ss_session.specs.Load.{IsWrong}
 use Rattle.ss_session.specs.Model.{refused_text, refused_check, IsOfModel, IsOutcome}
 use Rattle.ss_session.specs.Texts.{OutletState}
 use Rattle.ss_run.specs.declared.whole_run.RunEnd.{RunEnd}
@@ -33,13 +35,14 @@ TellsRun whole model data_text asked =
     × (p : ℕ) × IsRunEnd (input_with program data_text) p
     × TellsEnd whole data_text (input_with program data_text) (wanted asked symbols) p
 
--- those of a refused model: the explanation of its text, or the checker's sentence and the line
+-- those of a refused model: the explanation of its text, or the checker's sentence, the line and what is wrong
 abbrev pub TellsRefusal : WholeRun → List ℕ → Type 0
 TellsRefusal whole model =
     ((rule : TextRule) × (number : ℕ) × IsOutcome model (refused_text rule number)
     × IsSaid model whole.explanation.items)
-    ⊎ ((rule : CheckRule) × (number : ℕ) × IsOutcome model (refused_check rule number)
-    × (whole.explanation.items ≡ refusal_explanation model (check_rule_code rule) number))
+    ⊎ ((rule : CheckRule) × (number : ℕ) × (wrong : Wrong) × IsOutcome model (refused_check rule number)
+    × IsWrong model rule number wrong
+    × (whole.explanation.items ≡ refusal_explanation model (check_rule_code rule) number wrong))
 
 -- the one or the other, by how the run ended
 abbrev pub TellsBeside : RunEnd → WholeRun → List ℕ → List ℕ → Asked → Type 0

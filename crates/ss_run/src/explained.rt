@@ -4,6 +4,7 @@ ghost use Rattle.ss_run.specs.Explained.{end_explanation, rule_line, without_ret
 ghost use Rattle.ss_run.specs.Explained.{refusal_explanation};
 
 use itoa::Buffer;
+use ss_check::Wrong;
 use ss_debug::split_line;
 use ss_faults::push_fault_sentence;
 use ss_links::SetBoard;
@@ -63,16 +64,17 @@ fn line_of_text(text: &[u8], number: usize) -> &[u8]
 }
 
 /// The text after the line of a model that is refused by the rule of the checker with this code at
-/// this line: the rule's sentence, the line of the model after its number, and the name that the
-/// breach is about.
+/// this line: the rule's sentence, the line of the model after its number, and what is wrong.
 #[tactic(auto, unfolding(crate::specs::Explained::refusal_explanation))]
 pub fn rule_explanation(
     alloc: Global,
     model: &[u8],
     code: &str,
     line: usize,
+    wrong: &Wrong,
 ) -> Result<Vec<u8>, AllocError>
-    ensures { IfOk result (λ text. text.items ≡ refusal_explanation model.now code.now line) }
+    ensures { IfOk result
+        (λ text. text.items ≡ refusal_explanation model.now code.now line wrong.now) }
 {
     let mut buffer = Buffer::new();
     let mut text = Vec::new(alloc);
@@ -81,6 +83,6 @@ pub fn rule_explanation(
     text.extend_from_slice(b"> ")?;
     text.extend_from_slice(line_of_text(model, line))?;
     text.extend_from_slice(b"\n")?;
-    push_breach(alloc, model, code, line, &mut text)?;
+    push_breach(alloc, model, line, wrong, &mut text)?;
     Ok(text)
 }

@@ -11,6 +11,7 @@ mod laws;
 mod measure;
 mod results;
 mod rows;
+mod start;
 mod traced;
 mod warned;
 mod watched;

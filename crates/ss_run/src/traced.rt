@@ -15,14 +15,16 @@ use crate::here::{Here, read_here};
 use crate::last_seen::LastSeen;
 use crate::results::{Asked, Wanted, with_symbols};
 use crate::rows::{head_row, keep_all, push_changes};
+use crate::start::linked_machine;
 use crate::watched::{Watched, watched_all};
 use crate::whole_run::{
     MOST_KEPT, Progress, RunCut, STEPS_BETWEEN, WholeRun, refusal, write_report,
 };
 use ss_debug::{Command, Debugger, obey};
-use ss_links::{LinkedSets, SetBoard};
+use ss_links::SetBoard;
 use ss_machine::Machine;
-use ss_session::{Loaded, Outlet, load_with_symbols, machine, put_all};
+use ss_program::Program;
+use ss_session::{Loaded, Outlet, load_with_symbols, put_all};
 use ss_state::Stepped;
 use std::alloc::{AllocError, Global};
 
@@ -256,8 +258,37 @@ fn trace_run<S: SetBoard, P: Progress, T: Outlet, W: Outlet>(
     written
 }
 
-/// Makes the run of a program over its data and its trace, and writes its report.
+/// Makes the run of a program over some data and its trace, and writes its report.
 fn trace_program<P: Progress, T: Outlet, W: Outlet>(
+    alloc: Global,
+    program: Program,
+    asked: Wanted<'_>,
+    progress: &mut P,
+    outlets: &mut Outlets<T, W>,
+) -> Result<WholeRun, RunCut>
+    requires symbols { IsSymbolsOf program asked.symbols.now }
+    requires trace_room { T.failures outlets.old.trace < 2 ^ 64 - 1 }
+    requires room { W.failures outlets.old.report < 2 ^ 64 - 1 }
+    ensures { MakesTrace result asked.entry.data_text.now
+        (input_with program asked.entry.data_text.now) asked.entry.watched.now
+        (record {
+          name = asked.entry.name.now;
+          results = asked.entry.results.now;
+          symbols = asked.entry.symbols.now;
+        })
+        (record { taken = W.taken outlets.old.report; failures = W.failures outlets.old.report })
+        (record { taken = W.taken outlets.new.report; failures = W.failures outlets.new.report })
+        (record { taken = T.taken outlets.old.trace; failures = T.failures outlets.old.trace })
+        (record { taken = T.taken outlets.new.trace; failures = T.failures outlets.new.trace }) }
+{
+    match linked_machine(alloc, program, asked.data_text) {
+        Ok(machine) => trace_run(alloc, machine, asked, progress, outlets),
+        Err(_) => Err(RunCut::Memory),
+    }
+}
+
+/// Makes the run of a program that was read and its trace, and writes its report.
+fn trace_loaded<P: Progress, T: Outlet, W: Outlet>(
     alloc: Global,
     loaded: Loaded,
     asked: Asked<'_>,
@@ -280,14 +311,13 @@ fn trace_program<P: Progress, T: Outlet, W: Outlet>(
         (record { taken = T.taken outlets.new.trace; failures = T.failures outlets.new.trace }) }
 {
     let Loaded { program, symbols } = loaded;
-    let (sets, pending) = (LinkedSets::new(alloc), LinkedSets::new(alloc));
-    match machine(alloc, program, asked.data_text, sets, pending) {
-        Ok(machine) => {
-            let wanted = with_symbols(asked, &symbols);
-            trace_run(alloc, machine, wanted, progress, outlets)
-        }
-        Err(_) => Err(RunCut::Memory),
-    }
+    trace_program(
+        alloc,
+        program,
+        with_symbols(asked, &symbols),
+        progress,
+        outlets,
+    )
 }
 
 /// As `run_model`, and writes a trace of what is watched as the run goes.
@@ -320,7 +350,7 @@ pub fn trace_model<P: Progress, T: Outlet, W: Outlet>(
         (record { taken = T.taken outlets.new.trace; failures = T.failures outlets.new.trace }) }
 {
     match load_with_symbols(alloc, model) {
-        Ok(loaded) => trace_program(alloc, loaded, asked, progress, outlets),
-        Err(fault) => refusal(alloc, model, fault),
+        Ok(loaded) => trace_loaded(alloc, loaded, asked, progress, outlets),
+        Err(fault) => refusal(alloc, model, &fault),
     }
 }

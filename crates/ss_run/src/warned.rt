@@ -41,6 +41,9 @@ pub fn model_warnings(alloc: Global, model: &[u8]) -> Result<Vec<u8>, AllocError
         }
         Err(LoadFault::Memory) => Err(AllocError),
         Err(LoadFault::Text { .. }) => words_warnings(alloc, model),
-        Err(LoadFault::Check { .. }) => words_warnings(alloc, model),
+        Err(LoadFault::Check { wrong, .. }) => {
+            drop(wrong);
+            words_warnings(alloc, model)
+        }
     }
 }

@@ -1,7 +1,6 @@
 //! A whole run without a debugger: to its end, and only its report.
 ghost use Rattle.std.specs.Prelude.{◌≡◌, ◌-◌, ◌^◌, ◌<◌, OnErr, OnOk, IfOk};
 ghost use Rattle.ss_check.specs.Asked.{IsSymbolsOf};
-ghost use Rattle.ss_links.specs.Board.{empty_board};
 ghost use Rattle.ss_machine.specs.Moment.{position};
 ghost use Rattle.ss_state.specs.Run.{input_with};
 ghost use Rattle.ss_run.specs.Report.{IsRunEnd, status_of_end, status_of_run, SaysEnd, ReportSays};
@@ -11,11 +10,14 @@ ghost use Rattle.ss_run.specs.Advance.{HasAdvanced, MakesRun, RefusesText, Refus
 use crate::explained::{end_explanation, rule_explanation};
 use crate::fields::unfit_values;
 use crate::results::{Asked, Wanted, results_row, with_symbols};
+use crate::start::linked_machine;
+use ss_check::Wrong;
 use ss_debug::{Command, Debugger, Question, obey};
-use ss_links::{LinkedSets, SetBoard};
+use ss_links::SetBoard;
 use ss_machine::Machine;
+use ss_program::Program;
 use ss_sentences::text_refusal;
-use ss_session::{LoadFault, Loaded, Outlet, load_with_symbols, machine, put_all, refusal_text};
+use ss_session::{LoadFault, Loaded, Outlet, load_with_symbols, put_all, refusal_text};
 use ss_state::{Status, Stepped};
 use std::alloc::{AllocError, Global};
 use thiserror::Error;
@@ -305,11 +307,17 @@ fn refused_text(
 }
 
 /// The result for a model that the checker's rule with this code refuses at this line.
-fn refused(alloc: Global, model: &[u8], code: &str, line: usize) -> Result<WholeRun, AllocError>
-    ensures { IfOk result (λ whole. RefusesBy whole.end whole model.now code.now line) }
+fn refused(
+    alloc: Global,
+    model: &[u8],
+    code: &str,
+    line: usize,
+    wrong: &Wrong,
+) -> Result<WholeRun, AllocError>
+    ensures { IfOk result (λ whole. RefusesBy whole.end whole model.now code.now line wrong.now) }
 {
     let text = refusal_text(alloc, code, line)?;
-    let explanation = rule_explanation(alloc, model, code, line)?;
+    let explanation = rule_explanation(alloc, model, code, line, wrong)?;
     Ok(WholeRun {
         end: RunEnd::Refused(text),
         explanation,
@@ -319,19 +327,45 @@ fn refused(alloc: Global, model: &[u8], code: &str, line: usize) -> Result<Whole
 }
 
 /// The result for a model that is no program.
-pub(crate) fn refusal(alloc: Global, model: &[u8], fault: LoadFault) -> Result<WholeRun, RunCut>
-    ensures { IsRefusal result model.now fault }
+pub(crate) fn refusal(alloc: Global, model: &[u8], fault: &LoadFault) -> Result<WholeRun, RunCut>
+    ensures { IsRefusal result model.now fault.now }
 {
     match fault {
         LoadFault::Memory => Err(RunCut::Memory),
-        LoadFault::Text { rule, line } => Ok(refused_text(alloc, model, rule.code(), line)?),
-        LoadFault::Check { rule, line } => Ok(refused(alloc, model, rule.code(), line)?),
+        LoadFault::Text { rule, line } => Ok(refused_text(alloc, model, rule.code(), *line)?),
+        LoadFault::Check { rule, line, wrong } => {
+            Ok(refused(alloc, model, rule.code(), *line, wrong)?)
+        }
     }
 }
 
-/// Makes the run of a program over its data to its end, and writes its report.
+/// Makes the run of a program over some data to its end, and writes its report.
 #[tactic(auto, using(ss_session::proofs::Pieces::appends_none), unfolding(crate::proofs::Reports::runs_made))]
 fn run_program<P: Progress, W: Outlet>(
+    alloc: Global,
+    program: Program,
+    asked: Wanted<'_>,
+    progress: &mut P,
+    out: &mut W,
+) -> Result<WholeRun, RunCut>
+    requires symbols { IsSymbolsOf program asked.symbols.now }
+    requires room { W.failures out.old < 2 ^ 64 - 1 }
+    ensures { MakesRun result asked.entry.data_text.now
+        (input_with program asked.entry.data_text.now)
+        (record {
+          name = asked.entry.name.now;
+          results = asked.entry.results.now;
+          symbols = asked.entry.symbols.now;
+        })
+        (record { taken = W.taken out.old; failures = W.failures out.old })
+        (record { taken = W.taken out.new; failures = W.failures out.new }) }
+{
+    let machine = linked_machine(alloc, program, asked.data_text)?;
+    write_run(alloc, machine, asked, progress, out)
+}
+
+/// Makes the run of a program that was read, and writes its report.
+fn run_loaded<P: Progress, W: Outlet>(
     alloc: Global,
     loaded: Loaded,
     asked: Asked<'_>,
@@ -351,9 +385,7 @@ fn run_program<P: Progress, W: Outlet>(
         (record { taken = W.taken out.new; failures = W.failures out.new }) }
 {
     let Loaded { program, symbols } = loaded;
-    let (sets, pending) = (LinkedSets::new(alloc), LinkedSets::new(alloc));
-    let machine = machine(alloc, program, asked.data_text, sets, pending)?;
-    write_run(alloc, machine, with_symbols(asked, &symbols), progress, out)
+    run_program(alloc, program, with_symbols(asked, &symbols), progress, out)
 }
 
 /// Runs a model over its data to the end of the run, without a bound, and writes only its report.
@@ -381,8 +413,8 @@ pub fn run_model<P: Progress, W: Outlet>(
         (record { taken = W.taken out.new; failures = W.failures out.new }) }
 {
     match load_with_symbols(alloc, model) {
-        Ok(loaded) => run_program(alloc, loaded, asked, progress, out),
-        Err(fault) => refusal(alloc, model, fault),
+        Ok(loaded) => run_loaded(alloc, loaded, asked, progress, out),
+        Err(fault) => refusal(alloc, model, &fault),
     }
 }
 

@@ -125,7 +125,7 @@ fn bytes_said(alloc: Global, typed: TypedText<'_>, rule: TextRule) -> Result<Vec
     push_breach_sentence(alloc, &mut text, rule, &read, column)?;
     text.extend_from_slice(b"\n")?;
     push_typed(&mut text, &line, column)?;
-    push_breach_hint(alloc, &mut text, rule, &read, column, b"")?;
+    push_breach_hint(&mut text, rule, &read, column, b"")?;
     Ok(text)
 }
 

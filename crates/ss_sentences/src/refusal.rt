@@ -68,8 +68,8 @@ fn said_of_rule(
     let front = front_of(alloc, words, rule, number)?;
     let judged = judge_behind(alloc, model, front)?;
     let mut text = Vec::new(alloc);
-    push_sentence(alloc, model, words, rule, number, &mut text)?;
-    push_behind(alloc, words, rule, number, &judged, &mut text)?;
+    push_sentence(&mut text, model, words, rule, number)?;
+    push_behind(&mut text, words, rule, number, &judged)?;
     Ok(text)
 }
 
@@ -101,16 +101,16 @@ fn front_of(
 
 /// Appends the text after the sentence of a rule at a word.
 fn push_behind(
-    alloc: Global,
+    text: &mut Vec<u8>,
     words: &Words,
     rule: TextRule,
     number: usize,
     judged: &[Judgement],
-    text: &mut Vec<u8>,
 ) -> Result<(), AllocError>
     ensures { OnOk result (text.new.items
         ≡ text.old.items ++ spec.behind_text words.now rule number judged.now) }
 {
+    let alloc = *text.allocator();
     match rule {
         TextRule::UnexpectedWord => push_unexpected(alloc, words, number, judged, text),
         TextRule::UnexpectedEnd => push_ended(alloc, words, judged, text),
@@ -120,16 +120,16 @@ fn push_behind(
 
 /// Appends the sentence of a rule at a word, its line, and the caret below it.
 fn push_sentence(
-    alloc: Global,
+    text: &mut Vec<u8>,
     model: &[u8],
     words: &Words,
     rule: TextRule,
     number: usize,
-    text: &mut Vec<u8>,
 ) -> Result<(), AllocError>
     ensures { OnOk result (text.new.items
         ≡ text.old.items ++ spec.sentence_text model.now words.now rule number) }
 {
+    let alloc = *text.allocator();
     let place = place_of(alloc, model, words, number)?;
     let word = told_at(alloc, words, number)?;
     let before = told_before(alloc, words, number)?;

@@ -257,7 +257,6 @@ fn behind_run(line: &[u8]) -> &[u8]
 
 /// Appends the hint for the breach of a rule at a column.
 pub fn push_breach_hint(
-    alloc: Global,
     text: &mut Vec<u8>,
     rule: TextRule,
     line: &[u8],
@@ -276,6 +275,7 @@ pub fn push_breach_hint(
             text.extend_from_slice(number_hint(front_run(from_column(line, column))))
         }
         TextRule::NoPicture => {
+            let alloc = *text.allocator();
             push_picture_hint(alloc, text, behind_run(from_column(line, column)), below)
         }
         _ => Ok(()),
@@ -314,6 +314,6 @@ pub fn unread_said(
     push_breach_sentence(alloc, &mut text, rule, bytes, column)?;
     text.extend_from_slice(b"\n")?;
     push_source(alloc, &mut text, model, place)?;
-    push_breach_hint(alloc, &mut text, rule, bytes, column, behind_feed(rest))?;
+    push_breach_hint(&mut text, rule, bytes, column, behind_feed(rest))?;
     Ok(text)
 }

@@ -22,5 +22,5 @@ returns-in-Err-Check c =
     let refused =
     subst (λ (f : LoadFault). IsLoadFault f c.args.model.now) c.in-Err-Check.field-0-is c.in-Err-Check.ensures.err in
     IfOk-weaker c.words_warnings-in-Err-Check.result _ _
-    (λ text is. (refused_check c.in-Err-Check.field-0-0 c.in-Err-Check.field-0-1, refused, is))
+    (λ text is. (refused_check c.in-Err-Check.field-0-0 c.in-Err-Check.field-0-1, refused.0, is))
     c.words_warnings-in-Err-Check.ensures
