@@ -70,7 +70,7 @@ pub record IsLaunched (model text path : List ℕ) (counting : Counting) (stops 
 -- the line of a refused model
 abbrev pub fault_line : LoadFault → List ℕ
 fault_line (Text rule line) = refusal_line (text_rule_code rule) line
-fault_line (Check rule line) = refusal_line (check_rule_code rule) line
+fault_line (Check rule line wrong) = refusal_line (check_rule_code rule) line
 fault_line Memory = []
 
 -- a launch of a model that is refused for this: its line and its explanation were posted

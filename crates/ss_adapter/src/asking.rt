@@ -13,7 +13,7 @@ ghost use Rattle.ss_adapter.specs.Completions.{targets_before};
 ghost use Rattle.ss_adapter.specs.Watch.{info_of};
 ghost use Rattle.ss_adapter.specs.Turn.{adapter_state_of, report_at, answer_to_text, answer_to_asked};
 ghost use Rattle.ss_adapter.specs.Turn.{answer_on_fault};
-ghost use Rattle.ss_adapter.specs.Turn.{source_messages, answer_with_frames, answer_with_completions};
+ghost use Rattle.ss_adapter.specs.Turn.{source_messages, answer_with_frames};
 ghost use Rattle.ss_adapter.specs.Turn.{answer_about_run, answer_to_terminate};
 
 use crate::completions::completions;
@@ -32,38 +32,45 @@ use ss_messages::{
 };
 use ss_program::Program;
 use ss_readings::push_value;
-use ss_scopes::{push_frames, push_scopes, push_variables, question_value};
+use ss_scopes::{Page, push_frames, push_scopes, push_variables, question_value};
 use ss_trace::Question;
 use std::alloc::{AllocError, Global};
 
-/// Answers a text that is no question, for this reason: its value in the present state, as that of an
-/// expression or a condition.
+/// A text that is no question of the debugger, and why.
+#[derive(Clone, Copy)]
+struct NoQuestion<'a> {
+    text: &'a [u8],
+    reason: &'static [u8],
+}
+
+/// Answers a text that is no question: its value in the present state, as that of an expression
+/// or a condition.
 #[tactic(auto, unfolding(ss_messages::specs::Messages::posted_all))]
 fn answer_text<S: SetBoard>(
     debugger: &Debugger<S>,
     desk: &Desk,
     request: &Request,
     post: &mut Post,
-    text: &[u8],
-    reason: &'static [u8],
+    asked: NoQuestion<'_>,
 ) -> Result<(), AllocError>
     requires symbols { IsSymbolsOf debugger.now.machine.input.program desk.now.symbols }
     requires sent { post.old.sent < 2 ^ 64 - 1 }
     ensures { OnOk result (post.new ≡ posted_all request.now post.old
-        (answer_to_text (adapter_state_of debugger.now desk.now) text.now reason.now)) }
+        (answer_to_text (adapter_state_of debugger.now desk.now) asked.entry.text.now
+        asked.entry.reason.now)) }
 {
     let (alloc, machine) = (post.alloc(), debugger.machine());
     machine.known();
     let (section, _) = machine.place();
-    if let Some(value) = value_asked(alloc, machine, &desk.symbols, section, text)? {
+    if let Some(value) = value_asked(alloc, machine, &desk.symbols, section, asked.text)? {
         let mut said = Vec::new(alloc);
         push_value(&mut said, &Some(value))?;
         let body = result_body(alloc, &said)?;
         return post.reply(request, &body);
     }
-    match asked_answer(alloc, machine, &desk.symbols, text)? {
+    match asked_answer(alloc, machine, &desk.symbols, asked.text)? {
         Some(said) => post.fail(request, without_last(&said)),
-        None => post.fail(request, reason),
+        None => post.fail(request, asked.reason),
     }
 }
 
@@ -100,15 +107,14 @@ fn ask<S: SetBoard>(
 {
     match asked(post.alloc(), debugger.machine().program(), text)? {
         Some(Ok(question)) => answer_question(debugger, request, post, &question),
-        Some(Err(_)) => answer_text(
-            debugger,
-            desk,
-            request,
-            post,
-            text,
-            b"nothing has this name",
-        ),
-        None => answer_text(debugger, desk, request, post, text, b"no question"),
+        Some(Err(_)) => {
+            let reason = b"nothing has this name";
+            answer_text(debugger, desk, request, post, NoQuestion { text, reason })
+        }
+        None => {
+            let reason = b"no question";
+            answer_text(debugger, desk, request, post, NoQuestion { text, reason })
+        }
     }
 }
 
@@ -156,25 +162,17 @@ fn tell_frames<S: SetBoard>(
     source: Source<'_>,
     request: &Request,
     post: &mut Post,
-    start: u64,
-    levels: u64,
+    page: Page,
 ) -> Result<(), AllocError>
     requires { post.old.sent < 2 ^ 64 - 1 }
     ensures { OnOk result (post.new ≡ posted_all request.now post.old (answer_with_frames
         debugger.now.machine.input (run debugger.now.machine.input (position debugger.now.machine))
-        source.entry.path.now source.entry.counting start levels)) }
+        source.entry.path.now source.entry.counting page.start page.count)) }
 {
     let machine = debugger.machine();
     machine.known();
     let mut text = Vec::new(post.alloc());
-    push_frames(
-        post.alloc(),
-        &mut text,
-        machine,
-        source,
-        start as usize,
-        levels as usize,
-    )?;
+    push_frames(&mut text, machine, source, page)?;
     let body = frames_body(post.alloc(), &text, machine.frames() as u64)?;
     post.reply(request, &body)
 }
@@ -193,7 +191,7 @@ fn tell_scopes<S: SetBoard>(
         (position debugger.now.machine) frame)) ∷ [])) }
 {
     let mut text = Vec::new(post.alloc());
-    push_scopes(post.alloc(), &mut text, debugger.machine(), frame)?;
+    push_scopes(&mut text, debugger.machine(), frame)?;
     let body = list_body(post.alloc(), b"scopes", &text)?;
     post.reply(request, &body)
 }
@@ -212,7 +210,7 @@ fn tell_variables<S: SetBoard>(
         (position debugger.now.machine) wanted)) ∷ [])) }
 {
     let mut text = Vec::new(post.alloc());
-    push_variables(post.alloc(), &mut text, debugger, wanted)?;
+    push_variables(&mut text, debugger, wanted)?;
     let body = list_body(post.alloc(), b"variables", &text)?;
     post.reply(request, &body)
 }
@@ -251,28 +249,24 @@ fn targets(
     completions(pen.alloc, program, section, &before, end)
 }
 
-/// Answers with the words that may be typed.
-#[tactic(auto, unfolding(ss_messages::specs::Messages::posted_all))]
-fn tell_completions<S: SetBoard>(
+/// The body with the words that may be typed in a text, before a column, with the locals of the
+/// section in which the run is.
+fn completions_body<S: SetBoard>(
     debugger: &Debugger<S>,
     pen: Pen,
-    request: &Request,
-    post: &mut Post,
     text: &[u8],
     column: u64,
-) -> Result<(), AllocError>
-    requires { post.old.sent < 2 ^ 64 - 1 }
-    ensures { OnOk result (post.new ≡ posted_all request.now post.old (answer_with_completions
+) -> Result<Vec<u8>, AllocError>
+    ensures { IfOk result (λ body. body.items ≡ list_body (codes "targets") (targets_before
         debugger.now.machine.input.program
-        (run debugger.now.machine.input (position debugger.now.machine)) pen.counting text.now
-        column)) }
+        (run debugger.now.machine.input (position debugger.now.machine)).frame.section
+        pen.counting text.now column)) }
 {
     let machine = debugger.machine();
     machine.known();
     let (section, _) = machine.place();
     let items = targets(pen, machine.program(), section, text, column)?;
-    let body = list_body(pen.alloc, b"targets", &items)?;
-    post.reply(request, &body)
+    list_body(pen.alloc, b"targets", &items)
 }
 
 /// Ends the run for the editor.
@@ -303,7 +297,11 @@ pub fn look<S: SetBoard>(
         Command::Launch(_, _, _) => post.fail(request, b"a run is launched already"),
         Command::Threads => post.reply(request, THREADS),
         Command::StackTrace(start, levels) => {
-            tell_frames(debugger, desk.source(), request, post, *start, *levels)
+            let page = Page {
+                start: *start as usize,
+                count: *levels as usize,
+            };
+            tell_frames(debugger, desk.source(), request, post, page)
         }
         Command::Scopes(frame) => tell_scopes(debugger, request, post, *frame),
         Command::Variables(wanted) => tell_variables(debugger, request, post, *wanted),
@@ -312,14 +310,8 @@ pub fn look<S: SetBoard>(
             tell_info(program, request, post, *reference, name.as_slice())
         }
         Command::Completions(text, column) => {
-            tell_completions(
-                debugger,
-                desk.pen(post),
-                request,
-                post,
-                text.as_slice(),
-                *column,
-            )
+            let body = completions_body(debugger, desk.pen(post), text.as_slice(), *column)?;
+            post.reply(request, &body)
         }
         Command::Ask(text) => ask(debugger, desk, request, post, text.as_slice()),
         Command::Source(reference) => tell_source(debugger, request, post, *reference),

@@ -1,5 +1,5 @@
 //! The break lines of a request.
-ghost use Rattle.std.specs.Prelude.{◌≡◌, ◌+◌, ◌++◌, [], ◌∷◌, fold, map, slice_get, nat_eq, Some, OnOk};
+ghost use Rattle.std.specs.Prelude.{◌≡◌, ◌+◌, ◌++◌, [], ◌∷◌, fold, map, slice_get, nat_eq, Some, IfOk, OnOk};
 ghost use Rattle.std.specs.List.{list_any};
 ghost use Rattle.ss_check.specs.Asked.{IsSymbolsOf};
 ghost use Rattle.ss_debug.specs.BreakCondition.{IsSoundOf};
@@ -12,7 +12,7 @@ ghost use Rattle.ss_adapter.specs.Places.{with_next, with_condition, with_point,
 ghost use Rattle.ss_adapter.specs.Places.{unset_items, setting_of, section_setting_of};
 ghost use Rattle.ss_adapter.specs.Places.{IsSetting};
 
-use crate::desk::MOST_WATCHED;
+use crate::desk::{Desk, MOST_WATCHED};
 use crate::pen::Pen;
 use ss_check::SymbolTable;
 use ss_debug::{BreakCondition, Command, Debugger, obey};
@@ -166,16 +166,38 @@ pub fn push_all_unset(
     Ok(())
 }
 
+/// The break points that a request sets, one by one.
+#[derive(Drop)]
+pub struct SetPoints {
+    /// The lines that are break lines by it.
+    pub lines: Vec<u32>,
+    /// The item of the reply for each break point that it names, whether it is set or not.
+    pub text: Vec<u8>,
+}
+
+impl SetPoints {
+    /// None yet; takes no memory.
+    fn new(alloc: Global) -> Self
+        ensures lines { result.lines.items ≡ [] }
+        ensures text { result.text.items ≡ [] }
+    {
+        SetPoints {
+            lines: Vec::new(alloc),
+            text: Vec::new(alloc),
+        }
+    }
+}
+
 /// Notes a line that is a break line now, and appends its item.
-fn note_set(pen: Pen, set: &mut Vec<u32>, text: &mut Vec<u8>, line: u32) -> Result<(), AllocError>
-    ensures set { OnOk result (set.new.items ≡ set.old.items ++ line ∷ []) }
-    ensures text { OnOk result (text.new.items
-        ≡ text.old.items ++ set_item (line + MOST_WATCHED) line pen.counting) }
+fn note_set(pen: Pen, set: &mut SetPoints, line: u32) -> Result<(), AllocError>
+    ensures lines { OnOk result (set.new.lines.items ≡ set.old.lines.items ++ line ∷ []) }
+    ensures text { OnOk result (set.new.text.items
+        ≡ set.old.text.items ++ set_item (line + MOST_WATCHED) line pen.counting) }
 {
-    set.push(line)?;
+    set.lines.push(line)?;
     let line = u64::from(line);
     let item = set_item(pen.alloc, line + MOST_WATCHED as u64, line, pen.counting)?;
-    text.extend_from_slice(&item)
+    set.text.extend_from_slice(&item)
 }
 
 /// Sets a break line, if there is one, and appends its line, or why there is none.
@@ -183,51 +205,65 @@ fn note_set(pen: Pen, set: &mut Vec<u32>, text: &mut Vec<u8>, line: u32) -> Resu
 fn set_next<S: SetBoard>(
     pen: Pen,
     debugger: &mut Debugger<S>,
-    set: &mut Vec<u32>,
-    text: &mut Vec<u8>,
+    set: &mut SetPoints,
     reason: &'static [u8],
     next: Option<u32>,
 ) -> Result<(), AllocError>
     ensures input { debugger.new.machine.input ≡ debugger.old.machine.input }
     ensures state { OnOk result (IsSetting (debugger_state_of debugger.old)
-        (debugger_state_of debugger.new) set.new.items text.new.items (with_next pen.counting
-        reason.now
-        (record { breaks = debugger.old.breaks; set = set.old.items; text = text.old.items })
+        (debugger_state_of debugger.new) set.new.lines.items set.new.text.items (with_next
+        pen.counting reason.now
+        (record {
+          breaks = debugger.old.breaks;
+          set = set.old.lines.items;
+          text = set.old.text.items;
+        })
         next)) }
 {
     let Some(line) = next else {
-        return push_unset(pen.alloc, text, reason);
+        return push_unset(pen.alloc, &mut set.text, reason);
     };
     if debugger.is_full_for(line) {
-        return push_unset(pen.alloc, text, b"too many break points");
+        return push_unset(pen.alloc, &mut set.text, b"too many break points");
     }
     let mut said = Vec::new(pen.alloc);
     obey(debugger, Command::Break(line), &mut said)?;
-    note_set(pen, set, text, line)
+    note_set(pen, set, line)
 }
 
 /// Sets a break line with a condition, and appends its line, or that there are too many.
 fn set_when<S: SetBoard>(
     pen: Pen,
     debugger: &mut Debugger<S>,
-    set: &mut Vec<u32>,
-    text: &mut Vec<u8>,
+    set: &mut SetPoints,
     line: u32,
     when: BreakCondition,
 ) -> Result<(), AllocError>
     requires { IsSoundOf debugger.old.machine.input.program when.section when.condition }
     ensures input { debugger.new.machine.input ≡ debugger.old.machine.input }
     ensures state { OnOk result (IsSetting (debugger_state_of debugger.old)
-        (debugger_state_of debugger.new) set.new.items text.new.items (with_break pen.counting
-        (record { breaks = debugger.old.breaks; set = set.old.items; text = text.old.items })
+        (debugger_state_of debugger.new) set.new.lines.items set.new.text.items (with_break
+        pen.counting
+        (record {
+          breaks = debugger.old.breaks;
+          set = set.old.lines.items;
+          text = set.old.text.items;
+        })
         line (Some when))) }
 {
     if debugger.is_full_for(line) {
-        return push_unset(pen.alloc, text, b"too many break points");
+        return push_unset(pen.alloc, &mut set.text, b"too many break points");
     }
     let mut said = Vec::new(pen.alloc);
     debugger.set_break_when(line, when, &mut said)?;
-    note_set(pen, set, text, line)
+    note_set(pen, set, line)
+}
+
+/// A condition of a break point, and its line.
+#[derive(Clone, Copy)]
+struct ConditionAt<'a> {
+    line: u32,
+    text: &'a [u8],
 }
 
 /// Sets a break line with the condition that a text is, and appends its line, or why it is none.
@@ -235,27 +271,29 @@ fn set_condition<S: SetBoard>(
     pen: Pen,
     debugger: &mut Debugger<S>,
     symbols: &SymbolTable,
-    set: &mut Vec<u32>,
-    text: &mut Vec<u8>,
-    line: u32,
-    condition: &[u8],
+    set: &mut SetPoints,
+    condition: ConditionAt<'_>,
 ) -> Result<(), AllocError>
     requires { IsSymbolsOf debugger.old.machine.input.program symbols.now }
     ensures input { debugger.new.machine.input ≡ debugger.old.machine.input }
     ensures state { OnOk result (IsSetting (debugger_state_of debugger.old)
-        (debugger_state_of debugger.new) set.new.items text.new.items (with_condition
+        (debugger_state_of debugger.new) set.new.lines.items set.new.text.items (with_condition
         debugger.old.machine.input.program symbols.now pen.counting
-        (record { breaks = debugger.old.breaks; set = set.old.items; text = text.old.items })
-        condition.now (Some line))) }
+        (record {
+          breaks = debugger.old.breaks;
+          set = set.old.lines.items;
+          text = set.old.text.items;
+        })
+        condition.entry.text.now (Some condition.entry.line))) }
 {
     let program = debugger.machine().program();
-    let section = section_on(program, line as usize);
-    match aim_in(pen.alloc, program, symbols, section, condition)? {
-        None => push_unset(pen.alloc, text, b"no condition"),
-        Some(Aimed::Refused(said)) => push_unset(pen.alloc, text, without_last(&said)),
+    let section = section_on(program, condition.line as usize);
+    match aim_in(pen.alloc, program, symbols, section, condition.text)? {
+        None => push_unset(pen.alloc, &mut set.text, b"no condition"),
+        Some(Aimed::Refused(said)) => push_unset(pen.alloc, &mut set.text, without_last(&said)),
         Some(Aimed::At(aim)) => {
-            let when = aim.into_break(Vec::from_slice(pen.alloc, condition)?);
-            set_when(pen, debugger, set, text, line, when)
+            let when = aim.into_break(Vec::from_slice(pen.alloc, condition.text)?);
+            set_when(pen, debugger, set, condition.line, when)
         }
     }
 }
@@ -265,31 +303,34 @@ fn set_point<S: SetBoard>(
     pen: Pen,
     debugger: &mut Debugger<S>,
     symbols: &SymbolTable,
-    set: &mut Vec<u32>,
-    text: &mut Vec<u8>,
+    set: &mut SetPoints,
     point: &LinePoint,
 ) -> Result<(), AllocError>
     requires { IsSymbolsOf debugger.old.machine.input.program symbols.now }
     ensures input { debugger.new.machine.input ≡ debugger.old.machine.input }
     ensures state { OnOk result (IsSetting (debugger_state_of debugger.old)
-        (debugger_state_of debugger.new) set.new.items text.new.items (with_point
+        (debugger_state_of debugger.new) set.new.lines.items set.new.text.items (with_point
         debugger.old.machine.input.program symbols.now pen.counting
-        (record { breaks = debugger.old.breaks; set = set.old.items; text = text.old.items })
+        (record {
+          breaks = debugger.old.breaks;
+          set = set.old.lines.items;
+          text = set.old.text.items;
+        })
         point.now)) }
 {
     if !point.is_simple {
-        return push_unset(pen.alloc, text, UNCOUNTED);
+        return push_unset(pen.alloc, &mut set.text, UNCOUNTED);
     }
     let next = next_line(
         debugger.machine().program(),
         pen.counting.meant_line(point.line),
     );
-    let condition = point.condition.as_slice();
+    let text = point.condition.as_slice();
     match next {
-        Some(line) if !condition.is_empty() => {
-            set_condition(pen, debugger, symbols, set, text, line, condition)
+        Some(line) if !text.is_empty() => {
+            set_condition(pen, debugger, symbols, set, ConditionAt { line, text })
         }
-        _ => set_next(pen, debugger, set, text, b"no statement is here", next),
+        _ => set_next(pen, debugger, set, b"no statement is here", next),
     }
 }
 
@@ -297,72 +338,68 @@ fn set_point<S: SetBoard>(
 fn set_section<S: SetBoard>(
     pen: Pen,
     debugger: &mut Debugger<S>,
-    set: &mut Vec<u32>,
-    text: &mut Vec<u8>,
+    set: &mut SetPoints,
     name: &Option<Text>,
 ) -> Result<(), AllocError>
     ensures input { debugger.new.machine.input ≡ debugger.old.machine.input }
     ensures state { OnOk result (IsSetting (debugger_state_of debugger.old)
-        (debugger_state_of debugger.new) set.new.items text.new.items (with_named
+        (debugger_state_of debugger.new) set.new.lines.items set.new.text.items (with_named
         debugger.old.machine.input.program pen.counting
-        (record { breaks = debugger.old.breaks; set = set.old.items; text = text.old.items })
+        (record {
+          breaks = debugger.old.breaks;
+          set = set.old.lines.items;
+          text = set.old.text.items;
+        })
         name.now)) }
 {
     let Some(name) = name else {
-        return push_unset(pen.alloc, text, UNHEEDED);
+        return push_unset(pen.alloc, &mut set.text, UNHEEDED);
     };
     let next = named_line(debugger.machine().program(), name.as_slice());
-    set_next(pen, debugger, set, text, b"no section has this name", next)
+    set_next(pen, debugger, set, b"no section has this name", next)
 }
 
-/// Sets the break lines of a request in place of those of an earlier one, keeps those that requests
-/// for sections set, and appends the item of the reply for each.
+/// Sets the break lines of a request in place of those of an earlier one, which are on the desk,
+/// and keeps those that requests for sections set.
 pub fn set_lines<S: SetBoard>(
     pen: Pen,
     debugger: &mut Debugger<S>,
-    symbols: &SymbolTable,
-    set: &mut Vec<u32>,
-    kept: &[u32],
-    text: &mut Vec<u8>,
+    desk: &Desk,
     points: &[LinePoint],
-) -> Result<(), AllocError>
-    requires symbols { IsSymbolsOf debugger.old.machine.input.program symbols.now }
-    requires text { text.old.items ≡ [] }
+) -> Result<SetPoints, AllocError>
+    requires { IsSymbolsOf debugger.old.machine.input.program desk.now.symbols }
     ensures input { debugger.new.machine.input ≡ debugger.old.machine.input }
-    ensures state { OnOk result (IsSetting (debugger_state_of debugger.old)
-        (debugger_state_of debugger.new) set.new.items text.new.items (setting_of
-        debugger.old.machine.input.program symbols.now pen.counting debugger.old.breaks
-        set.old.items kept.now points.now)) }
+    ensures state { IfOk result (λ set. IsSetting (debugger_state_of debugger.old)
+        (debugger_state_of debugger.new) set.lines.items set.text.items (setting_of
+        debugger.old.machine.input.program desk.now.symbols pen.counting debugger.old.breaks
+        desk.now.set desk.now.sections points.now)) }
 {
-    clear(pen.alloc, debugger, set, kept)?;
-    set.clear();
+    clear(pen.alloc, debugger, &desk.set, &desk.sections)?;
+    let mut set = SetPoints::new(pen.alloc);
     for point in points {
-        set_point(pen, debugger, symbols, set, text, point)?;
+        set_point(pen, debugger, &desk.symbols, &mut set, point)?;
     }
-    Ok(())
+    Ok(set)
 }
 
-/// Sets the break lines of the sections of a request in place of those of an earlier one, keeps
-/// those that requests for lines set, and appends the item of the reply for each.
+/// Sets the break lines of the sections of a request in place of those of an earlier one, which are
+/// on the desk, and keeps those that requests for lines set.
 pub fn set_sections<S: SetBoard>(
     pen: Pen,
     debugger: &mut Debugger<S>,
-    set: &mut Vec<u32>,
-    kept: &[u32],
-    text: &mut Vec<u8>,
+    desk: &Desk,
     names: &[Option<Text>],
-) -> Result<(), AllocError>
-    requires { text.old.items ≡ [] }
+) -> Result<SetPoints, AllocError>
     ensures input { debugger.new.machine.input ≡ debugger.old.machine.input }
-    ensures state { OnOk result (IsSetting (debugger_state_of debugger.old)
-        (debugger_state_of debugger.new) set.new.items text.new.items (section_setting_of
-        debugger.old.machine.input.program pen.counting debugger.old.breaks set.old.items kept.now
-        names.now)) }
+    ensures state { IfOk result (λ set. IsSetting (debugger_state_of debugger.old)
+        (debugger_state_of debugger.new) set.lines.items set.text.items (section_setting_of
+        debugger.old.machine.input.program pen.counting debugger.old.breaks desk.now.sections
+        desk.now.set names.now)) }
 {
-    clear(pen.alloc, debugger, set, kept)?;
-    set.clear();
+    clear(pen.alloc, debugger, &desk.sections, &desk.set)?;
+    let mut set = SetPoints::new(pen.alloc);
     for name in names {
-        set_section(pen, debugger, set, text, name)?;
+        set_section(pen, debugger, &mut set, name)?;
     }
-    Ok(())
+    Ok(set)
 }

@@ -1,5 +1,5 @@
 //! The words that may be typed at a place in a line of the debugger.
-ghost use Rattle.std.specs.Prelude.{◌≡◌, ◌++◌, OnOk, IfOk, map};
+ghost use Rattle.std.specs.Prelude.{◌≡◌, ◌++◌, OnOk, IfOk, map, false};
 ghost use Rattle.ss_adapter.specs.Completions.{target, targets, attribute_targets, set_targets, name_targets};
 ghost use Rattle.ss_adapter.specs.Completions.{targets_by, is_first, completions};
 
@@ -20,26 +20,19 @@ pub const FURTHER_WORDS: [&[u8]; 11] = [
 ];
 
 /// Appends a word as an item, if it begins with the text that is typed before a column.
-fn push_target(
-    alloc: Global,
-    out: &mut Vec<u8>,
-    typed: &[u8],
-    column: u64,
-    word: &[u8],
-) -> Result<(), AllocError>
+fn push_target(out: &mut Vec<u8>, typed: &[u8], column: u64, word: &[u8]) -> Result<(), AllocError>
     ensures { OnOk result (out.new.items ≡ out.old.items ++ target typed.now column word.now) }
 {
     if !word.starts_with(typed) {
         return Ok(());
     }
     let count = typed.len() as u64;
-    let item = target_item(alloc, word, column.saturating_sub(count), count)?;
+    let item = target_item(*out.allocator(), word, column.saturating_sub(count), count)?;
     out.extend_from_slice(&item)
 }
 
 /// Appends the items of a table of words.
 fn push_table(
-    alloc: Global,
     out: &mut Vec<u8>,
     typed: &[u8],
     column: u64,
@@ -49,7 +42,7 @@ fn push_table(
         ++ targets typed.now column (map (λ word. word.now) table.entry.now)) }
 {
     while let [word, rest @ ..] = table {
-        push_target(alloc, out, typed, column, word)?;
+        push_target(out, typed, column, word)?;
         table = rest;
     }
     Ok(())
@@ -57,7 +50,6 @@ fn push_table(
 
 /// Appends the items of some names.
 fn push_names(
-    alloc: Global,
     out: &mut Vec<u8>,
     typed: &[u8],
     column: u64,
@@ -67,7 +59,7 @@ fn push_names(
         ++ targets typed.now column names.entry.now) }
 {
     while let [name, rest @ ..] = names {
-        push_target(alloc, out, typed, column, &name.bytes)?;
+        push_target(out, typed, column, &name.bytes)?;
         names = rest;
     }
     Ok(())
@@ -75,7 +67,6 @@ fn push_names(
 
 /// Appends the items of the attributes of some classes.
 fn push_attributes(
-    alloc: Global,
     out: &mut Vec<u8>,
     typed: &[u8],
     column: u64,
@@ -85,7 +76,7 @@ fn push_attributes(
         ++ attribute_targets typed.now column classes.entry.now) }
 {
     while let [class, rest @ ..] = classes {
-        push_names(alloc, out, typed, column, &class.attributes)?;
+        push_names(out, typed, column, &class.attributes)?;
         classes = rest;
     }
     Ok(())
@@ -93,7 +84,6 @@ fn push_attributes(
 
 /// Appends the items of some sets.
 fn push_sets(
-    alloc: Global,
     out: &mut Vec<u8>,
     typed: &[u8],
     column: u64,
@@ -103,7 +93,7 @@ fn push_sets(
         ++ set_targets typed.now column sets.entry.now) }
 {
     while let [set, rest @ ..] = sets {
-        push_target(alloc, out, typed, column, &set.name.bytes)?;
+        push_target(out, typed, column, &set.name.bytes)?;
         sets = rest;
     }
     Ok(())
@@ -111,7 +101,6 @@ fn push_sets(
 
 /// Appends the items of the names of a program, with the locals of a section.
 fn push_program(
-    alloc: Global,
     out: &mut Vec<u8>,
     typed: &[u8],
     column: u64,
@@ -121,10 +110,10 @@ fn push_program(
     ensures { OnOk result (out.new.items ≡ out.old.items
         ++ name_targets program.now section typed.now column) }
 {
-    push_names(alloc, out, typed, column, &program.globals)?;
-    push_attributes(alloc, out, typed, column, &program.classes)?;
-    push_sets(alloc, out, typed, column, &program.sets)?;
-    push_names(alloc, out, typed, column, program.locals(section))
+    push_names(out, typed, column, &program.globals)?;
+    push_attributes(out, typed, column, &program.classes)?;
+    push_sets(out, typed, column, &program.sets)?;
+    push_names(out, typed, column, program.locals(section))
 }
 
 /// Whether no word is before the last one of a text.
@@ -134,25 +123,19 @@ fn is_first(text: &[u8]) -> bool
     before_word(text).iter().all(|byte| *byte == b' ')
 }
 
-/// Appends the items of the words that may be first in a line, or of those that may be after
-/// another word.
-fn push_targets(
-    alloc: Global,
+/// Appends the items of the words that may be after another word.
+fn push_further(
     out: &mut Vec<u8>,
-    program: &Program,
-    section: usize,
-    first: bool,
     typed: &[u8],
     column: u64,
+    program: &Program,
+    section: usize,
 ) -> Result<(), AllocError>
     ensures { OnOk result (out.new.items ≡ out.old.items
-        ++ targets_by program.now section first typed.now column) }
+        ++ targets_by program.now section false typed.now column) }
 {
-    if first {
-        return push_table(alloc, out, typed, column, &FIRST_WORDS);
-    }
-    push_table(alloc, out, typed, column, &FURTHER_WORDS)?;
-    push_program(alloc, out, typed, column, program, section)
+    push_table(out, typed, column, &FURTHER_WORDS)?;
+    push_program(out, typed, column, program, section)
 }
 
 /// The items of the words that begin with the last word of a text, in either case, which ends
@@ -173,14 +156,10 @@ pub fn completions(
     let mut typed = last_word(text).to_vec(alloc)?;
     typed.make_ascii_uppercase();
     let mut out = Vec::new(alloc);
-    push_targets(
-        alloc,
-        &mut out,
-        program,
-        section,
-        is_first(text),
-        &typed,
-        column,
-    )?;
+    if is_first(text) {
+        push_table(&mut out, &typed, column, &FIRST_WORDS)?;
+    } else {
+        push_further(&mut out, &typed, column, program, section)?;
+    }
     Ok(out)
 }

@@ -13,7 +13,7 @@ ghost use Rattle.ss_adapter.specs.Turn.{console_command, answer_to_command, afte
 
 use crate::breaks::next_line;
 use crate::desk::{Desk, MOST_WATCHED};
-use crate::telling::tell_movement;
+use crate::telling::{MovementEnd, tell_movement};
 use ss_debug::{Command, Debugger, split_line};
 use ss_links::SetBoard;
 use ss_messages::{Post, Request, Source, new_point_body, removed_point_body, result_body};
@@ -38,40 +38,52 @@ fn drop_line(lines: &mut Vec<u32>, line: u32)
     lines.retain(|other| *other != line);
 }
 
-/// Notes a line, which is a break line now or not, and was one or not: that it became one, as if a
-/// request for lines had set it, or is none any more.
-fn note_break(desk: &mut Desk, line: u32, is_set: bool, was_set: bool) -> Result<(), AllocError>
+/// A line of the model before a command of the console and after it.
+#[derive(Clone, Copy)]
+struct TurnedLine {
+    /// Its number.
+    line: u32,
+    /// Whether it was a break line before.
+    was_set: bool,
+    /// Whether it is one after.
+    is_set: bool,
+}
+
+/// Notes a line, if it became a break line, as if a request for lines had set it, or is none any
+/// more.
+fn note_break(desk: &mut Desk, turned: TurnedLine) -> Result<(), AllocError>
     ensures symbols { desk.new.symbols ≡ desk.old.symbols }
-    ensures desk { OnOk result (desk.new ≡ desk_with desk.old line is_set was_set) }
+    ensures desk { OnOk result (desk.new
+        ≡ desk_with desk.old turned.line turned.is_set turned.was_set) }
 {
-    if is_set && !was_set {
-        desk.set.push(line)?;
+    if turned.is_set && !turned.was_set {
+        desk.set.push(turned.line)?;
     }
-    if was_set && !is_set {
-        drop_line(&mut desk.set, line);
-        drop_line(&mut desk.sections, line);
+    if turned.was_set && !turned.is_set {
+        drop_line(&mut desk.set, turned.line);
+        drop_line(&mut desk.sections, turned.line);
     }
     Ok(())
 }
 
-/// Sends the event for a line, which is a break line now or not, and was one or not: that its break
-/// point is new, or is removed.
+/// Sends the event for a line, if it became a break line or is none any more: that its break point
+/// is new, or is removed.
 #[tactic(auto, unfolding(ss_messages::specs::Messages::posted_all))]
 fn tell_point(
     program: &Program,
     source: Source<'_>,
     request: &Request,
     post: &mut Post,
-    line: u32,
-    is_set: bool,
-    was_set: bool,
+    turned: TurnedLine,
 ) -> Result<(), AllocError>
     requires { post.old.sent < 2 ^ 64 - 1 }
     ensures { OnOk result (post.new ≡ posted_all request.now post.old
-        (point_told program.now source.entry.path.now source.entry.counting line is_set was_set)) }
+        (point_told program.now source.entry.path.now source.entry.counting turned.line
+        turned.is_set turned.was_set)) }
 {
+    let line = turned.line;
     let id = u64::from(line) + MOST_WATCHED as u64;
-    let body = match (is_set, was_set) {
+    let body = match (turned.is_set, turned.was_set) {
         (true, false) => {
             let has_place = has_place(program, line);
             new_point_body(post.alloc(), id, has_place, u64::from(line), source)?
@@ -92,7 +104,7 @@ fn first_line(alloc: Global, answer: &[u8]) -> Result<Vec<u8>, AllocError>
     Ok(line)
 }
 
-/// Obeys a command as the prompt does, and replies with the prompt's answer.
+/// Obeys a command as the prompt does, and replies with the prompt's answer; returns that.
 #[tactic(auto, using(crate::proofs::Consoles::left_behind), unfolding(ss_messages::specs::Messages::posted_all))]
 fn say<S: SetBoard>(
     debugger: &mut Debugger<S>,
@@ -100,17 +112,15 @@ fn say<S: SetBoard>(
     request: &Request,
     post: &mut Post,
     command: PromptCommand,
-    answer: &mut Vec<u8>,
-) -> Result<(), AllocError>
+) -> Result<Vec<u8>, AllocError>
     requires symbols { IsSymbolsOf debugger.old.machine.input.program desk.old.symbols }
     requires sent { post.old.sent < 2 ^ 64 - 1 }
-    requires none { answer.old.items ≡ [] }
     ensures input { debugger.new.machine.input ≡ debugger.old.machine.input }
     ensures symbols { desk.new.symbols ≡ desk.old.symbols }
     ensures sent { OnOk result (post.new ≡ posted_all request.now post.old (reply (result_body
         (console_answer (adapter_state_of debugger.old desk.old) command)) ∷ [])) }
     ensures count { OnOk result (post.new.sent ≡ post.old.sent + 1) }
-    ensures said { OnOk result (answer.new.items
+    ensures said { IfOk result (λ answer. answer.items
         ≡ console_answer (adapter_state_of debugger.old desk.old) command) }
     ensures debugger { OnOk result (debugger_state_of debugger.new
         ≡ (console_after (adapter_state_of debugger.old desk.old) command).debugger) }
@@ -122,9 +132,11 @@ fn say<S: SetBoard>(
         text: &desk.model,
         symbols: &desk.symbols,
     };
-    answer_command(debugger, model, &mut desk.displays, command, answer)?;
-    let body = result_body(alloc, answer)?;
-    post.reply(request, &body)
+    let mut answer = Vec::new(alloc);
+    answer_command(debugger, model, &mut desk.displays, command, &mut answer)?;
+    let body = result_body(alloc, &answer)?;
+    post.reply(request, &body)?;
+    Ok(answer)
 }
 
 /// Obeys a command that is a movement, and sends its stop.
@@ -148,10 +160,13 @@ fn obey_movement<S: SetBoard>(
         (console_after (adapter_state_of debugger.old desk.old) command)
         (desk_after (adapter_state_of debugger.old desk.old) command true)) }
 {
-    let mut answer = Vec::new(post.alloc());
-    say(debugger, desk, request, post, command, &mut answer)?;
+    let answer = say(debugger, desk, request, post, command)?;
     let line = first_line(post.alloc(), &answer)?;
-    tell_movement(debugger, desk, request, post, &line, None)
+    let end = MovementEnd {
+        answer: &line,
+        changed: None,
+    };
+    tell_movement(debugger, desk, request, post, end)
 }
 
 /// Obeys a command that is no movement, and sends the event for the line that becomes a break line,
@@ -176,17 +191,21 @@ fn obey_standing<S: SetBoard>(
         (console_after (adapter_state_of debugger.old desk.old) command)
         (desk_after (adapter_state_of debugger.old desk.old) command false)) }
 {
-    let alloc = post.alloc();
-    let mut answer = Vec::new(alloc);
     let Some(line) = command.point(debugger.machine().program()) else {
-        return say(debugger, desk, request, post, command, &mut answer);
+        say(debugger, desk, request, post, command)?;
+        return Ok(());
     };
     let was_set = debugger.is_break_line(line as usize);
-    say(debugger, desk, request, post, command, &mut answer)?;
+    say(debugger, desk, request, post, command)?;
     let is_set = debugger.is_break_line(line as usize);
-    note_break(desk, line, is_set, was_set)?;
+    let turned = TurnedLine {
+        line,
+        was_set,
+        is_set,
+    };
+    note_break(desk, turned)?;
     let program = debugger.machine().program();
-    tell_point(program, desk.source(), request, post, line, is_set, was_set)
+    tell_point(program, desk.source(), request, post, turned)
 }
 
 /// A command as the console takes it: CLEAR needs a line, since an editor hears of one line at a

@@ -5,7 +5,6 @@ use crate::pen::Pen;
 use ss_check::SymbolTable;
 use ss_messages::{Counting, Post, Source, Stops, Text};
 use ss_prompt::Shown;
-use std::alloc::Global;
 use std::marker::Model;
 
 /// The most data break points. Their numbers are 1 to this one; those of break lines come after.
@@ -86,7 +85,6 @@ impl Desk {
 
     /// A desk on which nothing is set yet, and no part of the report is sent.
     pub fn new(
-        alloc: Global,
         path: Vec<u8>,
         model: Vec<u8>,
         symbols: SymbolTable,
@@ -106,6 +104,7 @@ impl Desk {
           stops = stops;
         } }
     {
+        let alloc = *path.allocator();
         Desk {
             path,
             model,

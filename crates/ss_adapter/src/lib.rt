@@ -31,5 +31,5 @@ pub use laws::{
     each_request_has_one_answer, nearest_change_is_least, nearest_change_is_one_of_them,
     searches_for_a_line_end_nearest,
 };
-pub use opening::launch;
+pub use opening::{Opening, launch};
 pub use turns::{Further, turn_elsewhere};

@@ -9,7 +9,7 @@ ghost use Rattle.ss_adapter.specs.Turn.{going_to_stop, answer_to_configuration, 
 use crate::desk::Desk;
 use crate::going::{Going, make_watched, run_going};
 use crate::reach::Way;
-use crate::telling::{tell_here, tell_movement};
+use crate::telling::{MovementEnd, tell_here, tell_movement};
 use ss_debug::Debugger;
 use ss_links::SetBoard;
 use ss_messages::{NOTHING, Post, Request};
@@ -37,7 +37,11 @@ pub fn go<S: SetBoard>(
     let mut answer = Vec::new(post.alloc());
     let changed = make_watched(debugger, going, &mut answer)?;
     post.reply(request, NOTHING)?;
-    tell_movement(debugger, desk, request, post, &answer, changed)
+    let end = MovementEnd {
+        answer: &answer,
+        changed,
+    };
+    tell_movement(debugger, desk, request, post, end)
 }
 
 /// The movement to the stop of the run; if the run is not debugged, to its end.

@@ -23,7 +23,7 @@ fn fault_line(alloc: Global, fault: &LoadFault) -> Result<Vec<u8>, AllocError>
 {
     match fault {
         LoadFault::Text { rule, line } => refusal_text(alloc, rule.code(), *line),
-        LoadFault::Check { rule, line } => refusal_text(alloc, rule.code(), *line),
+        LoadFault::Check { rule, line, .. } => refusal_text(alloc, rule.code(), *line),
         LoadFault::Memory => Ok(Vec::new(alloc)),
     }
 }
@@ -99,15 +99,23 @@ fn tell_opened(
     accept(request, post, &text)
 }
 
-/// Launches the run of a model, as the editor knows it, over its data, and answers the request.
+/// How an editor has a run opened.
+#[derive(Clone, Copy)]
+pub struct Opening<'a> {
+    /// The model, as the editor knows it.
+    pub source: Source<'a>,
+    /// The stops of the run.
+    pub stops: Stops,
+}
+
+/// Launches the run of a model over its data, and answers the request.
 ///
 /// `None` if the model is refused; the answer says why, and on which line. `AllocError` if memory
 /// was refused.
 pub fn launch(
     request: &Request,
     post: &mut Post,
-    source: Source<'_>,
-    stops: Stops,
+    opening: Opening<'_>,
     model: &[u8],
     text: &[u8],
 ) -> Result<Option<Launched>, AllocError>
@@ -115,15 +123,16 @@ pub fn launch(
     ensures run { IfOk result (λ opened. MatchOption opened
         ((fault : LoadFault) × (fault ≢ Memory) × IsLoadFault fault model.now
         × IsRefusedLaunch fault model.now request.now post.old post.new)
-        (λ run. IsLaunched model.now text.now source.entry.path.now source.entry.counting stops run
+        (λ run. IsLaunched model.now text.now opening.entry.source.path.now
+        opening.entry.source.counting opening.entry.stops run
         × (post.new ≡ posted_all request.now post.old
         (answer_to_launch (warnings_told run.input.program model.now))))) }
 {
     let alloc = post.alloc();
-    let (path, bytes) = (source.path.to_vec(alloc)?, model.to_vec(alloc)?);
+    let (path, bytes) = (opening.source.path.to_vec(alloc)?, model.to_vec(alloc)?);
     match open_debugger_with_symbols(alloc, model, text) {
         Ok(Opened { debugger, symbols }) => {
-            let desk = Desk::new(alloc, path, bytes, symbols, source.counting, stops);
+            let desk = Desk::new(path, bytes, symbols, opening.source.counting, opening.stops);
             match tell_opened(request, post, debugger.machine().program(), model) {
                 Ok(()) => Ok(Some(Launched::new(debugger, desk))),
                 Err(error) => {

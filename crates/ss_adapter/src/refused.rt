@@ -3,7 +3,7 @@ ghost use Rattle.std.specs.Prelude.{◌≡◌, IfOk};
 ghost use Rattle.ss_prompt.specs.Explained.{check_explanation};
 ghost use Rattle.ss_adapter.specs.Refused.{IsExplained};
 
-use ss_prompt::push_check_explanation;
+use ss_prompt::{CheckRefusal, push_check_explanation};
 use ss_sentences::text_refusal;
 use ss_session::LoadFault;
 use std::alloc::{AllocError, Global};
@@ -12,13 +12,13 @@ use std::alloc::{AllocError, Global};
 fn check_explanation(
     alloc: Global,
     model: &[u8],
-    code: &str,
-    line: usize,
+    refusal: CheckRefusal<'_>,
 ) -> Result<Vec<u8>, AllocError>
-    ensures { IfOk result (λ text. text.items ≡ check_explanation model.now code.now line) }
+    ensures { IfOk result (λ text. text.items ≡ check_explanation model.now refusal.entry.rule
+        refusal.entry.line refusal.entry.wrong.now) }
 {
     let mut text = Vec::new(alloc);
-    push_check_explanation(alloc, model, code, line, &mut text)?;
+    push_check_explanation(alloc, model, refusal, &mut text)?;
     Ok(text)
 }
 
@@ -29,7 +29,10 @@ pub fn explanation(alloc: Global, model: &[u8], fault: &LoadFault) -> Result<Vec
 {
     match fault {
         LoadFault::Text { .. } => text_refusal(alloc, model),
-        LoadFault::Check { rule, line } => check_explanation(alloc, model, rule.code(), *line),
+        LoadFault::Check { rule, line, wrong } => {
+            let (rule, line) = (*rule, *line);
+            check_explanation(alloc, model, CheckRefusal { rule, line, wrong })
+        }
         LoadFault::Memory => Ok(Vec::new(alloc)),
     }
 }

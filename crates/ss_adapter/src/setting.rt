@@ -7,7 +7,7 @@ ghost use Rattle.ss_adapter.specs.Turn.{adapter_state_of, first_points, setting_
 ghost use Rattle.ss_adapter.specs.Turn.{behind_setting, behind_sections, behind_watching};
 ghost use Rattle.ss_adapter.specs.Watch.{watching_of};
 
-use crate::breaks::{push_all_unset, set_lines, set_sections};
+use crate::breaks::{SetPoints, push_all_unset, set_lines, set_sections};
 use crate::desk::Desk;
 use crate::watch::watch;
 use ss_debug::Debugger;
@@ -49,17 +49,9 @@ pub fn set_breaks<S: SetBoard>(
         ≡ behind_setting (adapter_state_of debugger.old desk.old)
         (setting_in (adapter_state_of debugger.old desk.old) points.now)) }
 {
-    let mut text = Vec::new(post.alloc());
     let asked = first_points(points, MOST_POINTS);
-    set_lines(
-        desk.pen(post),
-        debugger,
-        &desk.symbols,
-        &mut desk.set,
-        &desk.sections,
-        &mut text,
-        asked,
-    )?;
+    let SetPoints { lines, text } = set_lines(desk.pen(post), debugger, desk, asked)?;
+    desk.set = lines;
     let body = list_body(post.alloc(), b"breakpoints", &text)?;
     post.reply(request, &body)
 }
@@ -101,15 +93,8 @@ pub fn set_section_breaks<S: SetBoard>(
         ≡ behind_sections (adapter_state_of debugger.old desk.old)
         (sections_in (adapter_state_of debugger.old desk.old) names.now)) }
 {
-    let mut text = Vec::new(post.alloc());
-    set_sections(
-        desk.pen(post),
-        debugger,
-        &mut desk.sections,
-        &desk.set,
-        &mut text,
-        names,
-    )?;
+    let SetPoints { lines, text } = set_sections(desk.pen(post), debugger, desk, names)?;
+    desk.sections = lines;
     let body = list_body(post.alloc(), b"breakpoints", &text)?;
     post.reply(request, &body)
 }

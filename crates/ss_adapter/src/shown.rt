@@ -1,7 +1,7 @@
 //! The questions on the variables that an editor shows.
 ghost use Rattle.std.specs.Prelude.{◌≡◌, ◌++◌, ◌<◌, IfOk};
 ghost use Rattle.ss_debug.specs.Entities.{set_named};
-ghost use Rattle.ss_adapter.specs.Watch.{list_asked, attribute_asked, entity_asked_by, entity_asked};
+ghost use Rattle.ss_adapter.specs.Watch.{list_asked, attribute_asked, entity_asked};
 ghost use Rattle.ss_adapter.specs.Watch.{set_asked_by, set_asked, owned_asked_by, owned_asked};
 ghost use Rattle.ss_adapter.specs.Watch.{variable_asked, local_asked, run_asked, asked_text};
 
@@ -47,25 +47,8 @@ fn attribute_asked(
     Ok(line)
 }
 
-/// The question on the list or attribute that an entity has under a name.
-fn entity_asked_by(
-    alloc: Global,
-    program: &Program,
-    class: usize,
-    number: u32,
-    name: &[u8],
-    set: Option<usize>,
-) -> Result<Vec<u8>, AllocError>
-    ensures { IfOk result (λ line. line.items
-        ≡ entity_asked_by program.now class number name.now set) }
-{
-    match set {
-        Some(_) => list_asked(alloc, name, number),
-        None => attribute_asked(alloc, program.class_name(class), number, name),
-    }
-}
-
-/// That question, if there is such a class; else an empty text.
+/// The question on the list or attribute that an entity of the class with this number has under a
+/// name, if there is such a class; else an empty text.
 fn entity_asked(
     alloc: Global,
     program: &Program,
@@ -79,8 +62,10 @@ fn entity_asked(
     if class >= program.classes.len() {
         return Ok(Vec::new(alloc));
     }
-    let set = find_set(program, name);
-    entity_asked_by(alloc, program, class, number, name, set)
+    match find_set(program, name) {
+        Some(_) => list_asked(alloc, name, number),
+        None => attribute_asked(alloc, program.class_name(class), number, name),
+    }
 }
 
 /// The question on a set of this name, if the system owns it.

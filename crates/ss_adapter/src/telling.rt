@@ -1,11 +1,11 @@
 //! The messages after a movement: new output, and the position of the run.
-ghost use Rattle.std.specs.Prelude.{◌≡◌, ◌+◌, ◌-◌, ◌^◌, ◌<◌, ◌≤◌, slice_get, IfOk, OnOk, None};
+ghost use Rattle.std.specs.Prelude.{◌≡◌, ◌+◌, ◌-◌, ◌^◌, ◌<◌, ◌≤◌, IfOk, OnOk, None};
 ghost use Rattle.ss_machine.specs.Moment.{position};
 ghost use Rattle.ss_debug.specs.View.{debugger_state_of};
 ghost use Rattle.ss_messages.specs.Messages.{posted_with, posted_all};
 ghost use Rattle.ss_adapter.specs.Turn.{told_with, report_at, untold_output, stopped_event, behind_movement};
 ghost use Rattle.ss_adapter.specs.Turn.{reply_with_stop};
-ghost use Rattle.ss_adapter.specs.Turn.{change_text, change_event, exit_events, stop_events, end_by, end_of};
+ghost use Rattle.ss_adapter.specs.Turn.{change_text, change_event, exit_events, stop_events, end_of};
 
 use crate::desk::Desk;
 use crate::fixed::NO_EXIT;
@@ -124,69 +124,58 @@ fn tell_ended<S: SetBoard>(
     tell_stop(request, post, reason(debugger), without_last(answer), hit)
 }
 
-/// Sends that a movement ended at the change of the data break point in this place, if there is
-/// one.
-#[tactic(auto, unfolding(ss_messages::specs::Messages::posted_all))]
-fn tell_end_at<S: SetBoard>(
-    debugger: &Debugger<S>,
-    desk: &Desk,
-    request: &Request,
-    post: &mut Post,
-    answer: &[u8],
-    place: usize,
-) -> Result<(), AllocError>
-    requires { post.old.sent + 1 < 2 ^ 64 - 1 }
-    ensures { OnOk result (post.new ≡ posted_all request.now post.old (end_by
-        debugger.now.machine.input (debugger_state_of debugger.now) desk.now.stops.at_end answer.now
-        place (slice_get desk.now.watched place))) }
-{
-    match desk.watched.get(place) {
-        None => tell_ended(debugger, desk.stops.at_end, request, post, answer),
-        Some(question) => tell_change(request, post, answer, place, question.as_slice()),
-    }
+/// How a movement ended.
+#[derive(Clone, Copy)]
+pub struct MovementEnd<'a> {
+    /// Its answer.
+    pub answer: &'a [u8],
+    /// The place of the data break point at whose change it ended, if it ended at one.
+    pub changed: Option<usize>,
 }
 
-/// Sends the end of a movement: perhaps at the change of the data break point in this place.
+/// Sends the end of a movement: perhaps at the change of a data break point.
+#[tactic(auto, unfolding(ss_messages::specs::Messages::posted_all))]
 fn tell_end<S: SetBoard>(
     debugger: &Debugger<S>,
     desk: &Desk,
     request: &Request,
     post: &mut Post,
-    answer: &[u8],
-    changed: Option<usize>,
+    end: MovementEnd<'_>,
 ) -> Result<(), AllocError>
     requires { post.old.sent + 1 < 2 ^ 64 - 1 }
     ensures { OnOk result (post.new ≡ posted_all request.now post.old (end_of
         debugger.now.machine.input (debugger_state_of debugger.now) desk.now.stops.at_end
-        desk.now.watched answer.now changed)) }
+        desk.now.watched end.entry.answer.now end.entry.changed)) }
 {
-    match changed {
-        None => tell_ended(debugger, desk.stops.at_end, request, post, answer),
-        Some(place) => tell_end_at(debugger, desk, request, post, answer, place),
+    let at_end = desk.stops.at_end;
+    let Some(place) = end.changed else {
+        return tell_ended(debugger, at_end, request, post, end.answer);
+    };
+    match desk.watched.get(place) {
+        None => tell_ended(debugger, at_end, request, post, end.answer),
+        Some(question) => tell_change(request, post, end.answer, place, question.as_slice()),
     }
 }
 
-/// Sends the messages after a movement with this answer. The movement perhaps ended at the change
-/// of the data break point in a place.
+/// Sends the messages after a movement that ended so.
 #[tactic(auto, using(ss_messages::proofs::Posts::posted_both))]
 pub fn tell_movement<S: SetBoard>(
     debugger: &Debugger<S>,
     desk: &mut Desk,
     request: &Request,
     post: &mut Post,
-    answer: &[u8],
-    changed: Option<usize>,
+    end: MovementEnd<'_>,
 ) -> Result<(), AllocError>
     requires { post.old.sent + 2 < 2 ^ 64 - 1 }
     ensures symbols { desk.new.symbols ≡ desk.old.symbols }
     ensures sent { OnOk result (post.new ≡ posted_all request.now post.old
         (behind_movement debugger.now.machine.input desk.old (debugger_state_of debugger.now)
-        answer.now changed)) }
+        end.entry.answer.now end.entry.changed)) }
     ensures desk { OnOk result (desk.new ≡ told_with desk.old
         (report_at debugger.now.machine.input (debugger_state_of debugger.now))) }
 {
     tell_report(debugger, desk, request, post)?;
-    tell_end(debugger, desk, request, post, answer, changed)
+    tell_end(debugger, desk, request, post, end)
 }
 
 /// Sends the position of the run.

@@ -12,7 +12,7 @@ ghost use Rattle.ss_scopes.specs.Kept.{owner_items, member_items};
 
 use crate::group::{class_reference, set_reference};
 use crate::kept::{push_member_items, push_owner_items};
-use crate::pages::numbers_on;
+use crate::pages::Page;
 use itoa::Buffer;
 use ss_debug::push_number;
 use ss_inspect::living_numbers;
@@ -41,7 +41,6 @@ pub fn entity_name(
 
 /// Appends an entity of the class with this number, under its number.
 fn push_entity(
-    alloc: Global,
     out: &mut Vec<u8>,
     program: &Program,
     class: usize,
@@ -50,6 +49,7 @@ fn push_entity(
     ensures { OnOk result (out.new.items
         ≡ out.old.items ++ entity_item program.now class number) }
 {
+    let alloc = *out.allocator();
     let mut buffer = Buffer::new();
     let name = entity_name(alloc, program, class, number)?;
     let reference = class_reference(class, number);
@@ -59,7 +59,6 @@ fn push_entity(
 
 /// Appends entities of the class with this number.
 pub fn push_entities(
-    alloc: Global,
     out: &mut Vec<u8>,
     program: &Program,
     class: usize,
@@ -69,49 +68,45 @@ pub fn push_entities(
         ≡ out.old.items ++ entity_items program.now class numbers.now) }
 {
     for number in numbers {
-        push_entity(alloc, out, program, class, *number)?;
+        push_entity(out, program, class, *number)?;
     }
     Ok(())
 }
 
 /// Appends a page of the entities of the class with this number that live.
 fn push_living<S: SetBoard>(
-    alloc: Global,
     out: &mut Vec<u8>,
     machine: &Machine<S>,
     class: usize,
-    start: usize,
-    count: usize,
+    page: Page,
 ) -> Result<(), AllocError>
     ensures { OnOk result (out.new.items ≡ out.old.items
-        ++ living_page machine.now.input.program machine.now.state.store class start count) }
+        ++ living_page machine.now.input.program machine.now.state.store class page.start
+        page.count) }
 {
-    let numbers = living_numbers(alloc, machine, class)?;
-    let page = numbers_on(&numbers, start, count);
-    push_entities(alloc, out, machine.program(), class, page)
+    let numbers = living_numbers(*out.allocator(), machine, class)?;
+    push_entities(out, machine.program(), class, page.numbers_on(&numbers))
 }
 
 /// Appends a page of the entities of a class that live, if there is such a class.
 pub fn push_class<S: SetBoard>(
-    alloc: Global,
     out: &mut Vec<u8>,
     machine: &Machine<S>,
     class: usize,
-    start: usize,
-    count: usize,
+    page: Page,
 ) -> Result<(), AllocError>
     ensures { OnOk result (out.new.items ≡ out.old.items
-        ++ class_page machine.now.input.program machine.now.state.store class start count) }
+        ++ class_page machine.now.input.program machine.now.state.store class page.start
+        page.count) }
 {
     if class >= machine.program().classes.len() {
         return Ok(());
     }
-    push_living(alloc, out, machine, class, start, count)
+    push_living(out, machine, class, page)
 }
 
 /// Appends an attribute of an entity of the class with this number.
 fn push_attribute<S: SetBoard>(
-    alloc: Global,
     out: &mut Vec<u8>,
     machine: &Machine<S>,
     class: usize,
@@ -128,13 +123,12 @@ fn push_attribute<S: SetBoard>(
         .get(class, attribute, i64::from(number))
         .unwrap_or(0);
     let name = name_at(machine.program().attributes(class), attribute);
-    let item = variable_item(alloc, name, buffer.format(value).as_bytes(), 0)?;
+    let item = variable_item(*out.allocator(), name, buffer.format(value).as_bytes(), 0)?;
     out.extend_from_slice(&item)
 }
 
 /// Appends the attributes of an entity of the class with this number.
 fn push_attributes<S: SetBoard>(
-    alloc: Global,
     out: &mut Vec<u8>,
     machine: &Machine<S>,
     class: usize,
@@ -145,7 +139,7 @@ fn push_attributes<S: SetBoard>(
         number) (length (class_of machine.now.input.program class).attributes)) }
 {
     for attribute in 0..machine.program().attributes(class).len() {
-        push_attribute(alloc, out, machine, class, number, attribute)?;
+        push_attribute(out, machine, class, number, attribute)?;
     }
     Ok(())
 }
@@ -171,7 +165,6 @@ pub fn member_count<S: SetBoard>(machine: &Machine<S>, set: usize, owner: u32) -
 
 /// Appends the list of a set for the owner with this number, under a name.
 pub fn push_list<S: SetBoard>(
-    alloc: Global,
     out: &mut Vec<u8>,
     machine: &Machine<S>,
     name: &[u8],
@@ -186,7 +179,7 @@ pub fn push_list<S: SetBoard>(
     let count = u64::from(member_count(machine, set, owner));
     let reference = set_reference(set, owner);
     let item = paged_item(
-        alloc,
+        *out.allocator(),
         name,
         buffer.format(count).as_bytes(),
         reference,
@@ -208,7 +201,6 @@ fn is_owned_by(owner: Owner, class: usize) -> bool
 /// Appends the kept attributes of the owner with this number, for a set of the program.
 #[tactic(auto, using(ss_debug::proofs::Tables::sets_kept))]
 fn push_owner_kept<S: SetBoard>(
-    alloc: Global,
     out: &mut Vec<u8>,
     machine: &Machine<S>,
     set: usize,
@@ -220,13 +212,12 @@ fn push_owner_kept<S: SetBoard>(
         (shape_of machine.now.input.program set) machine.now.state.store owner) }
 {
     let name = machine.program().set_name(set);
-    push_owner_items(alloc, out, machine.store(), name, set, i64::from(owner))
+    push_owner_items(out, machine.store(), name, set, i64::from(owner))
 }
 
 /// Appends the kept attributes of an entity in a set of the program.
 #[tactic(auto, using(ss_debug::proofs::Tables::sets_kept))]
 fn push_member_kept<S: SetBoard>(
-    alloc: Global,
     out: &mut Vec<u8>,
     machine: &Machine<S>,
     set: usize,
@@ -238,13 +229,12 @@ fn push_member_kept<S: SetBoard>(
         (shape_of machine.now.input.program set) machine.now.state.store number) }
 {
     let name = machine.program().set_name(set);
-    push_member_items(alloc, out, machine.store(), name, set, i64::from(number))
+    push_member_items(out, machine.store(), name, set, i64::from(number))
 }
 
 /// Appends the list of a set for an entity, and the kept attributes of the list, if its class owns
 /// it.
 fn push_owned<S: SetBoard>(
-    alloc: Global,
     out: &mut Vec<u8>,
     machine: &Machine<S>,
     class: usize,
@@ -259,13 +249,12 @@ fn push_owned<S: SetBoard>(
     if !is_owned_by(program.set_owner(set), class) {
         return Ok(());
     }
-    push_list(alloc, out, machine, program.set_name(set), set, number)?;
-    push_owner_kept(alloc, out, machine, set, number)
+    push_list(out, machine, program.set_name(set), set, number)?;
+    push_owner_kept(out, machine, set, number)
 }
 
 /// Appends the kept attributes of an entity in a set, if it may be in it.
 fn push_joined<S: SetBoard>(
-    alloc: Global,
     out: &mut Vec<u8>,
     machine: &Machine<S>,
     class: usize,
@@ -279,12 +268,11 @@ fn push_joined<S: SetBoard>(
     if machine.program().member_class(set) != class {
         return Ok(());
     }
-    push_member_kept(alloc, out, machine, set, number)
+    push_member_kept(out, machine, set, number)
 }
 
 /// Appends the lists that an entity owns, and the kept attributes of each.
 fn push_owned_lists<S: SetBoard>(
-    alloc: Global,
     out: &mut Vec<u8>,
     machine: &Machine<S>,
     class: usize,
@@ -295,14 +283,13 @@ fn push_owned_lists<S: SetBoard>(
         (length machine.now.input.program.sets)) }
 {
     for set in 0..machine.program().sets.len() {
-        push_owned(alloc, out, machine, class, number, set)?;
+        push_owned(out, machine, class, number, set)?;
     }
     Ok(())
 }
 
 /// Appends the kept attributes of an entity in the sets in which it may be.
 fn push_joined_sets<S: SetBoard>(
-    alloc: Global,
     out: &mut Vec<u8>,
     machine: &Machine<S>,
     class: usize,
@@ -313,14 +300,13 @@ fn push_joined_sets<S: SetBoard>(
         number) (length machine.now.input.program.sets)) }
 {
     for set in 0..machine.program().sets.len() {
-        push_joined(alloc, out, machine, class, number, set)?;
+        push_joined(out, machine, class, number, set)?;
     }
     Ok(())
 }
 
 /// Appends the attributes of an entity that lives, the lists that it owns, and its kept attributes.
 pub fn push_entity_variables<S: SetBoard>(
-    alloc: Global,
     out: &mut Vec<u8>,
     machine: &Machine<S>,
     class: usize,
@@ -333,7 +319,7 @@ pub fn push_entity_variables<S: SetBoard>(
     if !known || !machine.store().exists(class, i64::from(number)) {
         return Ok(());
     }
-    push_attributes(alloc, out, machine, class, number)?;
-    push_owned_lists(alloc, out, machine, class, number)?;
-    push_joined_sets(alloc, out, machine, class, number)
+    push_attributes(out, machine, class, number)?;
+    push_owned_lists(out, machine, class, number)?;
+    push_joined_sets(out, machine, class, number)
 }

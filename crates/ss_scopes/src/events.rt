@@ -10,11 +10,10 @@ use ss_links::SetBoard;
 use ss_machine::Machine;
 use ss_messages::variable_item;
 use ss_program::Program;
-use std::alloc::{AllocError, Global};
+use std::alloc::AllocError;
 
 /// Appends a pending notice.
 fn push_event(
-    alloc: Global,
     out: &mut Vec<u8>,
     program: &Program,
     notice: u32,
@@ -23,6 +22,7 @@ fn push_event(
     ensures { OnOk result (out.new.items
         ≡ out.old.items ++ notice_item program.now notice slot) }
 {
+    let alloc = *out.allocator();
     let name = entity_name(alloc, program, slot.class, notice)?;
     let mut due = Vec::from_slice(alloc, b"AT ")?;
     push_integer(&mut due, slot.time)?;
@@ -31,11 +31,7 @@ fn push_event(
 }
 
 /// Appends the pending notices, the next first.
-pub fn push_events<S: SetBoard>(
-    alloc: Global,
-    out: &mut Vec<u8>,
-    machine: &Machine<S>,
-) -> Result<(), AllocError>
+pub fn push_events<S: SetBoard>(out: &mut Vec<u8>, machine: &Machine<S>) -> Result<(), AllocError>
     ensures { OnOk result (out.new.items ≡ out.old.items
         ++ event_items machine.now.input.program machine.now.state.agenda) }
 {
@@ -44,7 +40,7 @@ pub fn push_events<S: SetBoard>(
     let mut listing = agenda.listing();
     while let Some(notice) = agenda.list_next(&mut listing) {
         let slot = agenda.slot(notice).unwrap();
-        push_event(alloc, out, machine.program(), notice, slot)?;
+        push_event(out, machine.program(), notice, slot)?;
     }
     Ok(())
 }

@@ -4,21 +4,20 @@ ghost use Rattle.std.specs.Fmt.{signed_decimal};
 ghost use Rattle.ss_state.specs.Frames.{frame_local};
 ghost use Rattle.ss_inspect.specs.Frames.{locals_in};
 ghost use Rattle.ss_messages.specs.Bodies.{variable_item};
-ghost use Rattle.ss_scopes.specs.Pages.{page};
+ghost use Rattle.ss_scopes.specs.Pages as pages;
 ghost use Rattle.ss_scopes.specs.Frames.{frame_text, frames_page, local_item, locals_page, global_item, globals_page};
 
-use crate::pages::page_size;
+use crate::pages::Page;
 use itoa::Buffer;
 use ss_debug::place_line;
 use ss_links::SetBoard;
 use ss_machine::Machine;
 use ss_messages::{Source, frame_item, variable_item};
 use ss_program::{Variable, name_at};
-use std::alloc::{AllocError, Global};
+use std::alloc::AllocError;
 
 /// Appends the frame with `depth` frames above it.
 fn push_frame<S: SetBoard>(
-    alloc: Global,
     out: &mut Vec<u8>,
     machine: &Machine<S>,
     source: Source<'_>,
@@ -35,7 +34,7 @@ fn push_frame<S: SetBoard>(
     let program = machine.program();
     let line = place_line(program, section, place) as u64;
     let item = frame_item(
-        alloc,
+        *out.allocator(),
         depth as u64 + 1,
         program.section_name(section),
         line,
@@ -46,19 +45,17 @@ fn push_frame<S: SetBoard>(
 
 /// Appends a page of the frames, the last one first, each with its line of the model.
 pub fn push_frames<S: SetBoard>(
-    alloc: Global,
     out: &mut Vec<u8>,
     machine: &Machine<S>,
     source: Source<'_>,
-    start: usize,
-    count: usize,
+    page: Page,
 ) -> Result<(), AllocError>
     ensures { OnOk result (out.new.items ≡ out.old.items
         ++ frames_page machine.now.input.program machine.now.state source.entry.path.now
-        source.entry.counting start count) }
+        source.entry.counting page.start page.count) }
 {
-    for k in 0..page_size(start, count, machine.frames()) {
-        push_frame(alloc, out, machine, source, start + k)?;
+    for k in 0..page.size(machine.frames()) {
+        push_frame(out, machine, source, page.start + k)?;
     }
     Ok(())
 }
@@ -71,18 +68,17 @@ fn local_value<S: SetBoard>(machine: &Machine<S>, depth: usize, number: usize) -
 }
 
 /// Appends a comma and a variable with its value.
-fn push_value(alloc: Global, out: &mut Vec<u8>, name: &[u8], value: i64) -> Result<(), AllocError>
+fn push_value(out: &mut Vec<u8>, name: &[u8], value: i64) -> Result<(), AllocError>
     ensures { OnOk result (out.new.items ≡ out.old.items
         ++ variable_item name.now (signed_decimal value) 0) }
 {
     let mut buffer = Buffer::new();
-    let item = variable_item(alloc, name, buffer.format(value).as_bytes(), 0)?;
+    let item = variable_item(*out.allocator(), name, buffer.format(value).as_bytes(), 0)?;
     out.extend_from_slice(&item)
 }
 
 /// Appends a local of the frame with `depth` frames above it; the frame is of this section.
 fn push_local<S: SetBoard>(
-    alloc: Global,
     out: &mut Vec<u8>,
     machine: &Machine<S>,
     depth: usize,
@@ -93,45 +89,41 @@ fn push_local<S: SetBoard>(
         ++ local_item machine.now.input.program machine.now.state depth section number) }
 {
     let name = name_at(machine.program().locals(section), number);
-    push_value(alloc, out, name, local_value(machine, depth, number))
+    push_value(out, name, local_value(machine, depth, number))
 }
 
 /// Appends a page of the locals of a frame, which is of this section.
 fn push_section_locals<S: SetBoard>(
-    alloc: Global,
     out: &mut Vec<u8>,
     machine: &Machine<S>,
     depth: usize,
     section: usize,
-    start: usize,
-    count: usize,
+    page: Page,
 ) -> Result<(), AllocError>
     ensures { OnOk result (out.new.items ≡ out.old.items
-        ++ page (local_item machine.now.input.program machine.now.state depth section) start count
-        (length (locals_in machine.now.input.program section))) }
+        ++ pages.page (local_item machine.now.input.program machine.now.state depth section)
+        page.start page.count (length (locals_in machine.now.input.program section))) }
 {
-    for k in 0..page_size(start, count, machine.program().locals(section).len()) {
-        push_local(alloc, out, machine, depth, section, start + k)?;
+    for k in 0..page.size(machine.program().locals(section).len()) {
+        push_local(out, machine, depth, section, page.start + k)?;
     }
     Ok(())
 }
 
 /// Appends a page of the locals of the frame with `depth` frames above it.
 pub fn push_locals<S: SetBoard>(
-    alloc: Global,
     out: &mut Vec<u8>,
     machine: &Machine<S>,
     depth: usize,
-    start: usize,
-    count: usize,
+    page: Page,
 ) -> Result<(), AllocError>
     ensures { OnOk result (out.new.items ≡ out.old.items
-        ++ locals_page machine.now.input.program machine.now.state depth start count) }
+        ++ locals_page machine.now.input.program machine.now.state depth page.start page.count) }
 {
     let Some((section, _)) = machine.frame_place(depth) else {
         return Ok(());
     };
-    push_section_locals(alloc, out, machine, depth, section, start, count)
+    push_section_locals(out, machine, depth, section, page)
 }
 
 /// The value of the global variable with this number.
@@ -145,7 +137,6 @@ fn global_value<S: SetBoard>(machine: &Machine<S>, number: usize) -> i64
 
 /// Appends the global variable with this number.
 fn push_global<S: SetBoard>(
-    alloc: Global,
     out: &mut Vec<u8>,
     machine: &Machine<S>,
     number: usize,
@@ -155,22 +146,20 @@ fn push_global<S: SetBoard>(
         ++ global_item machine.now.input.program machine.now.state number) }
 {
     let name = name_at(&machine.program().globals, number);
-    push_value(alloc, out, name, global_value(machine, number))
+    push_value(out, name, global_value(machine, number))
 }
 
 /// Appends a page of the global variables.
 pub fn push_globals<S: SetBoard>(
-    alloc: Global,
     out: &mut Vec<u8>,
     machine: &Machine<S>,
-    start: usize,
-    count: usize,
+    page: Page,
 ) -> Result<(), AllocError>
     ensures { OnOk result (out.new.items ≡ out.old.items
-        ++ globals_page machine.now.input.program machine.now.state start count) }
+        ++ globals_page machine.now.input.program machine.now.state page.start page.count) }
 {
-    for k in 0..page_size(start, count, machine.program().globals.len()) {
-        push_global(alloc, out, machine, start + k)?;
+    for k in 0..page.size(machine.program().globals.len()) {
+        push_global(out, machine, page.start + k)?;
     }
     Ok(())
 }

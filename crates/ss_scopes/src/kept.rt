@@ -10,11 +10,10 @@ use ss_links::SetBoard;
 use ss_messages::variable_item;
 use ss_store::Store;
 use ss_words::RunFault;
-use std::alloc::{AllocError, Global};
+use std::alloc::AllocError;
 
 /// Appends a kept attribute: the letter and period before the set's name, that name, and its value.
 fn push_kept(
-    alloc: Global,
     out: &mut Vec<u8>,
     kept: &'static [u8],
     set: &[u8],
@@ -23,6 +22,7 @@ fn push_kept(
     ensures { OnOk result (out.new.items
         ≡ out.old.items ++ kept_item kept.now set.now value) }
 {
+    let alloc = *out.allocator();
     let mut buffer = Buffer::new();
     let mut name = Vec::from_slice(alloc, kept)?;
     name.extend_from_slice(set)?;
@@ -39,7 +39,6 @@ fn member_number(member: Result<Option<u32>, RunFault>) -> u32
 
 /// Appends `F.s`, `L.s` and `N.s` of a set of this name for one of its owners.
 pub fn push_owner_items<S: SetBoard>(
-    alloc: Global,
     out: &mut Vec<u8>,
     store: &Store<S>,
     name: &[u8],
@@ -52,21 +51,14 @@ pub fn push_owner_items<S: SetBoard>(
         (number_of owner)) }
 {
     let first = member_number(store.walk_first(set, owner));
-    push_kept(alloc, out, b"F.", name, first)?;
+    push_kept(out, b"F.", name, first)?;
     let last = member_number(store.walk_last(set, owner));
-    push_kept(alloc, out, b"L.", name, last)?;
-    push_kept(
-        alloc,
-        out,
-        b"N.",
-        name,
-        store.count(set, owner).unwrap_or(0),
-    )
+    push_kept(out, b"L.", name, last)?;
+    push_kept(out, b"N.", name, store.count(set, owner).unwrap_or(0))
 }
 
 /// Appends `P.s`, `S.s` and `M.s` of a set of this name for an entity of its members' class.
 pub fn push_member_items<S: SetBoard>(
-    alloc: Global,
     out: &mut Vec<u8>,
     store: &Store<S>,
     name: &[u8],
@@ -79,9 +71,9 @@ pub fn push_member_items<S: SetBoard>(
         (number_of member)) }
 {
     let before = member_number(store.predecessor(set, member));
-    push_kept(alloc, out, b"P.", name, before)?;
+    push_kept(out, b"P.", name, before)?;
     let behind = member_number(store.successor(set, member));
-    push_kept(alloc, out, b"S.", name, behind)?;
+    push_kept(out, b"S.", name, behind)?;
     let is_member = store.membership(set, member).unwrap_or(false);
-    push_kept(alloc, out, b"M.", name, u32::from(is_member))
+    push_kept(out, b"M.", name, u32::from(is_member))
 }

@@ -20,5 +20,6 @@ mod variables;
 pub use frames::push_frames;
 pub use group::{Group, class_reference, group_of, set_reference};
 pub use laws::references_are_read_back;
+pub use pages::Page;
 pub use scopes::push_scopes;
 pub use variables::{push_variables, question_value};

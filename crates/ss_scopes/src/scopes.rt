@@ -7,7 +7,7 @@ use crate::group::FIRST_LOCALS;
 use ss_links::SetBoard;
 use ss_machine::Machine;
 use ss_messages::scope_item;
-use std::alloc::{AllocError, Global};
+use std::alloc::AllocError;
 
 /// The locals of a frame with this number of frames above it, or more, have no scope.
 pub const MOST_FRAMES: u64 = 1_000;
@@ -23,7 +23,6 @@ pub const OTHER_SCOPES: &[u8] =
 
 /// Appends the locals of the frame with `depth` frames above it, if there is one.
 fn push_locals_scope<S: SetBoard>(
-    alloc: Global,
     out: &mut Vec<u8>,
     machine: &Machine<S>,
     depth: u64,
@@ -34,13 +33,12 @@ fn push_locals_scope<S: SetBoard>(
     if depth >= MOST_FRAMES || depth >= machine.frames() as u64 {
         return Ok(());
     }
-    let item = scope_item(alloc, b"Locals", u64::from(FIRST_LOCALS) + depth)?;
+    let item = scope_item(*out.allocator(), b"Locals", u64::from(FIRST_LOCALS) + depth)?;
     out.extend_from_slice(&item)
 }
 
 /// Appends the scopes of the frame with this number, each after a comma.
 pub fn push_scopes<S: SetBoard>(
-    alloc: Global,
     out: &mut Vec<u8>,
     machine: &Machine<S>,
     frame: u64,
@@ -49,6 +47,6 @@ pub fn push_scopes<S: SetBoard>(
         ≡ out.old.items ++ scopes_text machine.now.input (position machine.now) frame) }
 {
     machine.known();
-    push_locals_scope(alloc, out, machine, frame.saturating_sub(1))?;
+    push_locals_scope(out, machine, frame.saturating_sub(1))?;
     out.extend_from_slice(OTHER_SCOPES)
 }

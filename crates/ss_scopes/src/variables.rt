@@ -9,6 +9,7 @@ use crate::entities::{push_class, push_entity_variables};
 use crate::events::push_events;
 use crate::frames::{push_globals, push_locals};
 use crate::group::{Group, group_of};
+use crate::pages::Page;
 use crate::sets::{push_classes, push_list_page, push_set, push_sets};
 use ss_debug::{Debugger, Question as Shown};
 use ss_links::SetBoard;
@@ -34,7 +35,6 @@ pub fn question_value<S: SetBoard>(
 
 /// Appends the value of a question of the debugger, under a name.
 fn push_question<S: SetBoard>(
-    alloc: Global,
     out: &mut Vec<u8>,
     debugger: &Debugger<S>,
     name: &'static [u8],
@@ -44,67 +44,56 @@ fn push_question<S: SetBoard>(
         ++ question_item name.now debugger.now.machine.input (position debugger.now.machine)
         question) }
 {
+    let alloc = *out.allocator();
     let value = question_value(alloc, debugger, &Question::Shown(question))?;
     let item = variable_item(alloc, name, &value, 0)?;
     out.extend_from_slice(&item)
 }
 
 /// Appends the clock, and the position of the run.
-fn push_run<S: SetBoard>(
-    alloc: Global,
-    out: &mut Vec<u8>,
-    debugger: &Debugger<S>,
-) -> Result<(), AllocError>
+fn push_run<S: SetBoard>(out: &mut Vec<u8>, debugger: &Debugger<S>) -> Result<(), AllocError>
     ensures { OnOk result (out.new.items ≡ out.old.items
         ++ run_items debugger.now.machine.input (position debugger.now.machine)) }
 {
-    push_question(alloc, out, debugger, b"TIME.V", Shown::Clock)?;
-    push_question(alloc, out, debugger, b"STATE", Shown::Where)
+    push_question(out, debugger, b"TIME.V", Shown::Clock)?;
+    push_question(out, debugger, b"STATE", Shown::Where)
 }
 
 /// Appends how many pieces of the data are taken, and the entry.
-fn push_data<S: SetBoard>(
-    alloc: Global,
-    out: &mut Vec<u8>,
-    debugger: &Debugger<S>,
-) -> Result<(), AllocError>
+fn push_data<S: SetBoard>(out: &mut Vec<u8>, debugger: &Debugger<S>) -> Result<(), AllocError>
     ensures { OnOk result (out.new.items ≡ out.old.items
         ++ data_items debugger.now.machine.input (position debugger.now.machine)) }
 {
-    push_question(alloc, out, debugger, b"TAKEN", Shown::Taken)?;
-    push_question(alloc, out, debugger, b"ENTRY", Shown::Entry)
+    push_question(out, debugger, b"TAKEN", Shown::Taken)?;
+    push_question(out, debugger, b"ENTRY", Shown::Entry)
 }
 
 /// Appends the variables of a group: a page, if there may be many.
 fn push_group<S: SetBoard>(
-    alloc: Global,
     out: &mut Vec<u8>,
     debugger: &Debugger<S>,
     group: Group,
-    start: usize,
-    count: usize,
+    page: Page,
 ) -> Result<(), AllocError>
     ensures { OnOk result (out.new.items ≡ out.old.items
-        ++ group_text debugger.now.machine.input (position debugger.now.machine) start count
-        group) }
+        ++ group_text debugger.now.machine.input (position debugger.now.machine) page.start
+        page.count group) }
 {
     let machine = debugger.machine();
     machine.known();
     match group {
         Group::Nothing => Ok(()),
-        Group::Globals => push_globals(alloc, out, machine, start, count),
-        Group::Classes => push_classes(alloc, out, machine),
-        Group::Sets => push_sets(alloc, out, machine),
-        Group::Events => push_events(alloc, out, machine),
-        Group::Data => push_data(alloc, out, debugger),
-        Group::Run => push_run(alloc, out, debugger),
-        Group::Locals(depth) => push_locals(alloc, out, machine, depth as usize, start, count),
-        Group::Class(class) => push_class(alloc, out, machine, class, start, count),
-        Group::Entity(class, number) => push_entity_variables(alloc, out, machine, class, number),
-        Group::Set(set) => push_set(alloc, out, machine, set, start, count),
-        Group::Members(set, owner) => {
-            push_list_page(alloc, out, machine, set, owner, start, count)
-        }
+        Group::Globals => push_globals(out, machine, page),
+        Group::Classes => push_classes(out, machine),
+        Group::Sets => push_sets(out, machine),
+        Group::Events => push_events(out, machine),
+        Group::Data => push_data(out, debugger),
+        Group::Run => push_run(out, debugger),
+        Group::Locals(depth) => push_locals(out, machine, depth as usize, page),
+        Group::Class(class) => push_class(out, machine, class, page),
+        Group::Entity(class, number) => push_entity_variables(out, machine, class, number),
+        Group::Set(set) => push_set(out, machine, set, page),
+        Group::Members(set, owner) => { push_list_page(out, machine, set, owner, page) }
     }
 }
 
@@ -134,7 +123,6 @@ fn passes(filter: Filter, indexed: bool) -> bool
 /// There are none if the reference refers to nothing, or the filter is one for others.
 #[tactic(auto, unfolding(crate::specs::Variables::variables_text))]
 pub fn push_variables<S: SetBoard>(
-    alloc: Global,
     out: &mut Vec<u8>,
     debugger: &Debugger<S>,
     wanted: Wanted,
@@ -146,12 +134,9 @@ pub fn push_variables<S: SetBoard>(
     if !passes(wanted.filter, is_indexed(group)) {
         return Ok(());
     }
-    push_group(
-        alloc,
-        out,
-        debugger,
-        group,
-        wanted.start as usize,
-        wanted.count as usize,
-    )
+    let page = Page {
+        start: wanted.start as usize,
+        count: wanted.count as usize,
+    };
+    push_group(out, debugger, group, page)
 }

@@ -7,9 +7,9 @@ ghost use Rattle.ssdap.specs.Editing.{IsElsewhere, IsTurned, source_path};
 ghost use Rattle.ssdap.specs.Shelves.{Given};
 
 use crate::shelf::Shelf;
-use ss_adapter::{Further, Launched, launch, turn_before, turn_elsewhere};
+use ss_adapter::{Further, Launched, Opening, launch, turn_before, turn_elsewhere};
 use ss_console::Go;
-use ss_messages::{Command, Counting, Post, Request, Source, Stops, Text};
+use ss_messages::{Command, Counting, Post, Request, Source, Text};
 use ss_serve::Answerer;
 use std::alloc::{AllocError, Global};
 use std::mem;
@@ -80,15 +80,15 @@ fn open<F: Shelf>(
     shelf: &F,
     request: &Request,
     post: &mut Post,
-    source: Source<'_>,
+    opening: Opening<'_>,
     data_path: &Option<Text>,
-    stops: Stops,
 ) -> Result<Option<Launched>, AllocError>
     requires { post.old.sent < 2 ^ 53 }
-    ensures { IfOk result (λ run. IsOpened (F.files shelf.now) request.now source.entry.path.now
-        data_path.now source.entry.counting stops post.old post.new run) }
+    ensures { IfOk result (λ run. IsOpened (F.files shelf.now) request.now
+        opening.entry.source.path.now data_path.now opening.entry.source.counting
+        opening.entry.stops post.old post.new run) }
 {
-    let Some(model) = shelf.bytes_at(source.path)? else {
+    let Some(model) = shelf.bytes_at(opening.source.path)? else {
         post.fail(request, b"cannot read the model")?;
         return Ok(None);
     };
@@ -96,7 +96,7 @@ fn open<F: Shelf>(
         post.fail(request, b"cannot read the data")?;
         return Ok(None);
     };
-    launch(request, post, source, stops, &model, &text)
+    launch(request, post, opening, &model, &text)
 }
 
 /// Whether a session goes on.
@@ -130,8 +130,11 @@ fn answer_before<F: Shelf>(
     match &request.command {
         Command::Launch(path, data_path, stops) => {
             let path = path.as_slice();
-            let source = Source { path, counting };
-            let opened = open(shelf, request, post, source, data_path, *stops)?;
+            let opening = Opening {
+                source: Source { path, counting },
+                stops: *stops,
+            };
+            let opened = open(shelf, request, post, opening, data_path)?;
             let_go(mem::replace(run, opened));
             Ok(Go::On)
         }

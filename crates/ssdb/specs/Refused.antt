@@ -7,6 +7,8 @@ use Rattle.ss_check.specs.CheckRules.{check_rule_code}
 use Rattle.ss_console.specs.Event.{Adds, write_events}
 use Rattle.ss_console.specs.Puts.{AddsPart}
 use Rattle.ss_console.specs.declared.cut.Cut.TheVariants as cut
+use Rattle.ss_check.specs.declared.wrong.Wrong.{Wrong}
+use Rattle.ss_session.specs.Load.{IsWrong}
 use Rattle.ss_session.specs.Model.{IsOutcome, refused_text, refused_check}
 use Rattle.ss_session.specs.Transcript.{refusal_line}
 use Rattle.ss_sentences.specs.Refusals.{IsSaid}
@@ -16,21 +18,22 @@ use Rattle.ssdb.specs.declared.end.PromptFault.TheVariants.{Refused, Cut, Memory
 use Rattle.ssdb.specs.Seen.{Seen}
 
 -- the text for a model that the checker refuses: the rule and the line, and their explanation
-abbrev pub refused_model_text : List ℕ → List ℕ → ℕ → List ℕ
-refused_model_text model code line = refusal_line code line ++ check_explanation model code line
+abbrev pub refused_model_text : List ℕ → CheckRule → ℕ → Wrong → List ℕ
+refused_model_text model rule line wrong =
+    refusal_line (check_rule_code rule) line ++ check_explanation model rule line wrong
 
 -- the text for a model whose text is refused: the rule and the line, and lines about the word, its
 -- place and the words that could be there
 abbrev pub IsTextTold : List ℕ → List ℕ → ℕ → List ℕ → Type 0
 IsTextTold model code line text = (said : List ℕ) × IsSaid model said × (text ≡ refusal_line code line ++ said)
 
--- the text for a refused model is that of the one rule that refuses it, and its line
+-- the text for a refused model is that of the one rule that refuses it, its line, and what is wrong
 abbrev pub IsTold : List ℕ → List ℕ → Type 0
 IsTold model text =
     ((rule : TextRule) × (line : ℕ) × IsOutcome model (refused_text rule line)
     × IsTextTold model (text_rule_code rule) line text)
-    ⊎ ((rule : CheckRule) × (line : ℕ) × IsOutcome model (refused_check rule line)
-    × (text ≡ refused_model_text model (check_rule_code rule) line))
+    ⊎ ((rule : CheckRule) × (line : ℕ) × (wrong : Wrong) × IsOutcome model (refused_check rule line)
+    × IsWrong model rule line wrong × (text ≡ refused_model_text model rule line wrong))
 
 -- the part of the text for a refused model that was written, by the stop of the program: all of it,
 -- a prefix of it if writing failed, nothing if memory was refused

@@ -7,17 +7,18 @@ ghost use Rattle.ssdb.specs.Seen.{seen_of};
 
 use crate::end::PromptFault;
 use ss_console::{Console, Cut, put_all};
-use ss_prompt::push_check_explanation;
+use ss_prompt::{CheckRefusal, push_check_explanation};
 use ss_sentences::text_refusal;
 use ss_session::{LoadFault, refusal_text};
 use std::alloc::{AllocError, Global};
 
 /// The text for a model that a rule of the checker refuses.
-fn check_told(alloc: Global, model: &[u8], code: &str, line: usize) -> Result<Vec<u8>, AllocError>
-    ensures { IfOk result (λ text. text.items ≡ refused_model_text model.now code.now line) }
+fn check_told(alloc: Global, model: &[u8], refusal: CheckRefusal<'_>) -> Result<Vec<u8>, AllocError>
+    ensures { IfOk result (λ text. text.items ≡ refused_model_text model.now refusal.entry.rule
+        refusal.entry.line refusal.entry.wrong.now) }
 {
-    let mut text = refusal_text(alloc, code, line)?;
-    push_check_explanation(alloc, model, code, line, &mut text)?;
+    let mut text = refusal_text(alloc, refusal.rule.code(), refusal.line)?;
+    push_check_explanation(alloc, model, refusal, &mut text)?;
     Ok(text)
 }
 
@@ -32,14 +33,17 @@ fn text_told(alloc: Global, model: &[u8], code: &str, line: usize) -> Result<Vec
 }
 
 /// The text for a refused model.
-fn told(alloc: Global, model: &[u8], fault: LoadFault) -> Result<Vec<u8>, AllocError>
-    requires { IsLoadFault fault model.now }
+fn told(alloc: Global, model: &[u8], fault: &LoadFault) -> Result<Vec<u8>, AllocError>
+    requires { IsLoadFault fault.now model.now }
     ensures { IfOk result (λ text. IsTold model.now text.items) }
 {
     match fault {
         LoadFault::Memory => Err(AllocError),
-        LoadFault::Text { rule, line } => text_told(alloc, model, rule.code(), line),
-        LoadFault::Check { rule, line } => check_told(alloc, model, rule.code(), line),
+        LoadFault::Text { rule, line } => text_told(alloc, model, rule.code(), *line),
+        LoadFault::Check { rule, line, wrong } => {
+            let (rule, line) = (*rule, *line);
+            check_told(alloc, model, CheckRefusal { rule, line, wrong })
+        }
     }
 }
 
@@ -57,7 +61,9 @@ pub fn refuse<C: Console>(
         (C.left console.new) (C.log console.old) (C.log console.new)) result }
     ensures faults { C.faults console.new ≡ faults_after_fault result (C.faults console.old) }
 {
-    let Ok(text) = told(alloc, model, fault) else {
+    let said = told(alloc, model, &fault);
+    drop(fault);
+    let Ok(text) = said else {
         return PromptFault::Memory;
     };
     match put_all(console, &text) {

@@ -9,11 +9,11 @@ abbrev pub invariant-loop-point : goal.invariant-loop-point
 invariant-loop-point g l = record {
   input : l.debugger.machine.input ≡ l.fn.debugger.machine.input;
   state : debugger_state_of l.debugger ≡ debugger_state_with (debugger_state_of l.fn.debugger) l.debugger.breaks;
-  setting : fold (with_point l.fn.debugger.machine.input.program l.symbols l.pen.counting) (record {
+  setting : fold (with_point l.fn.debugger.machine.input.program l.desk.symbols l.pen.counting) (record {
     breaks = l.debugger.breaks;
-    set = l.set.items;
-    text = l.text.items;
+    set = l.set.lines.items;
+    text = l.set.text.items;
   }) (drop l.point-index l.points)
-      ≡ setting_of l.fn.debugger.machine.input.program l.symbols l.pen.counting l.fn.debugger.breaks l.fn.set.items
-      l.kept l.points;
+      ≡ setting_of l.fn.debugger.machine.input.program l.desk.symbols l.pen.counting l.fn.debugger.breaks l.desk.set
+      l.desk.sections l.points;
 }

@@ -11,9 +11,9 @@ invariant-loop-name g l = record {
   state : debugger_state_of l.debugger ≡ debugger_state_with (debugger_state_of l.fn.debugger) l.debugger.breaks;
   setting : fold (with_named l.fn.debugger.machine.input.program l.pen.counting) (record {
     breaks = l.debugger.breaks;
-    set = l.set.items;
-    text = l.text.items;
+    set = l.set.lines.items;
+    text = l.set.text.items;
   }) (drop l.name-index l.names)
-      ≡ section_setting_of l.fn.debugger.machine.input.program l.pen.counting l.fn.debugger.breaks l.fn.set.items
-      l.kept l.names;
+      ≡ section_setting_of l.fn.debugger.machine.input.program l.pen.counting l.fn.debugger.breaks l.desk.sections
+      l.desk.set l.names;
 }

@@ -6,4 +6,5 @@ use Rattle.ss_scopes.proofs.frames.push_frames.Given as goal
 abbrev pub invariant-loop-k : goal.invariant-loop-k
 invariant-loop-k g l =
     l.out.items ≡ l.fn.out.items
-    ++ items_from (frame_text l.machine.input.program l.machine.state l.source.path.now l.source.counting) l.start l.k
+    ++ items_from (frame_text l.machine.input.program l.machine.state l.source.path.now l.source.counting)
+    l.page.start l.k

@@ -6,4 +6,4 @@ use Rattle.ss_scopes.proofs.frames.push_globals.Given as goal
 abbrev pub invariant-loop-k : goal.invariant-loop-k
 invariant-loop-k g l =
     l.out.items ≡ l.fn.out.items
-    ++ items_from (global_item l.machine.input.program l.machine.state) l.start l.k
+    ++ items_from (global_item l.machine.input.program l.machine.state) l.page.start l.k
