@@ -1,5 +1,4 @@
 pub mod Lines
-pub mod Filters
 pub mod Unfoldings
 pub mod Plains
 pub mod Refusals

@@ -56,7 +56,7 @@ pub behind_plain : (s next after : PromptState) (m : PlainMovement) → next ≡
 unfolding IsPlainRefused
 behind_plain s next after m e h =
     let there : IsStopRefused (plain_next s (Move m)) after = subst (λ (x : PromptState). IsStopRefused x after) e h in
-    (beside (plain_next s (Move m)) after there, inr there)
+    (beside (plain_next s (Move m)) after there, inr (inr there))
 
 -- after another movement
 pub behind_travel : (s next after : PromptState) (m : Movement) → next ≡ travel_next s m → IsStopRefused next after
@@ -64,7 +64,7 @@ pub behind_travel : (s next after : PromptState) (m : Movement) → next ≡ tra
 unfolding IsTravelRefused
 behind_travel s next after m e h =
     let there : IsStopRefused (travel_next s m) after = subst (λ (x : PromptState). IsStopRefused x after) e h in
-    (beside (travel_next s m) after there, inr there)
+    (beside (travel_next s m) after there, inr (inr there))
 
 -- a command of docs/DEBUGGER.md was made in part or whole
 pub partly_plain : (s after : PromptState) (command : Command) → IsSameBeside s after
@@ -72,7 +72,7 @@ pub partly_plain : (s after : PromptState) (command : Command) → IsSameBeside 
 unfolding IsPlainRefused
 partly_plain s after plain.Blank b h = (b, h)
 partly_plain s after plain.Bad b h = (b, h)
-partly_plain s after (plain.Move movement) b h = (b, inl h)
+partly_plain s after (plain.Move movement) b h = (b, inr (inl h))
 partly_plain s after (plain.Break line) b h = (b, h)
 partly_plain s after (plain.Clear line) b h = (b, h)
 partly_plain s after (plain.Forget count) b h = (b, h)
@@ -83,7 +83,23 @@ partly_plain s after plain.Quit b h = (b, h)
 pub partly_travel : (s after : PromptState) (m : Movement) → IsSameBeside s after
     → trace.IsStateAfterRefusal s.input s.debugger m after.debugger → IsTravelRefused s m after
 unfolding IsTravelRefused
-partly_travel s after m b h = (b, inl h)
+partly_travel s after m b h = (b, inr (inl h))
+
+-- it was not made
+pub unmoved_plain : (s after : PromptState) (m : PlainMovement) → after ≡ s → IsPlainRefused s (Move m) after
+unfolding IsPlainRefused
+unmoved_plain s after m e = (same s after e, inl (ap (λ (v : PromptState). v.debugger) e))
+
+pub unmoved_travel : (s after : PromptState) (m : Movement) → after ≡ s → IsTravelRefused s m after
+unfolding IsTravelRefused
+unmoved_travel s after m e = (same s after e, inl (ap (λ (v : PromptState). v.debugger) e))
 
 -- after movements
-pub ruleset movements = (partly_plain, partly_travel, behind_plain, behind_travel)
+pub ruleset movements = (
+  partly_plain,
+  partly_travel,
+  behind_plain,
+  behind_travel,
+  unmoved_plain,
+  unmoved_travel,
+)

@@ -1,6 +1,5 @@
--- WHY CAUSE and BACK CAUSE: when WHY asks for a cause, the answers, and the states after them.
-use Rattle.std.specs.Prelude.{ℕ, Bool, true, false, List, [], ◌∷◌, ◌++◌, codes}
-use Rattle.std.specs.Str.{bytes_eq}
+-- WHY CAUSE and BACK CAUSE: the answers, and the states after them.
+use Rattle.std.specs.Prelude.{ℕ, true, List, ◌++◌}
 use Rattle.ss_causes.specs.declared.cause.Cause.{Cause}
 use Rattle.ss_causes.specs.Turn.{cause_in, cause_head, cause_line, cause_change}
 use Rattle.ss_causes.specs.Turn.{state_after_back_cause, back_cause_answer}
@@ -9,12 +8,6 @@ use Rattle.ss_prompt.specs.PromptState.{PromptState, with_debugger}
 use Rattle.ss_prompt.specs.Stops.{stop_text, IsStopRefused}
 use Rattle.ss_prompt.specs.declared.causes.CauseCommand.{CauseCommand}
 use Rattle.ss_prompt.specs.declared.causes.CauseCommand.TheVariants.{Why, Back}
-
--- whether the words after WHY are CAUSE alone, which is a reserved word, and so no name of a program
-abbrev pub asks_cause : List (List ℕ) → Bool
-asks_cause [] = false
-asks_cause (word ∷ []) = bytes_eq word (codes "CAUSE")
-asks_cause (word ∷ next ∷ more) = false
 
 -- ---- WHY CAUSE
 

@@ -1,70 +1,13 @@
--- Words that are cut, made whole.
-use Rattle.std.specs.Prelude.{ℕ, Bool, true, false, ◌&&◌, List, [], ◌∷◌, ◌++◌, length, take, codes, if◌then◌else◌}
-use Rattle.std.specs.Prelude.{Option, nat_le, nat_lt}
+-- Words that are cut, made whole by the table of the commands.
+use Rattle.std.specs.Prelude.{ℕ, Bool, false, ◌&&◌, ◌||◌, List, [], ◌∷◌, length, take, codes, if◌then◌else◌}
+use Rattle.std.specs.Prelude.{Option, Some, None, nat_le, nat_lt, fold}
 use Rattle.std.specs.List.{filter}
 use Rattle.std.specs.Str.{bytes_eq}
 use Rattle.ss_debug.specs.CommandLines.{command_words}
 use Rattle.ss_program.specs.Program.{ProgramTable}
 use Rattle.ss_prompt.specs.Missing.{is_declared}
-use Rattle.ss_prompt.specs.Words.{line_behind}
-use Rattle.ss_prompt.specs.declared.cuts.Standing.{Standing}
-use Rattle.ss_prompt.specs.declared.cuts.Standing.TheVariants.{First, BehindRun, BehindBack, BehindShow, Asked, Free}
-
--- the words that a line may begin with
-abbrev pub first_words : List ℕ
-first_words =
-    codes "STEP RUN NEXT BACK BREAK CLEAR FORGET SHOW QUIT OVER OUT GO LIST BREAKS DISPLAY UNDISPLAY HELP WHY HISTORY "
-    ++ codes "NAMES WARNINGS TBREAK READS LOG RELOAD"
-
--- the words that may come after RUN
-abbrev pub run_words : List ℕ
-run_words = codes "CHANGE UNTIL"
-
--- the words that may come after BACK
-abbrev pub back_words : List ℕ
-back_words = codes "EVENT BREAK CHANGE UNTIL OVER OUT CAUSE"
-
--- the words that a question may begin with
-abbrev pub question_words : List ℕ
-question_words = codes "CLOCK WHERE VAR SET EVENTS TAKEN ENTRY REPORT COUNT"
-
--- the words that may come after SHOW
-abbrev pub show_words : List ℕ
-show_words =
-    codes "CLOCK WHERE VAR SET EVENTS TAKEN ENTRY REPORT COUNT IN CALLS LOCALS CLASSES SETS GLOBALS SECTIONS CHANGED"
-
--- the words that may come in a place of a line
-abbrev pub words_at : Standing → List ℕ
-words_at First = first_words
-words_at BehindRun = run_words
-words_at BehindBack = back_words
-words_at BehindShow = show_words
-words_at Asked = question_words
-words_at Free = []
-
--- the place of the word after a first word
-abbrev pub behind_first : List ℕ → Standing
-behind_first word =
-    if bytes_eq word (codes "RUN") then BehindRun else
-    if bytes_eq word (codes "BACK") then BehindBack else
-    if bytes_eq word (codes "SHOW") then BehindShow else
-    if bytes_eq word (codes "WHY") then Asked else
-    if bytes_eq word (codes "HISTORY") then Asked else
-    if bytes_eq word (codes "DISPLAY") then Asked else
-    if bytes_eq word (codes "HELP") then First else Free
-
--- the place of the word after the second word of a movement
-abbrev pub behind_movement : List ℕ → Standing
-behind_movement word = if bytes_eq word (codes "CHANGE") then Asked else Free
-
--- the place of the next word
-abbrev pub behind : Standing → List ℕ → Standing
-behind First word = behind_first word
-behind BehindRun word = behind_movement word
-behind BehindBack word = behind_movement word
-behind BehindShow word = Free
-behind Asked word = Free
-behind Free word = Free
+use Rattle.ss_prompt.specs.Table.{forms, is_asked_after, words_at}
+use Rattle.ss_prompt.specs.Words.{line_behind, with_word}
 
 -- whether a word is the beginning of another
 abbrev pub begins : List ℕ → List ℕ → Bool
@@ -76,10 +19,10 @@ only_one word [] = word
 only_one word (other ∷ []) = other
 only_one word (other ∷ next ∷ more) = word
 
--- a word of three letters or more means the only word of a table that it begins
-abbrev pub whole : List ℕ → List ℕ → List ℕ
-whole table word =
-    if nat_lt (length word) 3 then word else only_one word (filter (begins word) (command_words table))
+-- a word of three letters or more means the only word after a text that it begins
+abbrev pub whole : Bool → List ℕ → List ℕ → List ℕ
+whole asked before word =
+    if nat_lt (length word) 3 then word else only_one word (filter (begins word) (words_at asked before forms))
 
 -- the word that a letter means at the beginning of a line; another word as it is
 abbrev pub word_of_letter : List ℕ → List ℕ
@@ -90,38 +33,38 @@ word_of_letter word =
     if bytes_eq word (codes "B") then codes "BREAK" else
     if bytes_eq word (codes "Q") then codes "QUIT" else word
 
--- a word with its letter spelled, if it begins a line
-abbrev pub spelled : Standing → List ℕ → List ℕ
-spelled First word = word_of_letter word
-spelled at word = word
+-- the first word of a line made whole
+abbrev pub first_whole : List ℕ → List ℕ
+first_whole word = whole false [] (word_of_letter word)
 
--- whether a question may come here
-abbrev pub is_asked : Standing → Bool
-is_asked BehindShow = true
-is_asked Asked = true
-is_asked _ = false
+-- another word made whole by the text before it; a name of the program stays as it is in a question, and after SHOW
+abbrev pub further_whole : ProgramTable → Bool → List ℕ → List ℕ → List ℕ
+further_whole program asked before word =
+    if (asked || bytes_eq before (codes "SHOW")) && is_declared program word then word else whole asked before word
 
--- a word made whole by its place in the line, from one letter or more of it; if a question may come
--- there, a name of the program stays as it is
-abbrev pub made_whole : ProgramTable → Standing → List ℕ → List ℕ
-made_whole program at word =
-    if is_asked at && is_declared program word then word else whole (words_at at) (spelled at word)
+-- whether a first word of a line comes after a text: after none, and after HELP
+abbrev pub is_first : List ℕ → Bool
+is_first before = bytes_eq before [] || bytes_eq before (codes "HELP")
 
--- the words of a line made whole, one after the other
-unfoldable pub all_whole : ProgramTable → Standing → List (List ℕ) → List (List ℕ)
-all_whole program at [] = []
-all_whole program at (word ∷ more) =
-    let it : List ℕ = made_whole program at word in it ∷ all_whole program (behind at it) more
+-- a word made whole by the text before it
+abbrev pub made_whole : ProgramTable → List ℕ → List ℕ → List ℕ
+made_whole program before word =
+    if is_first before then first_whole word else further_whole program (is_asked_after before forms) before word
 
--- a line whose words are made whole
+-- a text and one more word, made whole, if it is no longer than a line may be
+unfoldable pub with_whole : ProgramTable → Option (List ℕ) → List ℕ → Option (List ℕ)
+with_whole program None word = None
+with_whole program (Some before) word = with_word (Some before) (made_whole program before word)
+
+-- a line whose words are made whole, one after the other
 abbrev pub whole_line : ProgramTable → List ℕ → Option (List ℕ)
-whole_line program line = line_behind [] (all_whole program First (command_words line))
+whole_line program line = fold (with_whole program) (Some []) (command_words line)
 
 -- some words, the first made whole
-abbrev pub first_whole : List (List ℕ) → List (List ℕ)
-first_whole [] = []
-first_whole (word ∷ more) = whole first_words (word_of_letter word) ∷ more
+abbrev pub with_first_whole : List (List ℕ) → List (List ℕ)
+with_first_whole [] = []
+with_first_whole (word ∷ more) = first_whole word ∷ more
 
 -- a line whose first word is made whole
 abbrev pub first_whole_line : List ℕ → Option (List ℕ)
-first_whole_line line = line_behind [] (first_whole (command_words line))
+first_whole_line line = line_behind [] (with_first_whole (command_words line))

@@ -4,6 +4,7 @@ pub mod Names
 pub mod Explained
 pub mod Refusal
 pub mod Words
+pub mod Table
 pub mod Missing
 pub mod Places
 pub mod Cuts

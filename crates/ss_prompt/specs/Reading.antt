@@ -8,7 +8,7 @@ use Rattle.ss_console.specs.declared.lines.TheConstants.{LONGEST_LINE}
 use Rattle.ss_debug.specs.CommandLines.{command_words}
 use Rattle.ss_debug.specs.Command.{command_of}
 use Rattle.ss_debug.specs.declared.commands.Command.{Command}
-use Rattle.ss_debug.specs.declared.commands.Command.TheVariants.{Bad, Move, Break, Show}
+use Rattle.ss_debug.specs.declared.commands.Command.TheVariants.{Bad, Move, Break}
 use Rattle.ss_debug.specs.declared.commands.Question.TheVariants.{Entity}
 use Rattle.ss_debug.specs.Entities.{class_named}
 use Rattle.ss_debug.specs.declared.commands.Movement.TheVariants.{Step, RunTo}
@@ -23,21 +23,26 @@ use Rattle.ss_prompt.specs.declared.sight.Sight.TheVariants.{Living}
 use Rattle.ss_prompt.specs.Missing.{asked_of_program, bare_asked, is_declared}
 use Rattle.ss_prompt.specs.Advice.{verb_of, has_number}
 use Rattle.ss_prompt.specs.Places.{next_line}
-use Rattle.ss_prompt.specs.Words.{command_or_bad, command_behind, line_behind, only_name_of}
+use Rattle.ss_prompt.specs.Words.{command_or_bad, command_behind, line_behind, only_name_of, after_words}
+use Rattle.ss_prompt.specs.Table.{Form, forms, form_words}
 use Rattle.ss_prompt.specs.Asked.{own_asked, asked_of, question_in}
 use Rattle.ss_prompt.specs.Histories.{with_rows}
-use Rattle.ss_prompt.specs.Causes.{asks_cause}
 use Rattle.ss_prompt.specs.declared.causes.CauseCommand.TheVariants as causes
-use Rattle.ss_prompt.specs.Sights.{sight_of}
+use Rattle.ss_prompt.specs.Sections.{line_of_section, taken_line}
+use Rattle.ss_prompt.specs.Sights.{sight_of, places_of}
 use Rattle.ss_prompt.specs.RowsAsked.{rows_command}
 use Rattle.ss_prompt.specs.Cuts.{whole_line, first_whole_line}
 use Rattle.ss_prompt.specs.Manners.{words_before}
 use Rattle.ss_prompt.specs.declared.manner.Manner.{Manner}
 use Rattle.ss_prompt.specs.declared.manner.Manner.TheVariants as manners
+use Rattle.ss_prompt.specs.declared.makes.Makes.{Makes}
+use Rattle.ss_prompt.specs.declared.makes.Makes.TheVariants as makes
+use Rattle.ss_prompt.specs.declared.makes.Single.{Single}
+use Rattle.ss_prompt.specs.declared.makes.Single.TheVariants as singles
+use Rattle.ss_prompt.specs.declared.sight.Sight.TheVariants as sights
 use Rattle.ss_prompt.specs.declared.break_place.BreakPlace.{BreakPlace}
 use Rattle.ss_prompt.specs.declared.break_place.BreakPlace.TheVariants as place
 use Rattle.ss_prompt.specs.declared.until.Until.{Until as Way}
-use Rattle.ss_prompt.specs.declared.until.Until.TheVariants as way
 use Rattle.ss_prompt.specs.declared.commands.PromptCommand.{PromptCommand}
 use Rattle.ss_prompt.specs.declared.commands.PromptCommand.TheVariants.{Plain, Travel, Lines, SectionLines}
 use Rattle.ss_prompt.specs.declared.commands.PromptCommand.TheVariants.{BreakSection, BreakWhen, ClearSection, ClearAll}
@@ -87,14 +92,6 @@ abbrev pub go_of : Command → PromptCommand
 go_of (Move (RunTo position)) = Travel (Go position)
 go_of _ = bad
 
--- the words after GO
-abbrev pub go_command : List (List ℕ) → PromptCommand
-go_command [] = bad
-go_command (word ∷ rest) =
-    if bytes_eq word (codes "END") then alone (Travel GoEnd) rest else
-    if bytes_eq word (codes "FIRST") then until_command way.First rest
-    else go_of (command_behind (codes "RUN TO") (word ∷ rest))
-
 -- a command on a question as a program has its names, or which of them it hasn't
 abbrev pub asked_command : (AskedQuestion → PromptCommand) → Result AskedQuestion Unknown → PromptCommand
 asked_command make (Ok x) = make x
@@ -122,29 +119,6 @@ question_or_text manner words None = text_command manner words
 abbrev pub manner_command : ProgramTable → Manner → List (List ℕ) → PromptCommand
 manner_command program manner words = question_or_text manner words (question_in program words)
 
--- the words after BACK
-abbrev pub back_command : ProgramTable → List (List ℕ) → PromptCommand
-back_command program [] = bad
-back_command program (word ∷ rest) =
-    if bytes_eq word (codes "OVER") then back_over_of (command_behind (codes "STEP") rest) else
-    if bytes_eq word (codes "OUT") then alone (Travel BackOut) rest else
-    if bytes_eq word (codes "TO") then back_to_of (command_behind (codes "RUN TO") rest) else
-    if bytes_eq word (codes "CHANGE") then manner_command program manners.BackChange rest else
-    if bytes_eq word (codes "UNTIL") then until_command way.Back rest else
-    if bytes_eq word (codes "CAUSE") then alone (Cause causes.Back) rest else bad
-
--- the words after WHY: CAUSE, or what else it asks
-abbrev pub why_command : ProgramTable → List (List ℕ) → PromptCommand
-why_command program words =
-    if asks_cause words then Cause causes.Why else manner_command program manners.Why words
-
--- the words after RUN
-abbrev pub run_command : ProgramTable → List (List ℕ) → PromptCommand
-run_command program [] = bad
-run_command program (word ∷ rest) =
-    if bytes_eq word (codes "CHANGE") then manner_command program manners.RunChange rest else
-    if bytes_eq word (codes "UNTIL") then until_command way.Run rest else bad
-
 -- HISTORY of the longest question whose names the program has, else the longest's missing name, else
 -- another command
 abbrev pub history_by : Option (Result AskedQuestion Unknown) → Option (Result AskedQuestion Unknown × ℕ) →
@@ -169,12 +143,6 @@ unfoldable pub history_command : ProgramTable → List (List ℕ) → PromptComm
 history_command program words =
     history_by (longest_in program words) (with_rows program words) (text_command manners.History words)
 
--- the words after SHOW that are no question: CHANGED, or another sight
-abbrev pub sight_command : List (List ℕ) → PromptCommand
-sight_command [] = bad
-sight_command (word ∷ rest) =
-    if bytes_eq word (codes "CHANGED") then alone Changed rest else made_or_bad See (sight_of (word ∷ rest))
-
 -- a bare name: the entities of a class, or else a set or a variable; another may be an attribute
 abbrev pub bare_command : ProgramTable → List ℕ → PromptCommand
 bare_command program name =
@@ -189,7 +157,7 @@ seen_command program command = command
 -- the rows that the words after SHOW ask for, or else another sight
 abbrev pub rows_or_sight : ProgramTable → Option PromptCommand → List (List ℕ) → PromptCommand
 rows_or_sight program (Some rows) words = rows
-rows_or_sight program None words = seen_command program (sight_command words)
+rows_or_sight program None words = seen_command program (made_or_bad See (sight_of words))
 
 -- the words after SHOW: a question, rows or another sight
 abbrev pub show_command : ProgramTable → Option AskedQuestion → List (List ℕ) → PromptCommand
@@ -266,29 +234,66 @@ break_words_command program (word ∷ when ∷ words) =
     if bytes_eq when (codes "WHEN") then when_command program word words (has_number (word ∷ when ∷ words))
     else made_or_bad BreakSection (only_name_of (word ∷ when ∷ words))
 
+-- a command of one or two words
+abbrev pub single : Single → PromptCommand
+single singles.Out = Travel Out
+single singles.BackOut = Travel BackOut
+single singles.GoEnd = Travel GoEnd
+single singles.WhyCause = Cause causes.Why
+single singles.BackCause = Cause causes.Back
+single singles.Breaks = Breaks
+single singles.Reads = Reads
+single singles.Warnings = Warnings
+single singles.Changed = Changed
+single singles.Calls = See sights.Calls
+single singles.Locals = See sights.Locals
+single singles.Globals = See sights.Globals
+single singles.Classes = See sights.Classes
+single singles.Sets = See sights.Sets
+single singles.Sections = See sights.Sections
+
+-- what a row makes of the words after its own
+abbrev pub made_of : ProgramTable → Makes → List (List ℕ) → PromptCommand
+made_of program makes.Elsewhere words = bad
+made_of program makes.Asked words = bad
+made_of program makes.Also words = bad
+made_of program (makes.Alone command) words = alone (single command) words
+made_of program makes.Over words = over_of (command_behind (codes "STEP") words)
+made_of program makes.BackOver words = back_over_of (command_behind (codes "STEP") words)
+made_of program makes.BackTo words = back_to_of (command_behind (codes "RUN TO") words)
+made_of program makes.Go words = go_of (command_behind (codes "RUN TO") words)
+made_of program (makes.Until way) words = until_command way words
+made_of program (makes.Question manner) words = manner_command program manner words
+made_of program makes.History words = history_command program words
+made_of program makes.Undisplay words = undisplay_command program words
+made_of program makes.Show words = show_command program (own_asked words) words
+made_of program makes.Places words = made_or_bad See (places_of (command_behind (codes "SHOW") words))
+made_of program makes.List words = list_command words
+made_of program makes.Break words = break_words_command program words
+made_of program makes.Clear words = clear_command words
+made_of program makes.Once words = once_of program (command_behind (codes "BREAK") words)
+made_of program makes.Names words = names_command words
+made_of program makes.Help words = help_command words
+
+-- that, if a line begins with the words of the row
+abbrev pub made_after : ProgramTable → Makes → Option (List (List ℕ)) → PromptCommand
+made_after program what None = bad
+made_after program what (Some words) = made_of program what words
+
+-- a command, or if it is none, another one
+abbrev pub made_or : PromptCommand → PromptCommand → PromptCommand
+made_or (Plain Bad) other = other
+made_or command other = command
+
+-- the command that the last of some rows makes that makes one of the words of a line, or else another one
+abbrev pub own_by : ProgramTable → List (List ℕ) → List Form → PromptCommand → PromptCommand
+own_by program words [] other = other
+own_by program words (form ∷ rows) other =
+    own_by program words rows (made_or (made_after program form.1 (after_words (form_words form) words)) other)
+
 -- the command in the words of a line that is none of docs/DEBUGGER.md
 unfoldable pub own_in_words : ProgramTable → List (List ℕ) → PromptCommand
-own_in_words program [] = bad
-own_in_words program (verb ∷ rest) =
-    if bytes_eq verb (codes "OVER") then over_of (command_behind (codes "STEP") rest) else
-    if bytes_eq verb (codes "OUT") then alone (Travel Out) rest else
-    if bytes_eq verb (codes "BACK") then back_command program rest else
-    if bytes_eq verb (codes "RUN") then run_command program rest else
-    if bytes_eq verb (codes "SHOW") then show_command program (own_asked rest) rest else
-    if bytes_eq verb (codes "WHY") then why_command program rest else
-    if bytes_eq verb (codes "HISTORY") then history_command program rest else
-    if bytes_eq verb (codes "GO") then go_command rest else
-    if bytes_eq verb (codes "READS") then alone Reads rest else
-    if bytes_eq verb (codes "LIST") then list_command rest else
-    if bytes_eq verb (codes "BREAK") then break_words_command program rest else
-    if bytes_eq verb (codes "CLEAR") then clear_command rest else
-    if bytes_eq verb (codes "BREAKS") then alone Breaks rest else
-    if bytes_eq verb (codes "TBREAK") then once_of program (command_behind (codes "BREAK") rest) else
-    if bytes_eq verb (codes "DISPLAY") then manner_command program manners.Display rest else
-    if bytes_eq verb (codes "UNDISPLAY") then undisplay_command program rest else
-    if bytes_eq verb (codes "NAMES") then names_command rest else
-    if bytes_eq verb (codes "WARNINGS") then alone Warnings rest else
-    if bytes_eq verb (codes "HELP") then help_command rest else bad
+own_in_words program words = own_by program words forms bad
 
 -- BREAK of a line with a place, or the next one that has one
 abbrev pub break_command : ℕ → Option ℕ → PromptCommand

@@ -12,7 +12,7 @@ use Rattle.ss_debug.specs.CommandLines.{command_words}
 use Rattle.ss_debug.specs.declared.commands.Command.{Command}
 use Rattle.ss_debug.specs.declared.commands.Command.TheVariants.{Show}
 use Rattle.ss_debug.specs.declared.commands.Question.TheVariants.{Entity}
-use Rattle.ss_prompt.specs.Words.{command_behind, only_name_of}
+use Rattle.ss_prompt.specs.Words.{only_name_of}
 use Rattle.ss_prompt.specs.Rows.{member_rows_text, living_rows_text}
 use Rattle.ss_prompt.specs.declared.sight.Sight.{Sight}
 use Rattle.ss_prompt.specs.declared.sight.Sight.TheVariants.{Calls, Locals, Globals, Classes, Sets, Sections}
@@ -22,16 +22,6 @@ use Rattle.ss_prompt.specs.declared.sight.Sight.TheVariants.{Living, ByVariable,
 abbrev pub living_of : Option (List ℕ) → Option Sight
 living_of None = None
 living_of (Some name) = Some (Living name)
-
--- the sight of one word after SHOW
-abbrev pub sight_alone : List ℕ → Option Sight
-sight_alone what =
-    if bytes_eq what (codes "CALLS") then Some Calls else
-    if bytes_eq what (codes "LOCALS") then Some Locals else
-    if bytes_eq what (codes "GLOBALS") then Some Globals else
-    if bytes_eq what (codes "CLASSES") then Some Classes else
-    if bytes_eq what (codes "SETS") then Some Sets else
-    if bytes_eq what (codes "SECTIONS") then Some Sections else living_of (only_name_of (what ∷ []))
 
 -- IN c k: an entity as SHOW takes it
 abbrev pub places_of : Command → Option Sight
@@ -63,18 +53,17 @@ by_variable what word [] = entity_by (free_name_of (what ∷ [])) (free_name_of 
 by_variable what word (name ∷ more) =
     attribute_by (free_name_of (what ∷ [])) (free_name_of (word ∷ [])) (free_name_of (name ∷ more))
 
--- whether a word begins other questions than those on a class
+-- whether a word begins other lines than those on a class
 abbrev pub is_question_word : List ℕ → Bool
 is_question_word what =
     bytes_eq what (codes "VAR") || bytes_eq what (codes "SET") || bytes_eq what (codes "COUNT")
+    || bytes_eq what (codes "IN") || bytes_eq what (codes "CHANGED")
 
--- the sight of some words after SHOW
+-- the sight of the entities of a class that some words after SHOW ask for
 abbrev pub sight_of : List (List ℕ) → Option Sight
 sight_of [] = None
-sight_of (what ∷ []) = sight_alone what
-sight_of (what ∷ word ∷ rest) =
-    if bytes_eq what (codes "IN") then places_of (command_behind (codes "SHOW") (word ∷ rest)) else
-    if is_question_word what then None else by_variable what word rest
+sight_of (what ∷ []) = living_of (only_name_of (what ∷ []))
+sight_of (what ∷ word ∷ rest) = if is_question_word what then None else by_variable what word rest
 
 -- the text of a sight in state p
 abbrev pub sight_said : Sight → Input → ℕ → List ℕ

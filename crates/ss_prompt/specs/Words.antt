@@ -1,5 +1,6 @@
 -- Lines that are made of words, and the debugger's command in such a line.
 use Rattle.std.specs.Prelude.{ℕ, List, [], ◌∷◌, ◌++◌, length, fold, nat_le, Option, Some, None, if◌then◌else◌, codes}
+use Rattle.std.specs.Str.{bytes_eq}
 use Rattle.ss_console.specs.declared.lines.TheConstants.{LONGEST_LINE}
 use Rattle.ss_debug.specs.Command.{command_of}
 use Rattle.ss_debug.specs.declared.commands.Command.{Command}
@@ -44,3 +45,14 @@ name_in _ = None
 -- the name that the only word is: one that SHOW VAR takes for the name of a variable
 abbrev pub only_name_of : List (List ℕ) → Option (List ℕ)
 only_name_of words = name_in (command_behind (codes "SHOW VAR") words)
+
+-- the words of a line after some words, if it begins with these
+abbrev pub after_words : List (List ℕ) → List (List ℕ) → Option (List (List ℕ))
+after_words [] line = Some line
+after_words (word ∷ words) [] = None
+after_words (word ∷ words) (other ∷ line) = if bytes_eq word other then after_words words line else None
+
+-- the word that is the only one
+abbrev pub only_of : Option (List (List ℕ)) → Option (List ℕ)
+only_of (Some (word ∷ [])) = Some word
+only_of _ = None

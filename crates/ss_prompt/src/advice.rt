@@ -1,16 +1,19 @@
 //! The answer to a line that is no command: the forms of its first word, or the nearest words.
-ghost use Rattle.std.specs.Prelude.{◌≡◌, ◌++◌, [], OnOk};
+ghost use Rattle.std.specs.Prelude.{◌≡◌, ◌++◌, [], false, OnOk};
 ghost use Rattle.std.specs.Char.{is_ascii_digit};
 ghost use Rattle.std.specs.List.{filter, list_all};
 ghost use Rattle.ss_debug.specs.CommandLines.{command_words};
 ghost use Rattle.ss_prompt.specs.Advice.{verb_of, has_number, near_text, near_words, range_text};
-ghost use Rattle.ss_prompt.specs.Advice.{further_words, forms_or_near, advice, unread_text};
+ghost use Rattle.ss_prompt.specs.Advice.{blank_words, forms_or_near, advice, unread_text};
 ghost use Rattle.ss_prompt.specs.Cuts.{begins};
+ghost use Rattle.ss_prompt.specs.Help.{rows_of};
+ghost use Rattle.ss_prompt.specs.Table.{forms, forms_of, words_at};
 
-use crate::cuts::{FIRST_WORDS, first_begun};
-use crate::help::{is_helped, push_rows_on};
+use crate::cuts::{begins, first_begun, word_in};
+use crate::help::push_rows_of;
 use crate::line::name_of_word;
 use crate::pieces::next_word;
+use crate::table::{Form, forms};
 use ss_debug::Name;
 use std::alloc::AllocError;
 
@@ -59,25 +62,27 @@ fn push_near(text: &mut Vec<u8>, word: &[u8]) -> Result<(), AllocError>
         ≡ text.old.items ++ near_text (near_words word.now)) }
 {
     let head = &word[..word.len().min(NEAR_LETTERS)];
-    let Some((first, behind)) = first_begun(FIRST_WORDS, head) else {
+    if first_begun(false, b"", head, forms()).is_none() {
         return push_nothing_near(text);
-    };
-    text.extend_from_slice(b"NEAREST: ")?;
-    text.extend_from_slice(first)?;
-    push_further(text, behind, head)?;
+    }
+    text.extend_from_slice(b"NEAREST:")?;
+    push_begun(text, head, forms())?;
     text.extend_from_slice(b"\n")
 }
 
-/// Appends the words of a table that begin so, each after a blank.
-fn push_further(text: &mut Vec<u8>, table: &[u8], head: &[u8]) -> Result<(), AllocError>
+/// Appends the first words of some rows that begin so, each after a blank.
+fn push_begun(text: &mut Vec<u8>, head: &[u8], mut rows: &'static [Form]) -> Result<(), AllocError>
     ensures { OnOk result (text.new.items ≡ text.old.items
-        ++ further_words (filter (begins head.now) (command_words table.now))) }
+        ++ blank_words (filter (begins head.now) (words_at false [] (forms_of rows.entry.now)))) }
 {
-    let mut rest = table;
-    while let Some((word, more)) = first_begun(rest, head) {
-        text.extend_from_slice(b" ")?;
-        text.extend_from_slice(word)?;
-        rest = more;
+    while let [form, rest @ ..] = rows {
+        if let Some(word) = word_in(false, b"", form)
+            && begins(head, word)
+        {
+            text.extend_from_slice(b" ")?;
+            text.extend_from_slice(word)?;
+        }
+        rows = rest;
     }
     Ok(())
 }
@@ -96,14 +101,15 @@ fn push_range(text: &mut Vec<u8>, is_numbered: bool) -> Result<(), AllocError>
 
 /// Appends the forms of a word and the range of numbers, or the nearest words.
 fn push_forms(text: &mut Vec<u8>, word: &[u8], is_numbered: bool) -> Result<(), AllocError>
-    ensures { OnOk result (text.new.items
-        ≡ text.old.items ++ forms_or_near word.now is_numbered) }
+    ensures { OnOk result (text.new.items ≡ text.old.items
+        ++ forms_or_near word.now is_numbered (rows_of word.now forms)) }
 {
-    if !is_helped(word) {
-        return push_near(text, word);
+    let length = text.len();
+    push_rows_of(text, word, forms())?;
+    if length < text.len() {
+        return push_range(text, is_numbered);
     }
-    push_rows_on(text, word)?;
-    push_range(text, is_numbered)
+    push_near(text, word)
 }
 
 /// Appends the advice on a first word.

@@ -3,8 +3,9 @@ ghost use Rattle.std.specs.Prelude.{◌≡◌, ◌∷◌, [], codes};
 ghost use Rattle.ss_debug.specs.CommandLines.{command_words};
 ghost use Rattle.ss_prompt.specs.Words.{command_behind, only_name_of};
 ghost use Rattle.ss_prompt.specs.Reading.{made_or_bad, alone, over_of, back_over_of, back_to_of};
-ghost use Rattle.ss_prompt.specs.Reading.{go_command, back_command, list_command, names_command, help_command};
-ghost use Rattle.ss_prompt.specs.Reading.{run_command, sight_command, show_command, bare_command};
+ghost use Rattle.ss_prompt.specs.Reading.{go_of, list_command, names_command, help_command};
+ghost use Rattle.ss_prompt.specs.Reading.{show_command, bare_command};
+ghost use Rattle.ss_prompt.specs.Sights.{places_of};
 ghost use Rattle.ss_prompt.specs.Reading.{seen_command, rows_or_sight, history_by, history_command};
 ghost use Rattle.ss_prompt.specs.Reading.{made_by, text_command, manner_command, is_rows_of, longest_in};
 ghost use Rattle.ss_prompt.specs.Reading.{undisplay_command, clear_command, lines_between, until_command};
@@ -14,7 +15,6 @@ ghost use Rattle.ss_prompt.specs.declared.commands.PromptCommand.TheVariants as 
 
 use crate::advice::has_number;
 use crate::asked::{asked, own_asked, question_in};
-use crate::causes::CauseCommand;
 use crate::commands::PromptCommand;
 use crate::histories::{ROWS_UNLESS_SAID, with_rows};
 use crate::line::{Line, command_behind, command_of_word, name_of_word, only_name};
@@ -50,7 +50,7 @@ pub(crate) fn over(rest: &[u8]) -> PromptCommand
 }
 
 /// BACK OVER: as often as STEP makes steps.
-fn back_over(rest: &[u8]) -> PromptCommand
+pub(crate) fn back_over(rest: &[u8]) -> PromptCommand
     ensures { result ≡ back_over_of (command_behind (codes "STEP") (command_words rest.now)) }
 {
     match command_behind(b"STEP", rest) {
@@ -60,7 +60,7 @@ fn back_over(rest: &[u8]) -> PromptCommand
 }
 
 /// BACK TO: a time as RUN TO takes it.
-fn back_to(rest: &[u8]) -> PromptCommand
+pub(crate) fn back_to(rest: &[u8]) -> PromptCommand
     ensures { result ≡ back_to_of (command_behind (codes "RUN TO") (command_words rest.now)) }
 {
     match command_behind(b"RUN TO", rest) {
@@ -70,7 +70,7 @@ fn back_to(rest: &[u8]) -> PromptCommand
 }
 
 /// A movement to a state in which the condition of a text holds; the text may be none.
-fn until(way: Until, rest: &[u8]) -> PromptCommand
+pub(crate) fn until(way: Until, rest: &[u8]) -> PromptCommand
     ensures { result ≡ until_command way (command_words rest.now) }
 {
     match Line::of_words(rest) {
@@ -79,19 +79,10 @@ fn until(way: Until, rest: &[u8]) -> PromptCommand
     }
 }
 
-/// The words after GO: END, FIRST and a condition, or a position.
+/// GO: a position is a number as RUN TO takes it.
 pub(crate) fn go(rest: &[u8]) -> PromptCommand
-    ensures { result ≡ go_command (command_words rest.now) }
+    ensures { result ≡ go_of (command_behind (codes "RUN TO") (command_words rest.now)) }
 {
-    let Some((word, more)) = next_word(rest) else {
-        return PromptCommand::Plain(Command::Bad);
-    };
-    if word == b"END".as_slice() {
-        return alone(PromptCommand::Travel(Movement::GoEnd), more);
-    }
-    if word == b"FIRST".as_slice() {
-        return until(Until::First, more);
-    }
     match command_behind(b"RUN TO", rest) {
         Command::Move(PlainMovement::RunTo(position)) => {
             PromptCommand::Travel(Movement::Go(position))
@@ -135,38 +126,6 @@ pub(crate) fn on_question(program: &Program, manner: Manner, rest: &[u8]) -> Pro
     }
 }
 
-/// The words after RUN.
-pub(crate) fn run(program: &Program, rest: &[u8]) -> PromptCommand
-    ensures { result ≡ run_command program.now (command_words rest.now) }
-{
-    let Some((word, more)) = next_word(rest) else {
-        return PromptCommand::Plain(Command::Bad);
-    };
-    if word == b"CHANGE".as_slice() {
-        return on_question(program, Manner::RunChange, more);
-    }
-    if word == b"UNTIL".as_slice() {
-        return until(Until::Run, more);
-    }
-    PromptCommand::Plain(Command::Bad)
-}
-
-/// The words after SHOW that are no question: CHANGED, or another sight.
-fn sight_command(rest: &[u8]) -> PromptCommand
-    ensures { result ≡ sight_command (command_words rest.now) }
-{
-    let Some((word, more)) = next_word(rest) else {
-        return PromptCommand::Plain(Command::Bad);
-    };
-    if word == b"CHANGED".as_slice() {
-        return alone(PromptCommand::Changed, more);
-    }
-    match sight(rest) {
-        Some(sight) => PromptCommand::See(sight),
-        None => PromptCommand::Plain(Command::Bad),
-    }
-}
-
 /// A bare name: the entities of a class, or else a set or a variable; another may be an attribute.
 fn bare_command(program: &Program, name: Name) -> PromptCommand
     ensures { result ≡ bare_command program.now name }
@@ -195,9 +154,12 @@ fn rows_or_sight(program: &Program, rest: &[u8]) -> PromptCommand
     ensures { result ≡ rows_or_sight program.now
         (rows_command program.now (command_words rest.now)) (command_words rest.now) }
 {
-    match rows(program, rest) {
-        Some(command) => command,
-        None => seen_command(program, sight_command(rest)),
+    if let Some(command) = rows(program, rest) {
+        return command;
+    }
+    match sight(rest) {
+        Some(sight) => seen_command(program, PromptCommand::See(sight)),
+        None => PromptCommand::Plain(Command::Bad),
     }
 }
 
@@ -212,6 +174,17 @@ pub(crate) fn show(program: &Program, rest: &[u8]) -> PromptCommand
     match asked_of_program(program, question) {
         Ok(question) => PromptCommand::Ask(question),
         Err(missing) => PromptCommand::Missing(missing),
+    }
+}
+
+/// IN c k: an entity as SHOW takes it.
+pub(crate) fn places(rest: &[u8]) -> PromptCommand
+    ensures { result ≡ made_or_bad prompt.See
+        (places_of (command_behind (codes "SHOW") (command_words rest.now))) }
+{
+    match command_behind(b"SHOW", rest) {
+        Command::Show(Shown::Entity(class, x)) => PromptCommand::See(Sight::Places(class, x)),
+        _ => PromptCommand::Plain(Command::Bad),
     }
 }
 
@@ -273,34 +246,6 @@ pub(crate) fn history(program: &Program, rest: &[u8]) -> PromptCommand
         with_rows(program, rest),
         text_command(Manner::History, rest),
     )
-}
-
-/// The words after BACK.
-pub(crate) fn back(program: &Program, rest: &[u8]) -> PromptCommand
-    ensures { result ≡ back_command program.now (command_words rest.now) }
-{
-    let Some((word, more)) = next_word(rest) else {
-        return PromptCommand::Plain(Command::Bad);
-    };
-    if word == b"OVER".as_slice() {
-        return back_over(more);
-    }
-    if word == b"OUT".as_slice() {
-        return alone(PromptCommand::Travel(Movement::BackOut), more);
-    }
-    if word == b"TO".as_slice() {
-        return back_to(more);
-    }
-    if word == b"CHANGE".as_slice() {
-        return on_question(program, Manner::BackChange, more);
-    }
-    if word == b"UNTIL".as_slice() {
-        return until(Until::Back, more);
-    }
-    if word == b"CAUSE".as_slice() {
-        return alone(PromptCommand::Cause(CauseCommand::Back), more);
-    }
-    PromptCommand::Plain(Command::Bad)
 }
 
 /// One word after LIST: a line as BREAK takes it, or the name of a section.

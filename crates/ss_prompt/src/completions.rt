@@ -2,15 +2,17 @@
 ghost use Rattle.std.specs.Prelude.{◌≡◌, ◌++◌, ◌∷◌, [], OnOk};
 ghost use Rattle.ss_debug.specs.CommandLines.{command_words};
 ghost use Rattle.ss_prompt.specs.Completions.{word_lines, attribute_lines, set_lines, section_lines};
-ghost use Rattle.ss_prompt.specs.Completions.{command_lines, completions};
+ghost use Rattle.ss_prompt.specs.Table.{forms_of};
+ghost use Rattle.ss_prompt.specs.Completions.{is_last_of_some, row_lines, command_lines, completions};
 
-use crate::cuts::{FIRST_WORDS, SHOW_WORDS};
 use crate::pieces::next_word;
+use crate::table::{Form, forms, last_word};
 use ss_program::{Class, Name, Program, Section, Set};
 use std::alloc::AllocError;
 
-/// The words after other first words than SHOW, and READ, which begins a line only before FROM.
-const OTHER_WORDS: &[u8] = b"TO CHANGE UNTIL EVENT FIRST END CAUSE WHEN READ FROM";
+/// The words that are in no place of the table: WHEN after a place, and READ and FROM, which ssdb
+/// reads.
+const OTHER_WORDS: &[u8] = b"WHEN READ FROM";
 
 /// Appends a word, and the end of its line.
 fn push_word(text: &mut Vec<u8>, word: &[u8]) -> Result<(), AllocError>
@@ -78,12 +80,38 @@ fn push_sections(text: &mut Vec<u8>, mut sections: &[Section]) -> Result<(), All
     Ok(())
 }
 
+/// Whether a word is the last of some row.
+fn is_last_of_some(word: &[u8], mut rows: &'static [Form]) -> bool
+    ensures { result ≡ is_last_of_some word.now (forms_of rows.entry.now) }
+{
+    while let [form, rest @ ..] = rows {
+        if last_word(form) == word {
+            return true;
+        }
+        rows = rest;
+    }
+    false
+}
+
+/// Appends a line for the last word of each row, but for a word that comes again.
+fn push_rows(text: &mut Vec<u8>, mut rows: &'static [Form]) -> Result<(), AllocError>
+    ensures { OnOk result (text.new.items ≡ text.old.items ++ row_lines (forms_of rows.entry.now)) }
+{
+    while let [form, rest @ ..] = rows {
+        let word = last_word(form);
+        if !is_last_of_some(word, rest) {
+            push_word(text, word)?;
+        }
+        rows = rest;
+    }
+    Ok(())
+}
+
 /// Appends the words of the commands, each on a line.
 fn push_commands(text: &mut Vec<u8>) -> Result<(), AllocError>
     ensures { OnOk result (text.new.items ≡ text.old.items ++ command_lines) }
 {
-    push_table(text, FIRST_WORDS)?;
-    push_table(text, SHOW_WORDS)?;
+    push_rows(text, forms())?;
     push_table(text, OTHER_WORDS)
 }
 

@@ -1,150 +1,117 @@
-//! Words that are cut, made whole.
-ghost use Rattle.std.specs.Prelude.{◌≡◌, ◌<◌, ◌∷◌, [], length, IfSome, MatchOption};
+//! Words that are cut, made whole by the table of the commands.
+ghost use Rattle.std.specs.Prelude.{◌≡◌, ◌<◌, ◌∷◌, [], length, option_map, IfSome, MatchOption};
 ghost use Rattle.std.specs.List.{filter};
 ghost use Rattle.ss_debug.specs.CommandLines.{command_words};
-ghost use Rattle.ss_prompt.specs.Cuts.{begins, whole, words_at, behind, behind_first, behind_movement};
-ghost use Rattle.ss_prompt.specs.Cuts.{is_asked, made_whole, whole_line, first_whole_line};
-ghost use Rattle.ss_prompt.specs.Cuts.{word_of_letter, spelled};
+ghost use Rattle.ss_prompt.specs.Words.{after_words};
+ghost use Rattle.ss_prompt.specs.Table.{forms, form_of, forms_of, is_end, is_asked_after, only_after};
+ghost use Rattle.ss_prompt.specs.Table.{word_in, words_at};
+ghost use Rattle.ss_prompt.specs.Cuts.{begins, whole, word_of_letter, first_whole, further_whole, is_first};
+ghost use Rattle.ss_prompt.specs.Cuts.{made_whole, whole_line, first_whole_line};
 
 use crate::line::Line;
+use crate::makes::Makes;
 use crate::missing::is_declared;
-use crate::pieces::next_word;
+use crate::pieces::{after_words, next_word};
+use crate::table::{Form, forms};
 use ss_program::Program;
 
 /// The fewest letters of a word that is cut.
 const FEWEST_LETTERS: usize = 3;
 
-/// The words that a line may begin with.
-pub(crate) const FIRST_WORDS: &[u8] =
-    b"STEP RUN NEXT BACK BREAK CLEAR FORGET SHOW QUIT OVER OUT GO LIST BREAKS DISPLAY UNDISPLAY HELP \
-    WHY HISTORY NAMES WARNINGS TBREAK READS LOG RELOAD";
-
-/// The words that may come after SHOW.
-pub(crate) const SHOW_WORDS: &[u8] =
-    b"CLOCK WHERE VAR SET EVENTS TAKEN ENTRY REPORT COUNT IN CALLS LOCALS CLASSES SETS GLOBALS SECTIONS CHANGED";
-
-/// The place of a word in its line.
-#[derive(Clone, Copy)]
-pub(crate) enum Standing {
-    /// It is the first of its line.
-    First,
-    /// After RUN.
-    BehindRun,
-    /// After BACK.
-    BehindBack,
-    /// After SHOW.
-    BehindShow,
-    /// A question begins with it.
-    Asked,
-    /// No word of a table is to be there.
-    Free,
-}
-
-/// The place of the word after a first word.
-fn behind_first(word: &[u8]) -> Standing
-    ensures { result ≡ behind_first word.now }
+/// Whether these are all the words of a row.
+fn are_all(before: &[u8], form: &Form) -> bool
+    ensures { result ≡ is_end (after_words (command_words before.now)
+        (command_words form.now.0.now)) }
 {
-    if word == b"RUN".as_slice() {
-        return Standing::BehindRun;
+    match after_words(before, form.0) {
+        Some(rest) => next_word(rest).is_none(),
+        None => false,
     }
-    if word == b"BACK".as_slice() {
-        return Standing::BehindBack;
-    }
-    if word == b"SHOW".as_slice() {
-        return Standing::BehindShow;
-    }
-    if word == b"WHY".as_slice() || word == b"HISTORY".as_slice() || word == b"DISPLAY".as_slice() {
-        return Standing::Asked;
-    }
-    if word == b"HELP".as_slice() {
-        return Standing::First;
-    }
-    Standing::Free
 }
 
-/// The place of the word after the second word of a movement.
-fn behind_movement(word: &[u8]) -> Standing
-    ensures { result ≡ behind_movement word.now }
+/// Whether a question may come after a text, by some rows.
+fn is_asked_after(before: &[u8], mut rows: &'static [Form]) -> bool
+    ensures { result ≡ is_asked_after before.now (forms_of rows.entry.now) }
 {
-    if word == b"CHANGE".as_slice() {
-        Standing::Asked
-    } else {
-        Standing::Free
+    while let [form, rest @ ..] = rows {
+        if form.1.asks() && are_all(before, form) {
+            return true;
+        }
+        rows = rest;
     }
+    false
 }
 
-impl Standing {
-    /// The words that may come there.
-    fn words(self) -> &'static [u8]
-        ensures { result.now ≡ words_at self }
-    {
-        match self {
-            Standing::First => FIRST_WORDS,
-            Standing::BehindRun => b"CHANGE UNTIL",
-            Standing::BehindBack => b"EVENT BREAK CHANGE UNTIL OVER OUT CAUSE",
-            Standing::BehindShow => SHOW_WORDS,
-            Standing::Asked => b"CLOCK WHERE VAR SET EVENTS TAKEN ENTRY REPORT COUNT",
-            Standing::Free => b"",
-        }
+/// The only word of a row after a text.
+fn only_after(before: &[u8], form: &Form) -> Option<&'static [u8]>
+    ensures { option_map (λ word. word.now) result ≡ only_after before.now (form_of form.now) }
+{
+    let rest = after_words(before, form.0)?;
+    let (word, more) = next_word(rest)?;
+    if next_word(more).is_some() {
+        return None;
     }
+    Some(word)
+}
 
-    /// The place of the next word.
-    fn behind(self, word: &[u8]) -> Standing
-        ensures { result ≡ behind self word.now }
-    {
-        match self {
-            Standing::First => behind_first(word),
-            Standing::BehindRun | Standing::BehindBack => behind_movement(word),
-            Standing::BehindShow | Standing::Asked | Standing::Free => Standing::Free,
-        }
-    }
-
-    /// Whether a question may come there.
-    fn is_asked(self) -> bool
-        ensures { result ≡ is_asked self }
-    {
-        matches!(self, Standing::BehindShow | Standing::Asked)
+/// The word of a row that may come after a text; if a question may come there, it is the first word
+/// of one.
+pub(crate) fn word_in(is_asked: bool, before: &[u8], form: &Form) -> Option<&'static [u8]>
+    ensures { option_map (λ word. word.now) result
+        ≡ word_in is_asked before.now form.now.1 (form_of form.now) }
+{
+    match (is_asked, form.1) {
+        (_, Makes::Also) => None,
+        (true, Makes::Asked) => only_after(b"SHOW", form),
+        (true, _) => None,
+        (false, _) => only_after(before, form),
     }
 }
 
 /// Whether a word is the beginning of another.
-fn begins(word: &[u8], other: &[u8]) -> bool
+pub(crate) fn begins(word: &[u8], other: &[u8]) -> bool
     ensures { result ≡ begins word.now other.now }
 {
     word.len() <= other.len() && &other[..word.len()] == word
 }
 
-/// The first word of a table that a word begins, and the words after it.
-#[tactic(auto, using(crate::proofs::Filters::kept_first, crate::proofs::Filters::passed_first))]
-pub(crate) fn first_begun<'a>(table: &'a [u8], word: &[u8]) -> Option<(&'a [u8], &'a [u8])>
-    ensures words { MatchOption result (filter (begins word.now) (command_words table.now) ≡ [])
-        (λ r. filter (begins word.now) (command_words table.now)
-        ≡ r.0.now ∷ filter (begins word.now) (command_words r.1.now)) }
-    ensures less { IfSome result (λ r. length r.1.now < length table.now) }
+/// The first word of some rows that may come after a text and that a word begins, and the rows
+/// after its own.
+pub(crate) fn first_begun<'a>(
+    is_asked: bool,
+    before: &[u8],
+    word: &[u8],
+    mut rows: &'a [Form],
+) -> Option<(&'static [u8], &'a [Form])>
+    ensures words { MatchOption result
+        (filter (begins word.now) (words_at is_asked before.now (forms_of rows.entry.now)) ≡ [])
+        (λ r. filter (begins word.now) (words_at is_asked before.now (forms_of rows.entry.now))
+        ≡ r.0.now ∷ filter (begins word.now) (words_at is_asked before.now (forms_of r.1.now))) }
+    ensures less { IfSome result (λ r. length r.1.now < length rows.entry.now) }
 {
-    let mut rest = table;
-    while let Some((other, more)) = next_word(rest) {
-        if begins(word, other) {
-            return Some((other, more));
+    while let [form, rest @ ..] = rows {
+        rows = rest;
+        if let Some(other) = word_in(is_asked, before, form)
+            && begins(word, other)
+        {
+            return Some((other, rest));
         }
-        rest = more;
     }
     None
 }
 
-/// The only word of a table that a word of three letters or more begins, which it means; else the
+/// The only word after a text that a word of three letters or more begins, which it means; else the
 /// word as it is.
-#[tactic(auto, unfolding(crate::specs::Cuts::whole))]
-fn whole<'a>(table: &'a [u8], word: &'a [u8]) -> &'a [u8]
-    ensures { result.now ≡ whole table.now word.now }
+fn whole<'a>(is_asked: bool, before: &[u8], word: &'a [u8]) -> &'a [u8]
+    ensures { result.now ≡ whole is_asked before.now word.now }
 {
     if word.len() < FEWEST_LETTERS {
         return word;
     }
-    let Some((other, more)) = first_begun(table, word) else {
+    let Some((other, rest)) = first_begun(is_asked, before, word, forms()) else {
         return word;
     };
-    if first_begun(more, word).is_some() {
+    if first_begun(is_asked, before, word, rest).is_some() {
         return word;
     }
     other
@@ -172,25 +139,41 @@ fn word_of_letter(word: &[u8]) -> &[u8]
     word
 }
 
-/// A word with its letter spelled, if it begins a line.
-fn spelled(at: Standing, word: &[u8]) -> &[u8]
-    ensures { result.now ≡ spelled at word.now }
+/// The first word of a line made whole.
+fn first_whole(word: &[u8]) -> &[u8]
+    ensures { result.now ≡ first_whole word.now }
 {
-    match at {
-        Standing::First => word_of_letter(word),
-        _ => word,
-    }
+    whole(false, b"", word_of_letter(word))
 }
 
-/// A word made whole by its place in the line, from one letter or more of it. If a question may
-/// come there, a name of the program stays as it is.
-fn made_whole<'a>(program: &Program, at: Standing, word: &'a [u8]) -> &'a [u8]
-    ensures { result.now ≡ made_whole program.now at word.now }
+/// Another word made whole by the text before it. A name of the program stays as it is in a
+/// question, and after SHOW.
+fn further_whole<'a>(program: &Program, before: &[u8], word: &'a [u8]) -> &'a [u8]
+    ensures { result.now
+        ≡ further_whole program.now (is_asked_after before.now forms) before.now word.now }
 {
-    if at.is_asked() && is_declared(program, word) {
+    let is_asked = is_asked_after(before, forms());
+    if (is_asked || before == b"SHOW".as_slice()) && is_declared(program, word) {
         return word;
     }
-    whole(at.words(), spelled(at, word))
+    whole(is_asked, before, word)
+}
+
+/// Whether a first word of a line comes after a text: after none, and after HELP.
+fn is_first(before: &[u8]) -> bool
+    ensures { result ≡ is_first before.now }
+{
+    before == b"".as_slice() || before == b"HELP".as_slice()
+}
+
+/// A word made whole by the text before it.
+fn made_whole<'a>(program: &Program, before: &[u8], word: &'a [u8]) -> &'a [u8]
+    ensures { result.now ≡ made_whole program.now before.now word.now }
+{
+    if is_first(before) {
+        return first_whole(word);
+    }
+    further_whole(program, before, word)
 }
 
 /// A line whose words are made whole, if it is no longer than a line may be.
@@ -199,12 +182,10 @@ pub(crate) fn whole_line(program: &Program, line: &[u8]) -> Option<Line>
     ensures { result ≡ whole_line program.now line.now }
 {
     let mut made = Line::new(b"")?;
-    let mut at = Standing::First;
     let mut rest = line;
     while let Some((word, more)) = next_word(rest) {
-        let it = made_whole(program, at, word);
+        let it = made_whole(program, made.as_slice(), word);
         made = made.with_word(it)?;
-        at = at.behind(it);
         rest = more;
     }
     Some(made)
@@ -219,6 +200,6 @@ pub(crate) fn first_whole_line(line: &[u8]) -> Option<Line>
     let Some((word, more)) = next_word(line) else {
         return Some(made);
     };
-    let made = made.with_word(whole(FIRST_WORDS, word_of_letter(word)))?;
+    let made = made.with_word(first_whole(word))?;
     made.with_words(more)
 }

@@ -7,9 +7,7 @@ ghost use Rattle.ss_debug.specs.Answer.{state_line};
 ghost use Rattle.ss_debug.specs.Turn.{is_quit as is_plain_quit};
 ghost use Rattle.ss_prompt.specs.PromptState.{state_at, with_questions, fault_told, source_line};
 ghost use Rattle.ss_prompt.specs.PromptState.{place_text, greeting};
-ghost use Rattle.ss_prompt.specs.Stops.{changes_told, stop_text, HasLookedBeside, IsStopRefused};
 ghost use Rattle.ss_prompt.specs.Plain.{plain_next, plain_said, IsPlainRefused};
-ghost use Rattle.ss_prompt.specs.Travel.{travel_next, travel_said, IsTravelRefused};
 ghost use Rattle.ss_prompt.specs.Names.{warnings_told};
 ghost use Rattle.ss_prompt.specs.Valued.{Suits};
 ghost use Rattle.ss_prompt.specs.Prompting.{prompt_answer, state_led, prompt_state_after, IsRefused, is_quit};
@@ -22,10 +20,12 @@ mod displays;
 mod listed;
 mod meant;
 mod model;
+mod movements;
 mod once;
 mod past;
 mod reads;
 mod resume;
+mod stops;
 mod taken;
 mod until;
 mod valued;
@@ -41,14 +41,12 @@ use crate::places::push_no_place;
 use crate::sections::present_line;
 use crate::shown::Shown;
 use crate::source::push_marked_line;
-use crate::stops::{goes_back, travels_back};
-use ss_changes::{push_stop_changes, push_stop_changes_ahead};
 use ss_check::SymbolTable;
 use ss_console::Go;
 use ss_debug::{Command, Debugger, Question as PlainQuestion, obey};
 use ss_faults::push_fault_sentence;
 use ss_links::SetBoard;
-use ss_trace::{Movement, Question, make_movement, push_answer};
+use ss_trace::{Question, push_answer};
 use std::alloc::{AllocError, Global};
 use std::marker::Model;
 use std::mem::swap;
@@ -180,51 +178,6 @@ impl<'a> PromptDesk<'a> {
         push_answers(debugger, self.symbols, &self.displays, text)
     }
 
-    /// Appends the changes of the last step; if a movement went back, the changes of the next one.
-    #[tactic(auto, using(crate::proofs::NeighbourStates::beside), unfolding(crate::specs::Stops::HasLookedBeside))]
-    fn push_changes<S: SetBoard>(
-        &self,
-        debugger: &mut Debugger<S>,
-        is_back: bool,
-        answer: &mut Vec<u8>,
-    ) -> Result<(), AllocError>
-        ensures place { OnOk result (state_at debugger.new self.now
-            ≡ state_at debugger.old self.now) }
-        ensures said { OnOk result (answer.new.items
-            ≡ answer.old.items ++ changes_told is_back (state_at debugger.old self.now)) }
-        ensures memory { OnErr result
-            (HasLookedBeside (state_at debugger.old self.now) (state_at debugger.new self.now)) }
-    {
-        if is_back {
-            push_stop_changes_ahead(self.alloc, debugger, answer)
-        } else {
-            push_stop_changes(self.alloc, debugger, answer)
-        }
-    }
-
-    /// Appends the text at the stop of a movement, which went back or not.
-    #[tactic(auto, using(crate::proofs::StopRefusals::stops))]
-    fn push_stop<S: SetBoard>(
-        &self,
-        debugger: &mut Debugger<S>,
-        is_back: bool,
-        answer: &mut Vec<u8>,
-    ) -> Result<(), AllocError>
-        requires { Suits debugger.old.machine.input.program self.now.symbols }
-        ensures place { OnOk result (state_at debugger.new self.now
-            ≡ state_at debugger.old self.now) }
-        ensures said { OnOk result (answer.new.items
-            ≡ answer.old.items ++ stop_text is_back (state_at debugger.old self.now)) }
-        ensures memory { OnErr result
-            (IsStopRefused (state_at debugger.old self.now) (state_at debugger.new self.now)) }
-    {
-        self.push_fault(debugger, answer)?;
-        self.push_past(debugger, answer)?;
-        self.push_source(debugger, answer)?;
-        self.push_changes(debugger, is_back, answer)?;
-        push_answers(debugger, self.symbols, &self.displays, answer)
-    }
-
     /// Appends the warnings on the model.
     fn push_warnings<S: SetBoard>(
         &self,
@@ -275,8 +228,7 @@ impl<'a> PromptDesk<'a> {
     {
         match command {
             Command::Move(movement) => {
-                obey(debugger, Command::Move(movement), answer)?;
-                self.push_stop(debugger, goes_back(movement), answer)?;
+                self.make_move(debugger, movement, answer)?;
                 Ok(Go::On)
             }
             Command::Show(PlainQuestion::Taken) => {
@@ -292,27 +244,6 @@ impl<'a> PromptDesk<'a> {
                 ss_debug::Go::Quit => Ok(Go::Quit),
             },
         }
-    }
-
-    /// A movement that is none of docs/DEBUGGER.md.
-    #[tactic(auto, using(crate::proofs::StopRefusals::movements))]
-    fn travel<S: SetBoard>(
-        &self,
-        debugger: &mut Debugger<S>,
-        movement: Movement,
-        answer: &mut Vec<u8>,
-    ) -> Result<(), AllocError>
-        requires { Suits debugger.old.machine.input.program self.now.symbols }
-        ensures place { OnOk result (state_at debugger.new self.now
-            ≡ travel_next (state_at debugger.old self.now) movement) }
-        ensures said { OnOk result (answer.new.items
-            ≡ answer.old.items ++ travel_said (state_at debugger.old self.now) movement) }
-        ensures memory { OnErr result (IsTravelRefused (state_at debugger.old self.now) movement
-            (state_at debugger.new self.now)) }
-    {
-        let is_back = travels_back(&movement, debugger.machine().position());
-        make_movement(debugger, movement, answer)?;
-        self.push_stop(debugger, is_back, answer)
     }
 
     /// Does the work of a command, and appends its whole answer. Where LIST goes on stays as it is.

@@ -4,6 +4,7 @@ ghost use Rattle.ss_sentences.specs.Wording.{rule_sentence};
 ghost use Rattle.ss_prompt.specs.Explained.{has_blank, rule_line, check_explanation};
 
 use crate::source::{push_marked_line, source_lines};
+use ss_check::{CheckRule, Wrong};
 use ss_names::push_breach;
 use ss_sentences::rule_sentence;
 use std::alloc::{AllocError, Global};
@@ -30,21 +31,28 @@ fn push_rule(text: &mut Vec<u8>, code: &str) -> Result<(), AllocError>
     text.extend_from_slice(b"\n")
 }
 
-/// Appends the explanation of a refusal of a model by the rule of the checker with this code at a
-/// line, which is counted from 1: the meaning of the rule, the line as it is written, and the name
-/// that the breach is about. After `AllocError` a part of it may be there.
+/// A refusal of a model by a rule of the checker at a line, which is counted from 1.
+#[derive(Clone, Copy)]
+pub struct CheckRefusal<'a> {
+    pub rule: CheckRule,
+    pub line: usize,
+    pub wrong: &'a Wrong,
+}
+
+/// Appends the explanation of a refusal of a model by a rule of the checker: the meaning of the
+/// rule, the line as it is written, and what is wrong. After `AllocError` a part of it may be
+/// there.
 pub fn push_check_explanation(
     alloc: Global,
     model: &[u8],
-    code: &str,
-    line: usize,
+    refusal: CheckRefusal<'_>,
     text: &mut Vec<u8>,
 ) -> Result<(), AllocError>
-    ensures { OnOk result (text.new.items
-        ≡ text.old.items ++ check_explanation model.now code.now line) }
+    ensures { OnOk result (text.new.items ≡ text.old.items ++ check_explanation model.now
+        refusal.entry.rule refusal.entry.line refusal.entry.wrong.now) }
 {
     let lines = source_lines(alloc, model)?;
-    push_rule(text, code)?;
-    push_marked_line(text, &lines, b"> ", line)?;
-    push_breach(alloc, model, code, line, text)
+    push_rule(text, refusal.rule.code())?;
+    push_marked_line(text, &lines, b"> ", refusal.line)?;
+    push_breach(alloc, model, refusal.line, refusal.wrong, text)
 }

@@ -21,6 +21,8 @@ mod laws;
 mod lent;
 mod line;
 mod listing;
+mod made;
+mod makes;
 mod manner;
 mod misread;
 mod missing;
@@ -40,6 +42,7 @@ mod shown;
 mod sight;
 mod source;
 mod stops;
+mod table;
 mod taken;
 mod until;
 
@@ -47,7 +50,7 @@ pub use break_place::{BreakPlace, section_on};
 pub use causes::CauseCommand;
 pub use commands::PromptCommand;
 pub use completions::push_completions;
-pub use explained::push_check_explanation;
+pub use explained::{CheckRefusal, push_check_explanation};
 pub use laws::{
     other_commands_leave_the_debugger, plain_answers_come_first, plain_lines_answer_the_batch,
     plain_lines_stay, plain_texts_answer_the_batch, what_is_missing_is_answered_so,

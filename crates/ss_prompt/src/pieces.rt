@@ -1,7 +1,8 @@
 //! The words of a line.
-ghost use Rattle.std.specs.Prelude.{◌≡◌, ◌+◌, ◌<◌, ◌≤◌, length, ◌∷◌, [], MatchOption, IfSome};
+ghost use Rattle.std.specs.Prelude.{◌≡◌, ◌+◌, ◌<◌, ◌≤◌, length, ◌∷◌, [], None, Some, MatchOption, IfSome};
 ghost use Rattle.std.specs.List.{before_first, after_first, position_or_len};
 ghost use Rattle.ss_debug.specs.CommandLines.{separates, word_separators, command_words};
+ghost use Rattle.ss_prompt.specs.Words.{after_words};
 
 /// The place of the first separator of words, or the length.
 #[tactic(auto, using(std::proofs::lemmas::List::Sums::position_or_len_is))]
@@ -49,4 +50,24 @@ pub(crate) fn next_word(line: &[u8]) -> Option<(&[u8], &[u8])>
         rest = more;
     }
     None
+}
+
+/// The text after the words of another, if a line begins with these words.
+pub(crate) fn after_words<'a>(words: &[u8], line: &'a [u8]) -> Option<&'a [u8]>
+    ensures { MatchOption result
+        (after_words (command_words words.now) (command_words line.now) ≡ None)
+        (λ rest. after_words (command_words words.now) (command_words line.now)
+        ≡ Some (command_words rest.now)) }
+{
+    let mut left = words;
+    let mut rest = line;
+    while let Some((word, more)) = next_word(left) {
+        let (other, behind) = next_word(rest)?;
+        if word != other {
+            return None;
+        }
+        left = more;
+        rest = behind;
+    }
+    Some(rest)
 }

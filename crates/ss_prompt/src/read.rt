@@ -1,30 +1,25 @@
 //! Reads the lines of the prompt.
-ghost use Rattle.std.specs.Prelude.{◌≡◌, [], codes, drop};
+ghost use Rattle.std.specs.Prelude.{◌≡◌, [], drop};
 ghost use Rattle.ss_debug.specs.CommandLines.{command_words};
-ghost use Rattle.ss_prompt.specs.Reading.{own_in_words, own_of_whole, own_command_of, placed, once_of};
+ghost use Rattle.ss_prompt.specs.Reading.{own_of_whole, own_command_of, placed};
 ghost use Rattle.ss_prompt.specs.Reading.{plain_meant, first_whole_command_of};
 ghost use Rattle.ss_prompt.specs.Reading.{text_asked, show_value, unread_or_value, written_command, or_value};
 ghost use Rattle.ss_prompt.specs.Manners.{words_before};
 ghost use Rattle.ss_prompt.specs.Reading.{advised, plain_command_of, prompt_command_of};
 ghost use Rattle.ss_prompt.specs.Places.{next_line};
-ghost use Rattle.ss_prompt.specs.Words.{command_behind, line_behind};
+ghost use Rattle.ss_prompt.specs.Words.{line_behind};
 
 use crate::advice::{has_number, verb_of};
-use crate::arguments::{
-    alone, back, clear, go, help, history, list, names, on_question, over, run, show, undisplay,
-};
-use crate::break_words::break_words;
-use crate::causes::why;
 use crate::commands::PromptCommand;
 use crate::cuts::{first_whole_line, whole_line};
-use crate::line::{Line, command_behind};
+use crate::line::Line;
+use crate::made::own_in_words;
 use crate::manner::Manner;
 use crate::pieces::next_word;
 use crate::places::next_line;
 use ss_console::LONGEST_LINE;
 use ss_debug::{Command, Name, command};
 use ss_program::Program;
-use ss_trace::Movement;
 
 /// A command on a line with a place, or the next line that has one.
 pub(crate) fn placed(program: &Program, line: u32, command: PromptCommand) -> PromptCommand
@@ -35,84 +30,6 @@ pub(crate) fn placed(program: &Program, line: u32, command: PromptCommand) -> Pr
         return command;
     }
     PromptCommand::NoPlace(line, next)
-}
-
-/// TBREAK: a line as BREAK takes it.
-fn once(program: &Program, rest: &[u8]) -> PromptCommand
-    ensures { result ≡ once_of program.now (command_behind (codes "BREAK") (command_words rest.now)) }
-{
-    match command_behind(b"BREAK", rest) {
-        Command::Break(line) => placed(program, line, PromptCommand::Once(line)),
-        _ => PromptCommand::Plain(Command::Bad),
-    }
-}
-
-/// The command in the words of a line that is none of docs/DEBUGGER.md.
-#[tactic(auto, unfolding(crate::specs::Reading::own_in_words))]
-fn own_in_words(program: &Program, line: &[u8]) -> PromptCommand
-    ensures { result ≡ own_in_words program.now (command_words line.now) }
-{
-    let Some((verb, rest)) = next_word(line) else {
-        return PromptCommand::Plain(Command::Bad);
-    };
-    if verb == b"OVER".as_slice() {
-        return over(rest);
-    }
-    if verb == b"OUT".as_slice() {
-        return alone(PromptCommand::Travel(Movement::Out), rest);
-    }
-    if verb == b"BACK".as_slice() {
-        return back(program, rest);
-    }
-    if verb == b"RUN".as_slice() {
-        return run(program, rest);
-    }
-    if verb == b"SHOW".as_slice() {
-        return show(program, rest);
-    }
-    if verb == b"WHY".as_slice() {
-        return why(program, rest);
-    }
-    if verb == b"HISTORY".as_slice() {
-        return history(program, rest);
-    }
-    if verb == b"GO".as_slice() {
-        return go(rest);
-    }
-    if verb == b"READS".as_slice() {
-        return alone(PromptCommand::Reads, rest);
-    }
-    if verb == b"LIST".as_slice() {
-        return list(rest);
-    }
-    if verb == b"BREAK".as_slice() {
-        return break_words(program, rest);
-    }
-    if verb == b"CLEAR".as_slice() {
-        return clear(rest);
-    }
-    if verb == b"BREAKS".as_slice() {
-        return alone(PromptCommand::Breaks, rest);
-    }
-    if verb == b"TBREAK".as_slice() {
-        return once(program, rest);
-    }
-    if verb == b"DISPLAY".as_slice() {
-        return on_question(program, Manner::Display, rest);
-    }
-    if verb == b"UNDISPLAY".as_slice() {
-        return undisplay(program, rest);
-    }
-    if verb == b"NAMES".as_slice() {
-        return names(rest);
-    }
-    if verb == b"WARNINGS".as_slice() {
-        return alone(PromptCommand::Warnings, rest);
-    }
-    if verb == b"HELP".as_slice() {
-        return help(rest);
-    }
-    PromptCommand::Plain(Command::Bad)
 }
 
 /// A command of docs/DEBUGGER.md as it is meant at the prompt: BREAK needs a line with a place.

@@ -1,16 +1,15 @@
 //! The sights of a state: their reading, and their texts.
-ghost use Rattle.std.specs.Prelude.{◌≡◌, ◌++◌, codes, OnOk};
+ghost use Rattle.std.specs.Prelude.{◌≡◌, ◌++◌, OnOk};
 ghost use Rattle.ss_machine.specs.Moment.{position};
 ghost use Rattle.ss_debug.specs.CommandLines.{command_words};
-ghost use Rattle.ss_prompt.specs.Words.{command_behind};
-ghost use Rattle.ss_prompt.specs.Sights.{sight_alone, places_of, unless_reserved, by_variable, is_question_word};
+ghost use Rattle.ss_prompt.specs.Sights.{unless_reserved, by_variable, is_question_word};
 ghost use Rattle.ss_prompt.specs.Sights.{sight_of, sight_said};
 
-use crate::line::{command_behind, name_of_word, only_name};
+use crate::line::{name_of_word, only_name};
 use crate::pieces::next_word;
 use crate::rows::{push_living_rows, push_member_rows};
 use crate::sight::Sight;
-use ss_debug::{Command, Debugger, Name, Question};
+use ss_debug::{Debugger, Name};
 use ss_inspect::{
     push_by_variable, push_calls, push_classes, push_globals, push_living, push_locals,
     push_places, push_sections, push_sets,
@@ -18,42 +17,6 @@ use ss_inspect::{
 use ss_links::SetBoard;
 use ss_words::is_reserved_name;
 use std::alloc::{AllocError, Global};
-
-/// The sight of one word after SHOW.
-fn sight_alone(what: &[u8]) -> Option<Sight>
-    ensures { result ≡ sight_alone what.now }
-{
-    if what == b"CALLS".as_slice() {
-        return Some(Sight::Calls);
-    }
-    if what == b"LOCALS".as_slice() {
-        return Some(Sight::Locals);
-    }
-    if what == b"GLOBALS".as_slice() {
-        return Some(Sight::Globals);
-    }
-    if what == b"CLASSES".as_slice() {
-        return Some(Sight::Classes);
-    }
-    if what == b"SETS".as_slice() {
-        return Some(Sight::Sets);
-    }
-    if what == b"SECTIONS".as_slice() {
-        return Some(Sight::Sections);
-    }
-    let name = name_of_word(what)?;
-    Some(Sight::Living(name))
-}
-
-/// `IN c k`: an entity as SHOW takes it.
-fn places(rest: &[u8]) -> Option<Sight>
-    ensures { result ≡ places_of (command_behind (codes "SHOW") (command_words rest.now)) }
-{
-    match command_behind(b"SHOW", rest) {
-        Command::Show(Question::Entity(class, x)) => Some(Sight::Places(class, x)),
-        _ => None,
-    }
-}
 
 /// A name that is no reserved word of the language.
 pub(crate) fn unless_reserved(name: Option<Name>) -> Option<Name>
@@ -81,24 +44,26 @@ fn by_variable(what: &[u8], word: &[u8], rest: &[u8]) -> Option<Sight>
     Some(Sight::ByVariable(class, variable, attribute))
 }
 
-/// Whether a word begins other questions than those on a class.
+/// Whether a word begins other lines than those on a class.
 fn is_question_word(what: &[u8]) -> bool
     ensures { result ≡ is_question_word what.now }
 {
-    what == b"VAR".as_slice() || what == b"SET".as_slice() || what == b"COUNT".as_slice()
+    what == b"VAR".as_slice()
+        || what == b"SET".as_slice()
+        || what == b"COUNT".as_slice()
+        || what == b"IN".as_slice()
+        || what == b"CHANGED".as_slice()
 }
 
-/// The sight of the words of a line after SHOW.
+/// The sight of the entities of a class that the words of a line after SHOW ask for.
 pub(crate) fn sight(words: &[u8]) -> Option<Sight>
     ensures { result ≡ sight_of (command_words words.now) }
 {
     let (what, behind) = next_word(words)?;
     let Some((word, rest)) = next_word(behind) else {
-        return sight_alone(what);
+        let name = name_of_word(what)?;
+        return Some(Sight::Living(name));
     };
-    if what == b"IN".as_slice() {
-        return places(behind);
-    }
     if is_question_word(what) {
         return None;
     }

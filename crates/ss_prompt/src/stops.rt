@@ -1,6 +1,6 @@
-//! Which movements go back.
+//! Which movements go back, and of which all that they changed is shown.
 ghost use Rattle.std.specs.Prelude.{◌≡◌};
-ghost use Rattle.ss_prompt.specs.Stops.{goes_back, travels_back};
+ghost use Rattle.ss_prompt.specs.Stops.{goes_back, travels_back, is_whole, travels_whole};
 
 use ss_debug::Movement as PlainMovement;
 use ss_trace::Movement;
@@ -25,4 +25,28 @@ pub(crate) fn travels_back(movement: &Movement, position: u64) -> bool
         Movement::Go(to) => *to < position,
         _ => false,
     }
+}
+
+/// Whether all that a movement of docs/DEBUGGER.md changed is shown at its stop.
+pub(crate) fn is_whole(movement: PlainMovement) -> bool
+    ensures { result ≡ is_whole movement }
+{
+    matches!(
+        movement,
+        PlainMovement::RunTo(_) | PlainMovement::Next | PlainMovement::BackEvent
+    )
+}
+
+/// Whether all that a movement changed which is none of docs/DEBUGGER.md is shown at its stop.
+pub(crate) fn travels_whole(movement: &Movement) -> bool
+    ensures { result ≡ travels_whole movement.now }
+{
+    matches!(
+        movement,
+        Movement::Over(_)
+            | Movement::Out
+            | Movement::BackOver(_)
+            | Movement::BackOut
+            | Movement::BackTo(_)
+    )
 }
