@@ -6,6 +6,7 @@
                         number N; several, parted by blanks
    TOLD_WRITES=1        nothing: at each write of standard output it tells how many growths there
                         were since the one before, and its bytes
+   WRITE_FAILS=N        the write of standard output of this number, counted from 1; no other
    WRITTEN_AT_ONCE=N    a write of standard output takes N bytes at most
    WRITTEN_IN_ALL=N     after so many bytes of standard output a write takes none, and fails where
                         WRITES_FAIL is set
@@ -74,10 +75,11 @@ long write(int file, const void *bytes, size_t count) {
     }
     growths_since_write = 0;
     writes += 1;
-    size_t taken = taken_of(count);
+    int fails = number_of("WRITE_FAILS", 0) == writes;
+    size_t taken = fails ? 0 : taken_of(count);
     if (taken == 0 && count > 0) {
         *__errno_location() = 28; /* the device has no room */
-        return getenv("WRITES_FAIL") != 0 ? -1 : 0;
+        return fails || getenv("WRITES_FAIL") != 0 ? -1 : 0;
     }
     written += taken;
     return __write(file, bytes, taken);

@@ -8,7 +8,7 @@ use std::alloc::{AllocError, Global};
 fn put_refused(alloc: Global, out: &mut Vec<u8>, refused: LoadFault) -> Result<(), AllocError> {
     let (code, line) = match refused {
         LoadFault::Text { rule, line } => (rule.code(), line),
-        LoadFault::Check { rule, line } => (rule.code(), line),
+        LoadFault::Check { rule, line, .. } => (rule.code(), line),
         LoadFault::Memory => return Err(AllocError),
     };
     put_text(out, code)?;

@@ -5,6 +5,7 @@
 //!
 //! - `WORKED`: the text is the name of a worked example of data/; the boards, `linked` and `plain`,
 //!   over which its session gives its transcript and its status.
+//! - `FEED`: the answers of a feed of data to calls, as the module `feeds` says.
 //! - `TURNS`: nothing; each command's answer is written at once, also if a growth is refused.
 //! - `WORDS`: each word after its line and a colon.
 //! - `COUNT`: how many words there are.
@@ -36,6 +37,7 @@
 
 mod answer;
 mod checked;
+mod feeds;
 mod items;
 mod notation;
 mod pieces;
@@ -120,6 +122,7 @@ fn put_given<R: Files + AllocGlobal + Print>(
     match case.way {
         "WORKED" => worked::put_boards(rt, given, case.text),
         "TURNS" => turns::show(rt, case.text),
+        "FEED" => Ok(feeds::put_calls(rt.alloc(), given, case.text)?),
         way => Ok(put_answer(rt.alloc(), given, way, case.text)?),
     }
 }

@@ -1,4 +1,3 @@
--- The definitions for the tests: the tables of their stores, and the meanings of their answerers.
-pub mod Ground
+-- The definitions for the tests: the meanings of their answerers.
 pub mod Counting
 pub mod Echoing

@@ -158,12 +158,12 @@ impl Read for Broken {
 /// Holds a dialogue over a reader, and compares how it ends.
 fn reads<R: Read + Drop>(
     rt: &impl Abort,
-    alloc: Global,
     counter: &mut Counter,
     out: &mut Vec<u8>,
     reader: R,
     ended: Result<(), Cut>,
 ) {
+    let alloc = *out.allocator();
     let mut console = StreamConsole::new(reader, out, false);
     ends(rt, alloc, counter, &mut console, ended);
     drop(console);
@@ -171,19 +171,12 @@ fn reads<R: Read + Drop>(
 
 #[test]
 fn streams_are_read_and_written(rt: HostRuntime) {
-    let alloc = rt.alloc();
     let mut counter = Counter::new();
-    let mut out = Vec::new(alloc);
-    reads(
-        &rt,
-        alloc,
-        &mut counter,
-        &mut out,
-        b"a\nb".as_slice(),
-        Ok(()),
-    );
+    let mut out = Vec::new(rt.alloc());
+    let whole = b"a\nb".as_slice();
+    reads(&rt, &mut counter, &mut out, whole, Ok(()));
     let broken = Broken { left: 3 };
-    reads(&rt, alloc, &mut counter, &mut out, broken, Err(Cut::Read));
+    reads(&rt, &mut counter, &mut out, broken, Err(Cut::Read));
     same(&rt, out.as_slice(), b"0 a\n1 b\n2 aa\n".as_slice());
     drop(out);
 }

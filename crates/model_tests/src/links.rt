@@ -70,7 +70,7 @@ fn return_one<S: SetBoard>(rt: &impl Abort, board: &mut S, head: u32, seats: u32
 {
     take_and_return(rt, board, seat);
     let (behind, before) = (seat.checked_sub(1), seat_before(seats, seat));
-    stands(rt, board, seat, Some(head), behind, before);
+    stands(rt, board, seat, (Some(head), behind, before));
     assert!(rt; head < board.heads());
     same(rt, board.len(head), seats);
 }

@@ -36,15 +36,21 @@ fn joined(rt: &impl Abort, alloc: Global, texts: &[&[u8]]) -> Vec<u8> {
     all
 }
 
+/// How many bytes a channel takes that is not to be full.
+const AMPLE: usize = 1_000;
+
+/// What is read of a channel, and how many bytes it takes.
+type Given<T> = (T, usize);
+
 /// Holds a session over memory, and compares how it ends and its events.
 fn holds(
     rt: &impl Abort,
     alloc: Global,
-    text: &[u8],
-    room: usize,
+    given: Given<&[u8]>,
     ended: Result<(), SessionFault>,
     events: &[u8],
 ) {
+    let (text, room) = given;
     let mut channel = MemoryChannel::new(alloc, text, room);
     same(rt, serve(alloc, &mut Echo::new(), &mut channel), ended);
     tell(rt, alloc, channel.entries(), events);
@@ -55,14 +61,14 @@ fn holds(
 fn answers(
     rt: &impl Abort,
     alloc: Global,
-    texts: &[&[u8]],
-    room: usize,
+    given: Given<&[&[u8]]>,
     ended: Result<(), SessionFault>,
     events: &[&[u8]],
 ) {
+    let (texts, room) = given;
     let text = joined(rt, alloc, texts);
     let events = joined(rt, alloc, events);
-    holds(rt, alloc, &text, room, ended, &events);
+    holds(rt, alloc, (&text, room), ended, &events);
     drop(events);
     drop(text);
 }
@@ -71,18 +77,18 @@ fn answers(
 fn each_request_is_answered_before_the_next(rt: HostRuntime) {
     let alloc = rt.alloc();
     let refused = Err(SessionFault::NoRequest);
-    answers(&rt, alloc, &[], 1_000, Ok(()), &[]);
-    answers(&rt, alloc, &[ASKED], 1_000, Ok(()), &[ANSWERED]);
+    answers(&rt, alloc, (&[], AMPLE), Ok(()), &[]);
+    answers(&rt, alloc, (&[ASKED], AMPLE), Ok(()), &[ANSWERED]);
     let done = &[ANSWERED, LEFT];
-    answers(&rt, alloc, &[ASKED, ENDED], 1_000, Ok(()), done);
-    answers(&rt, alloc, &[ASKED, ENDED, ASKED], 1_000, Ok(()), done);
-    answers(&rt, alloc, &[ASKED, b"\n"], 1_000, refused, &[ANSWERED]);
-    answers(&rt, alloc, &[b"\r\n"], 1_000, refused, &[]);
+    answers(&rt, alloc, (&[ASKED, ENDED], AMPLE), Ok(()), done);
+    answers(&rt, alloc, (&[ASKED, ENDED, ASKED], AMPLE), Ok(()), done);
+    answers(&rt, alloc, (&[ASKED, b"\n"], AMPLE), refused, &[ANSWERED]);
+    answers(&rt, alloc, (&[b"\r\n"], AMPLE), refused, &[]);
     let unasked = b"Content-Length: 2\n\n{}";
-    answers(&rt, alloc, &[unasked], 1_000, refused, &[b"<{}>"]);
+    answers(&rt, alloc, (&[unasked], AMPLE), refused, &[b"<{}>"]);
     let begun = b"<{\"seq\":1,\"command\":\"threads\"}>Content";
     let full = Err(SessionFault::CannotWrite);
-    answers(&rt, alloc, &[ASKED], 7, full, &[begun]);
+    answers(&rt, alloc, (&[ASKED], 7), full, &[begun]);
 }
 
 /// Cuts a stream of two requests, and compares how the session ends and its events.
@@ -99,7 +105,7 @@ fn cuts(rt: &impl Abort, alloc: Global, both: &[u8], cut: usize)
     } else {
         ANSWERED
     };
-    holds(rt, alloc, &both[..cut], 1_000, ended, events);
+    holds(rt, alloc, (&both[..cut], AMPLE), ended, events);
 }
 
 #[test]

@@ -4,6 +4,12 @@ use crate::links::changes::Lists;
 use ss_links::SetBoard;
 use std::process::Abort;
 
+/// The head of the list in which a seat is, and the seats after and before it there.
+pub type Standing = (Option<u32>, Option<u32>, Option<u32>);
+
+/// The standing of a seat that is in no list.
+const NOWHERE: Standing = (None, None, None);
+
 /// The digits of the list with this number.
 fn list_at(lists: &[u8], head: usize) -> &[u8] {
     let mut pieces = lists.split(|byte| *byte == b';');
@@ -63,7 +69,7 @@ pub fn agrees<S: SetBoard>(rt: &impl Abort, board: &S, lists: &Lists) {
 /// Compares the reading calls of a seat, if it is in no list.
 fn agrees_on_seat<S: SetBoard>(rt: &impl Abort, board: &S, seat: u32, lists: &[u8]) {
     if !is_listed(lists, seat) {
-        stands(rt, board, seat, None, None, None);
+        stands(rt, board, seat, NOWHERE);
     }
 }
 
@@ -77,29 +83,15 @@ fn agrees_on<S: SetBoard>(rt: &impl Abort, board: &S, head: u32, list: &[u8]) {
     let mut before = None;
     for place in 0..list.len() {
         let seat = seat_at(list, place).expect(rt, "a digit");
-        stands(
-            rt,
-            board,
-            seat,
-            Some(head),
-            seat_at(list, place + 1),
-            before,
-        );
+        let behind = seat_at(list, place + 1);
+        stands(rt, board, seat, (Some(head), behind, before));
         before = Some(seat);
     }
 }
 
-/// Compares the reading calls of a seat with the head of its list and the seats after and before
-/// it.
-pub fn stands<S: SetBoard>(
-    rt: &impl Abort,
-    board: &S,
-    seat: u32,
-    head: Option<u32>,
-    behind: Option<u32>,
-    before: Option<u32>,
-) {
+/// Compares the reading calls of a seat with its standing.
+pub fn stands<S: SetBoard>(rt: &impl Abort, board: &S, seat: u32, standing: Standing) {
     assert!(rt; seat < board.seats());
     let found = (board.place(seat), board.next(seat), board.prev(seat));
-    same(rt, found, (head, behind, before));
+    same(rt, found, standing);
 }
