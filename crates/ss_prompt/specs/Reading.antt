@@ -206,10 +206,15 @@ abbrev pub placed : PromptCommand → ℕ → Option ℕ → PromptCommand
 placed command line None = NoPlace line None
 placed command line (Some next) = if nat_eq next line then command else NoPlace line (Some next)
 
--- TBREAK: a line as BREAK takes it
-abbrev pub once_of : ProgramTable → Command → PromptCommand
-once_of program (Break line) = placed (Once line) line (next_line program line)
-once_of program _ = bad
+-- TBREAK r: the line of the first place of a section; if it takes none, it is BREAK r
+abbrev pub once_in : Option ℕ → List ℕ → PromptCommand
+once_in (Some line) name = Once line
+once_in None name = BreakSection name
+
+-- TBREAK: a line as BREAK takes it, or the name of a section
+abbrev pub once_of : ProgramTable → Command → Option (List ℕ) → PromptCommand
+once_of program (Break line) name = placed (Once line) line (next_line program line)
+once_of program _ name = made_or_bad (λ n. once_in (taken_line (line_of_section program n)) n) name
 
 -- BREAK of a place, with a condition that some words may be
 abbrev pub when_at : BreakPlace → List (List ℕ) → Bool → PromptCommand
@@ -271,7 +276,7 @@ made_of program makes.Places words = made_or_bad See (places_of (command_behind 
 made_of program makes.List words = list_command words
 made_of program makes.Break words = break_words_command program words
 made_of program makes.Clear words = clear_command words
-made_of program makes.Once words = once_of program (command_behind (codes "BREAK") words)
+made_of program makes.Once words = once_of program (command_behind (codes "BREAK") words) (only_name_of words)
 made_of program makes.Names words = names_command words
 made_of program makes.Help words = help_command words
 

@@ -2,7 +2,7 @@
 ghost use Rattle.std.specs.Prelude.{◌≡◌, codes};
 ghost use Rattle.ss_debug.specs.CommandLines.{command_words};
 ghost use Rattle.ss_prompt.specs.Reading.{single, made_of, made_after, made_or};
-ghost use Rattle.ss_prompt.specs.Reading.{own_by, own_in_words, once_of, bad};
+ghost use Rattle.ss_prompt.specs.Reading.{own_by, own_in_words, once_in, once_of, bad};
 ghost use Rattle.ss_prompt.specs.Table.{form_of, forms_of, form_words};
 ghost use Rattle.ss_prompt.specs.Words.{after_words, command_behind, only_name_of};
 ghost use Rattle.ss_prompt.specs.Sections.{line_of_section, taken_line};
@@ -25,13 +25,28 @@ use ss_debug::{Command, Name};
 use ss_program::Program;
 use ss_trace::Movement;
 
-/// TBREAK: a line as BREAK takes it.
+/// TBREAK r: the line of the first place of a section; if it takes none, it is BREAK r.
+fn once_in(program: &Program, name: Name) -> PromptCommand
+    ensures { result
+        ≡ once_in (taken_line (line_of_section program.now name)) name }
+{
+    match taken_line_of(program, name.as_slice()) {
+        Some(line) => PromptCommand::Once(line),
+        None => PromptCommand::BreakSection(name),
+    }
+}
+
+/// TBREAK: a line as BREAK takes it, or the name of a section.
 fn once(program: &Program, rest: &[u8]) -> PromptCommand
-    ensures { result ≡ once_of program.now (command_behind (codes "BREAK") (command_words rest.now)) }
+    ensures { result ≡ once_of program.now (command_behind (codes "BREAK") (command_words rest.now))
+        (only_name_of (command_words rest.now)) }
 {
     match command_behind(b"BREAK", rest) {
         Command::Break(line) => placed(program, line, PromptCommand::Once(line)),
-        _ => PromptCommand::Plain(Command::Bad),
+        _ => match only_name(rest) {
+            Some(name) => once_in(program, name),
+            None => PromptCommand::Plain(Command::Bad),
+        },
     }
 }
 

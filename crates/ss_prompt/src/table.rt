@@ -129,7 +129,8 @@ pub const FORMS: [Form; 59] = [
     (
         b"TBREAK",
         Makes::Once,
-        b"TBREAK l: forward as RUN, with a stop at line l this once",
+        b"TBREAK l: forward as RUN, with a stop at line l this once\n\
+            TBREAK r: forward as RUN, with a stop at the first place of section r this once",
     ),
     (
         b"BREAKS",
