@@ -1,7 +1,5 @@
 -- The declarations of a text, and the facts in its items about sets and events.
 use Rattle.std.specs.Prelude.{ℕ, Bool, true, false, ◌&&◌, ◌||◌, List, [], ◌∷◌, Option, Some, None, if◌then◌else◌}
-use Rattle.ss_words.specs.declared.mark.Mark.{Mark}
-use Rattle.ss_words.specs.declared.mark.Mark.TheVariants.{Reserved}
 use Rattle.ss_words.specs.declared.reserved.Reserved.{Reserved as AReserved}
 use Rattle.ss_words.specs.declared.reserved.Reserved.TheVariants as r
 use Rattle.ss_words.specs.Plain.{PlainAt, name, number, mark, picture}
@@ -14,23 +12,15 @@ use Rattle.ss_names.specs.declared.meaning.Meaning.TheVariants as m
 use Rattle.ss_names.specs.Here.{at_name, behind}
 use Rattle.ss_names.specs.Meanings.{Declaration, with_declaration}
 
--- the meaning of a name directly after this last word: a set that is owned
-abbrev pub owned_behind : Option AReserved → Option Meaning → Option Meaning
-owned_behind (Some r.Owns) names = names
-owned_behind _ names = None
+-- OWNS
+abbrev pub is_owns : Option AReserved → Bool
+is_owns (Some r.Owns) = true
+is_owns _ = false
 
--- a set to which a class belongs
-abbrev pub joined_behind : Option AReserved → Option Meaning → Option Meaning
-joined_behind (Some r.To) names = names
-joined_behind _ names = None
-
--- in the list after OWNS
-abbrev pub behind_owns : Here → Option Meaning
-behind_owns here = owned_behind here.last here.names
-
--- in the list after BELONGS TO
-abbrev pub behind_belongs : Here → Option Meaning
-behind_belongs here = joined_behind here.last here.names
+-- TO, as in BELONGS TO
+abbrev pub is_to : Option AReserved → Bool
+is_to (Some r.To) = true
+is_to _ = false
 
 -- HIGH or LOW
 abbrev pub is_rank : Option AReserved → Bool
@@ -43,61 +33,58 @@ abbrev pub is_define : Option AReserved → Bool
 is_define (Some r.Define) = true
 is_define _ = false
 
--- the declared meaning, if it is a set
-abbrev pub set_only : Option Meaning → Option Meaning
-set_only (Some m.Set) = Some m.Set
-set_only _ = None
-
--- a key in a DEFINE
-abbrev pub behind_rank : Here → Option Meaning
-behind_rank here = if is_rank here.last && is_define here.begun then Some m.Attribute else None
-
 -- PRIORITY
-abbrev pub ordered_in : Option AReserved → Option Meaning
-ordered_in (Some r.Priority) = Some m.Event
-ordered_in _ = None
-
--- in the list after PRIORITY ORDER IS
-abbrev pub behind_priority : Here → Option Meaning
-behind_priority here = ordered_in here.begun
-
--- a set in the list of its DEFINE
-abbrev pub behind_define : Here → Option Meaning
-behind_define here = if is_define here.last then set_only here.names else None
+abbrev pub is_priority : Option AReserved → Bool
+is_priority (Some r.Priority) = true
+is_priority _ = false
 
 -- BREAK
-abbrev pub broken_behind : Option AReserved → Option Meaning
-broken_behind (Some r.Break) = Some m.Event
-broken_behind _ = None
-
--- directly after BREAK
-abbrev pub behind_break : Here → Option Meaning
-behind_break here = broken_behind here.last
+abbrev pub is_break : Option AReserved → Bool
+is_break (Some r.Break) = true
+is_break _ = false
 
 -- EXTERNAL
-abbrev pub external_in : Option AReserved → Option Meaning
-external_in (Some r.External) = Some m.Event
-external_in _ = None
+abbrev pub is_external : Option AReserved → Bool
+is_external (Some r.External) = true
+is_external _ = false
 
--- in the list after EXTERNAL EVENTS ARE
-abbrev pub behind_external : Here → Option Meaning
-behind_external here = external_in here.begun
+-- a set
+abbrev pub is_set : Option Meaning → Bool
+is_set (Some m.Set) = true
+is_set _ = false
+
+-- a name here is collected, if it has a meaning: in the list after OWNS, BELONGS TO, PRIORITY ORDER IS or EXTERNAL
+-- EVENTS ARE; as a key or a set in a DEFINE; directly after BREAK
+abbrev pub is_wanted : Wanted → Here → Bool
+is_wanted Declared here = true
+is_wanted Owned here = is_owns here.last
+is_wanted Joined here = is_to here.last
+is_wanted Keys here = is_rank here.last && is_define here.begun
+is_wanted Ordered here = is_priority here.begun
+is_wanted Disciplines here = is_define here.last && is_set here.names
+is_wanted Ties here = is_break here.last
+is_wanted Externals here = is_external here.begun
+
+-- the meaning of a name that is collected here: by the words about it, or its declared meaning
+abbrev pub meaning_as : Wanted → Option Meaning → Option Meaning
+meaning_as Keys names = Some m.Attribute
+meaning_as Ordered names = Some m.Event
+meaning_as Ties names = Some m.Event
+meaning_as Externals names = Some m.Event
+meaning_as _ names = names
 
 -- the meaning as which a name is collected here, if it is wanted
 abbrev pub collected_as : Wanted → Here → Option Meaning
-collected_as Declared here = here.names
-collected_as Owned here = behind_owns here
-collected_as Joined here = behind_belongs here
-collected_as Keys here = behind_rank here
-collected_as Ordered here = behind_priority here
-collected_as Disciplines here = behind_define here
-collected_as Ties here = behind_break here
-collected_as Externals here = behind_external here
+collected_as wanted here = if is_wanted wanted here then meaning_as wanted here.names else None
 
 -- the place of a word, at which a name may begin an assignment
 abbrev pub here_at : Here → PlainAt → Here
 here_at here word =
     elim word.word [ name n ↦ at_name here word.line | number n ↦ here | mark k ↦ here | picture ls ↦ here ]
+
+-- the place after a word, before these
+abbrev pub here_behind : Here → PlainAt → List PlainAt → Here
+here_behind here word ws = behind (here_at here word) word.word word.line ws
 
 -- EVERY
 abbrev pub is_every : Option AReserved → Bool

@@ -3,7 +3,8 @@ use Rattle.std.specs.Prelude.{ℕ, ◌==◌, Bool, true, false, nat_lt, List, []
 use Rattle.std.specs.Prelude.{decimal, Option, Some, None, if◌then◌else◌}
 use Rattle.ss_columns.specs.Reserved.{is_among}
 use Rattle.ss_names.specs.declared.known.Known.{Known}
-use Rattle.ss_names.specs.declared.known.TheConstants.{CLOCK, FUNCTIONS, OF_CLASS, OF_OWNERS, OF_MEMBERS}
+use Rattle.ss_names.specs.declared.known.TheConstants.{OF_CLASS}
+use Rattle.ss_names.specs.declared.language.TheConstants.{CLOCK, COMPANIONS, FUNCTIONS}
 use Rattle.ss_names.specs.declared.known.What.{What}
 use Rattle.ss_names.specs.declared.known.What.TheVariants as k
 use Rattle.ss_names.specs.declared.meaning.Meaning.{Meaning}
@@ -23,18 +24,13 @@ pub record Knowledge : Type 0 where
 abbrev pub known_at : Known → Knowledge
 known_at a = record { what = a.what; of = a.of.now; line = a.line }
 
--- declared nowhere
-abbrev pub no_knowledge : Knowledge
-no_knowledge = record { what = k.Undeclared; of = []; line = 0 }
-
--- given by the language
-abbrev pub of_language : What → Knowledge
-of_language what = record { what = what; of = []; line = 0 }
+-- a kind without a class, a set or a line
+abbrev pub plainly : What → Knowledge
+plainly what = record { what = what; of = []; line = 0 }
 
 -- before the name of a set: F., L. and N. of its owners, P., S. and M. of its members
 abbrev pub kept_what : List ℕ → What
-kept_what front = if is_among front (map (λ row. row.now) OF_OWNERS) then k.OfOwners else
-    if is_among front (map (λ row. row.now) OF_MEMBERS) then k.OfMembers else k.Undeclared
+kept_what front = if is_among front (map (λ row. row.now) COMPANIONS) then k.OfSet else k.Undeclared
 
 -- before the name of a permanent class: N.
 abbrev pub count_what : List ℕ → What
@@ -54,16 +50,17 @@ companion_of front declaration =
 -- before a name, if that is declared
 abbrev pub companion_by : List ℕ → Option Declaration → Knowledge
 companion_by front (Some d) = companion_of front d
-companion_by front None = no_knowledge
+companion_by front None = plainly k.Undeclared
 
 -- a name that begins like the names that are kept of a set or class
 abbrev pub companion : List Declaration → List ℕ → Knowledge
-companion ds n = if nat_lt (length n) 3 then no_knowledge else companion_by (take 2 n) (declared_as ds (drop 2 n))
+companion ds n =
+    if nat_lt (length n) 3 then plainly k.Undeclared else companion_by (take 2 n) (declared_as ds (drop 2 n))
 
 -- the kind that the language, a set or a class gives a name, whatever else it is declared as
 abbrev pub knowledge_given : List Declaration → List ℕ → Knowledge
-knowledge_given ds n = if is_among n (map (λ row. row.now) CLOCK) then of_language k.Clock else
-    if is_among n (map (λ row. row.now) FUNCTIONS) then of_language k.Function else companion ds n
+knowledge_given ds n = if is_among n (map (λ row. row.now) CLOCK) then plainly k.Clock else
+    if is_among n (map (λ row. row.now) FUNCTIONS) then plainly k.Function else companion ds n
 
 -- the kind by a name's own declaration, if it has one, and else the given kind
 abbrev pub known_by : List Declaration → List ℕ → Option Declaration → Knowledge
@@ -91,8 +88,7 @@ meaning_text m.Routine = codes "a routine"
 abbrev pub what_text : What → List ℕ
 what_text k.Undeclared = codes "declared nowhere"
 what_text (k.Declared x) = meaning_text x
-what_text k.OfOwners = codes "kept of the set "
-what_text k.OfMembers = codes "kept of the set "
+what_text k.OfSet = codes "kept of the set "
 what_text k.Count = codes "the count of the class "
 what_text k.Clock = codes "the clock"
 what_text k.Function = codes "a function of the language"
@@ -100,8 +96,7 @@ what_text k.Function = codes "a function of the language"
 -- the kinds whose text gives a class or set: an attribute, and a name kept of a set or class
 abbrev pub tells_of : What → Bool
 tells_of (k.Declared m.Attribute) = true
-tells_of k.OfOwners = true
-tells_of k.OfMembers = true
+tells_of k.OfSet = true
 tells_of k.Count = true
 tells_of _ = false
 

@@ -19,4 +19,5 @@ pub mod Index
 pub mod Landmarks
 pub mod Pictures
 pub mod Statements
+pub mod Carets
 pub mod Subjects

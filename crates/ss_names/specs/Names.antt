@@ -2,7 +2,7 @@
 use Rattle.std.specs.Prelude.{ℕ, Bool, false, ◌||◌, List, [], ◌∷◌, map}
 use Rattle.ss_words.specs.Plain.{PlainAt, name, number, mark, picture}
 use Rattle.ss_columns.specs.Reserved.{is_among}
-use Rattle.ss_names.specs.declared.language.TheConstants.{LANGUAGE_NAMES, COMPANIONS}
+use Rattle.ss_names.specs.declared.language.TheConstants.{CLOCK, COMPANIONS, FUNCTIONS}
 
 -- N.x, F.x, L.x, P.x, S.x or M.x
 abbrev pub is_companion : List ℕ → Bool
@@ -12,7 +12,7 @@ is_companion (b ∷ c ∷ bs) = is_among (b ∷ c ∷ []) (map (λ row. row.now)
 
 -- the language gives this name: the clock, a function, or a name that is kept of a class or a set
 unfoldable pub is_of_language : List ℕ → Bool
-is_of_language n = is_among n (map (λ row. row.now) LANGUAGE_NAMES) || is_companion n
+is_of_language n = is_among n (map (λ row. row.now) CLOCK) || is_among n (map (λ row. row.now) FUNCTIONS) || is_companion n
 
 -- the names among plain words, in their order, as often as they occur
 unfoldable pub names_in : List PlainAt → List (List ℕ)

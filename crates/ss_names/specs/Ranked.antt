@@ -1,5 +1,5 @@
 -- Keys of ranked sets that are set for an entity after its FILE.
-use Rattle.std.specs.Prelude.{ℕ, ◌==◌, ◌&&◌, ◌||◌, Bool, true, false, not, List, [], ◌∷◌, ◌++◌, length}
+use Rattle.std.specs.Prelude.{ℕ, ◌==◌, ◌&&◌, Bool, true, false, not, List, [], ◌∷◌, ◌++◌, length}
 use Rattle.std.specs.Prelude.{bytes_eq, Option, Some, None, if◌then◌else◌}
 use Rattle.ss_words.specs.declared.mark.Mark.{Mark}
 use Rattle.ss_words.specs.declared.mark.Mark.TheVariants.{Reserved}
@@ -8,13 +8,12 @@ use Rattle.ss_words.specs.declared.reserved.Reserved.TheVariants as r
 use Rattle.ss_words.specs.Plain.{PlainAt, name, number, mark, picture}
 use Rattle.ss_words.specs.PlainRules.{mark_in}
 use Rattle.ss_names.specs.declared.here.Here.{Here}
-use Rattle.ss_names.specs.declared.position.Position.{Position}
-use Rattle.ss_names.specs.declared.position.Position.TheVariants as p
+use Rattle.ss_names.specs.declared.ranked.Filed.{Filed}
 use Rattle.ss_names.specs.declared.ranked.TheConstants.{RANKED}
 use Rattle.ss_names.specs.Collected.{here_at}
 use Rattle.ss_names.specs.Here.{behind}
 use Rattle.ss_names.specs.Meanings.{Declaration, declared_as}
-use Rattle.ss_names.specs.Positions.{opens, position}
+use Rattle.ss_names.specs.Positions.{is_target, opens}
 use Rattle.ss_names.specs.Saying.{warning_line}
 
 -- ---- the entity that was filed last
@@ -66,15 +65,34 @@ is_forgetting word = forgets_at (mark_in word.word)
 abbrev pub name_or : PlainAt → List ℕ → List ℕ
 name_or word ns = elim word.word [ name n ↦ n | number n ↦ ns | mark j ↦ ns | picture ls ↦ ns ]
 
--- the name of the member that was filed last, after a word, empty if none was
-abbrev pub member_behind : List ℕ → Here → PlainAt → List ℕ
-member_behind member here word =
-    if is_forgetting word then [] else if is_member here then name_or word member else member
+-- what was filed last
+pub record Filing : Type 0 where
+  -- the name of the entity, empty if none was filed
+  pub member : List ℕ
+  -- the name of the set, empty if none is named yet
+  pub set : List ℕ
 
--- the name of the set into which it was filed, after a word, empty if none is named yet
-abbrev pub set_behind : List ℕ → Here → PlainAt → List ℕ
-set_behind set here word =
-    if is_forgetting word || is_member here then [] else if is_filed_set here then name_or word set else set
+-- what was filed last, of the code
+abbrev pub filed_at : Filed → Filing
+filed_at a = record { member = a.member.now; set = a.set.now }
+
+-- nothing
+abbrev pub none_filed : Filing
+none_filed = record { member = []; set = [] }
+
+-- after a name: the entity that is filed, or then the set
+abbrev pub filed_name : Filing → Here → List ℕ → Filing
+filed_name filed here n = if is_member here then record { member = n; set = [] } else
+    if is_filed_set here then record { member = filed.member; set = n } else filed
+
+-- after a word
+abbrev pub filed_behind : Filing → Here → PlainAt → Filing
+filed_behind filed here word = if is_forgetting word then none_filed else elim word.word [
+  | name n ↦ filed_name filed here n
+  | number n ↦ filed
+  | mark j ↦ filed
+  | picture ls ↦ filed
+]
 
 -- ---- the entity of an attribute
 
@@ -104,38 +122,29 @@ is_for set None = false
 abbrev pub ranks : List Declaration → List ℕ → List ℕ → Bool
 ranks keys n set = is_for set (declared_as keys n)
 
--- it is assigned
-abbrev pub is_target : Position → Bool
-is_target p.Target = true
-is_target _ = false
-
--- a name is a key that is set for an entity after its FILE
-abbrev pub is_told : List Declaration → List Declaration → List ℕ → List ℕ → Here → List ℕ → List PlainAt → Bool
-is_told names keys member set here n ws =
-    is_target (position here ws) && not (length set == 0) && ranks keys n set && bytes_eq (entity names n ws) member
+-- a name here is a key that is set for the entity that was filed last
+abbrev pub is_told : List Declaration → List Declaration → Filing → Here → List ℕ → List PlainAt → Bool
+is_told names keys filed here n ws = is_target here && not (length filed.set == 0) && ranks keys n filed.set
+    && bytes_eq (entity names n ws) filed.member
 
 -- the warning about a name, if it is such a key
-abbrev pub ranked_name :
-    List Declaration → List Declaration → List ℕ → List ℕ → Here → List ℕ → ℕ → List PlainAt → List ℕ
-ranked_name names keys member set h n line ws =
-    elim (is_told names keys member set h n ws) [ true ↦ warning_line line n RANKED.now | false ↦ [] ]
+abbrev pub ranked_name : List Declaration → List Declaration → Filing → Here → List ℕ → ℕ → List PlainAt → List ℕ
+ranked_name names keys filed here n line ws =
+    elim (is_told names keys filed here n ws) [ true ↦ warning_line line n RANKED.now | false ↦ [] ]
 
 -- the warning about a word, if it is such a key
-abbrev pub ranked_word :
-    List Declaration → List Declaration → List ℕ → List ℕ → Here → PlainAt → List PlainAt → List ℕ
-ranked_word names keys member set h w ws = elim w.word [
-  | name n ↦ ranked_name names keys member set h n w.line ws
+abbrev pub ranked_word : List Declaration → List Declaration → Filing → Here → PlainAt → List PlainAt → List ℕ
+ranked_word names keys filed here w ws = elim w.word [
+  | name n ↦ ranked_name names keys filed here n w.line ws
   | number n ↦ []
   | mark j ↦ []
   | picture ls ↦ []
 ]
 
--- each key among words that is set for an entity after its FILE, with its line. The words are after
--- others, the last of which filed this member into this set
-unfoldable pub ranked_text :
-    List Declaration → List Declaration → List ℕ → List ℕ → Here → List PlainAt → List ℕ
-ranked_text names keys member set h [] = []
-ranked_text names keys member set h (w ∷ ws) =
+-- each key among words that is set for the entity that was filed last, with its line; the words are after others
+unfoldable pub ranked_text : List Declaration → List Declaration → Filing → Here → List PlainAt → List ℕ
+ranked_text names keys filed h [] = []
+ranked_text names keys filed h (w ∷ ws) =
     let at = here_at h w in
-    ranked_word names keys member set at w ws
-    ++ ranked_text names keys (member_behind member at w) (set_behind set at w) (behind at w.word w.line ws) ws
+    ranked_word names keys filed at w ws
+    ++ ranked_text names keys (filed_behind filed at w) (behind at w.word w.line ws) ws

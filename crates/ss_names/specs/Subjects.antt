@@ -1,5 +1,5 @@
 -- The text about a breach of the checker's rules: about the name that is wrong, or about its statement.
-use Rattle.std.specs.Prelude.{ℕ, List, [], ◌++◌, codes, Option, Some, None, option_map, Ok, Err}
+use Rattle.std.specs.Prelude.{ℕ, List, [], ◌++◌, codes, Option, Some, None, Ok, Err}
 use Rattle.ss_words.specs.Plain.{PlainAt}
 use Rattle.ss_words.specs.PlainRules.{plain_words_of}
 use Rattle.ss_words.specs.TextWords.{words_of}
@@ -11,13 +11,12 @@ use Rattle.ss_names.specs.declared.collected.Wanted.TheVariants.{Declared, Owned
 use Rattle.ss_names.specs.declared.collected.Wanted.TheVariants.{Disciplines, Ties, Externals}
 use Rattle.ss_names.specs.declared.known.What.{What}
 use Rattle.ss_names.specs.declared.known.What.TheVariants as k
-use Rattle.ss_names.specs.declared.statements.StatementRule.{StatementRule}
-use Rattle.ss_names.specs.declared.statements.StatementRule.TheVariants as asked
+use Rattle.ss_names.specs.Carets.{name_caret}
 use Rattle.ss_names.specs.Collected.{collection}
 use Rattle.ss_names.specs.Here.{at_start}
 use Rattle.ss_names.specs.Known.{Knowledge, knowledge_of, knowledge_given, known_text}
 use Rattle.ss_names.specs.Meanings.{Declaration, declared_as}
-use Rattle.ss_names.specs.Statements.{statement_breach}
+use Rattle.ss_names.specs.Statements.{place_text}
 
 -- ---- about a name
 
@@ -53,14 +52,10 @@ knowledge_or _ a b = a
 abbrev pub first_known : List Declaration → List ℕ → Knowledge
 first_known names n = let a = knowledge_given names n in knowledge_or a.what a (knowledge_of names n)
 
--- the knowledge of a name, with this line, if there is one
-abbrev pub told_place : Knowledge → Option ℕ → Knowledge
-told_place knowledge (Some line) = record knowledge { line = line }
+-- the knowledge of a name, with the line of this declaration, if there is one
+abbrev pub told_place : Knowledge → Option Declaration → Knowledge
+told_place knowledge (Some d) = record knowledge { line = d.line }
 told_place knowledge None = knowledge
-
--- the line of a declaration
-abbrev pub line_in : Option Declaration → Option ℕ
-line_in declaration = option_map (λ x. x.line) declaration
 
 -- the places among which the first of a repeated name is: after OWNS, BELONGS TO, PRIORITY, DEFINE, BREAK, EXTERNAL
 abbrev pub repeated_in : Reason → Option Wanted
@@ -72,48 +67,36 @@ repeated_in w.BrokenTwice = Some Ties
 repeated_in w.ExternalTwice = Some Externals
 repeated_in _ = None
 
--- the line of the first of these places of a name
-abbrev pub first_line : List PlainAt → List ℕ → Option Wanted → Option ℕ
-first_line ws n (Some wanted) = line_in (declared_as (collection wanted [] at_start [] ws) n)
-first_line ws n None = None
+-- the knowledge of a name, with the line of the first of these places of it, if it has one
+abbrev pub told_at : List PlainAt → Knowledge → List ℕ → Wanted → Knowledge
+told_at ws knowledge n wanted = told_place knowledge (declared_as (collection wanted [] at_start [] ws) n)
+
+-- the same, if there are such places
+abbrev pub told_among : List PlainAt → Knowledge → List ℕ → Option Wanted → Knowledge
+told_among ws knowledge n (Some wanted) = told_at ws knowledge n wanted
+told_among ws knowledge n None = knowledge
 
 -- a name's kind, with the line of that place, if any; its first kind if its declaration is wrong
 abbrev pub told_by : List PlainAt → List Declaration → List ℕ → Reason → Knowledge
 told_by ws names n w.DeclaredTwice = first_known names n
-told_by ws names n reason = told_place (knowledge_of names n) (first_line ws n (repeated_in reason))
+told_by ws names n reason = told_among ws (knowledge_of names n) n (repeated_in reason)
 
 -- the text about a name that is wrong
 abbrev pub named_text : List PlainAt → List ℕ → Reason → List ℕ
 named_text ws n reason =
     n ++ codes " is " ++ known_text (told_by ws (collection Declared [] at_start [] ws) n reason) ++ reason_text reason
 
--- ---- about a statement
-
--- the question that a reason asks about statements, if it is about no name
-abbrev pub asked_by : Reason → Option StatementRule
-asked_by w.WrongPicture = Some asked.WrongPicture
-asked_by w.NoMain = Some asked.WrongMain
-asked_by w.SecondMain = Some asked.WrongMain
-asked_by w.SecondPriority = Some asked.SecondPriority
-asked_by w.StartOutsideMain = Some asked.WrongStart
-asked_by w.WithoutFind = Some asked.WithoutFind
-asked_by _ = None
-
--- the text about the statement on a line, among these words
-abbrev pub place_text : List PlainAt → ℕ → Option StatementRule → List ℕ
-place_text ws line (Some x) = statement_breach x line ws
-place_text ws line None = []
-
 -- ---- both
 
 -- the text about a reason, by its name or by the statement on a line
 abbrev pub reason_told : List PlainAt → ℕ → Reason → Option (List ℕ) → List ℕ
 reason_told ws line reason (Some n) = named_text ws n reason
-reason_told ws line reason None = place_text ws line (asked_by reason)
+reason_told ws line reason None = place_text ws reason line
 
--- the text about what is wrong on a line of a model; nothing if a rule L refuses the model
+-- a caret below the name, and the text about what is wrong, of a line of a model; nothing if a rule L refuses the model
 unfoldable pub breach_text : List ℕ → ℕ → Wrong → List ℕ
 breach_text model line wrong = elim (words_of model) [
-  | Ok ws ↦ reason_told (plain_words_of ws) line wrong.reason wrong.name
+  | Ok ws ↦ name_caret model ws line wrong.reason wrong.name
+      ++ reason_told (plain_words_of ws) line wrong.reason wrong.name
   | Err f ↦ []
 ]

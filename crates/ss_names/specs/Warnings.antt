@@ -3,7 +3,7 @@ use Rattle.std.specs.Prelude.{ℕ, Bool, true, false, not, ◌==◌, ◌&&◌, �
 use Rattle.std.specs.Prelude.{count_by, bytes_eq, Option, Some, None, Ok, Err}
 use Rattle.std.specs.Borrow.{Bor}
 use Rattle.ss_words.specs.Plain.{PlainAt, name, number, mark, picture}
-use Rattle.ss_words.specs.PlainRules.{mark_in, plain_words_of}
+use Rattle.ss_words.specs.PlainRules.{plain_words_of}
 use Rattle.ss_words.specs.Spellings.{is_reserved_name}
 use Rattle.ss_words.specs.TextWords.{words_of}
 use Rattle.ss_words.specs.declared.word.WordKind.{WordKind}
@@ -17,38 +17,35 @@ use Rattle.ss_names.specs.Saying.{warning_line}
 use Rattle.ss_names.specs.declared.collected.Wanted.TheVariants as wanted
 use Rattle.ss_names.specs.declared.roles.Role.TheVariants.{Set, Read}
 use Rattle.ss_names.specs.declared.unread.TheConstants.{UNREAD, UNSET}
-use Rattle.ss_names.specs.declared.roles.Standing.{Standing}
-use Rattle.ss_names.specs.Collected.{collection}
-use Rattle.ss_names.specs.Here as here
-use Rattle.ss_names.specs.Roles.{at_start, behind, may_stand_once}
+use Rattle.ss_names.specs.declared.here.Here.{Here}
+use Rattle.ss_names.specs.Collected.{collection, here_behind}
+use Rattle.ss_names.specs.Here.{at_start}
+use Rattle.ss_names.specs.Roles.{may_occur_once}
 use Rattle.ss_names.specs.Meanings.{Declaration}
 use Rattle.ss_names.specs.Printed.{printed_text}
-use Rattle.ss_names.specs.Ranked.{ranked_text}
+use Rattle.ss_names.specs.Ranked.{none_filed, ranked_text}
 use Rattle.ss_names.specs.Unread.{uses_text}
 
 -- ---- names that occur once
 
--- a name, one of these, that occurs once and is not the language's
-abbrev pub is_once : List (List ℕ) → List ℕ → Bool
-is_once names n = count_by (bytes_eq n) names == 1 && not (is_of_language n)
+-- a name, one of these, that occurs once, where it may not well do so, and is not the language's
+unfoldable pub is_once : List (List ℕ) → Here → List ℕ → Bool
+is_once names h n =
+    not (may_occur_once h) && count_by (bytes_eq n) names == 1 && not (is_of_language n)
 
--- the warning about a name, if it occurs once
-abbrev pub once_name : List (List ℕ) → ℕ → List ℕ → List ℕ
-once_name names line n = elim (is_once names n) [ true ↦ warning_line line n ONCE.now | false ↦ [] ]
-
--- the warning about a word, unless its name may well occur once
-abbrev pub once_word : List (List ℕ) → Standing → PlainAt → List ℕ
-once_word names standing word = elim word.word [
-  | name n ↦ elim (may_stand_once standing) [ true ↦ [] | false ↦ once_name names word.line n ]
+-- the warning about a word, if it is such a name
+abbrev pub once_word : List (List ℕ) → Here → PlainAt → List ℕ
+once_word names h word = elim word.word [
+  | name n ↦ elim (is_once names h n) [ true ↦ warning_line word.line n ONCE.now | false ↦ [] ]
   | number n ↦ []
   | mark m ↦ []
   | picture ls ↦ []
 ]
 
 -- each name of these words, after others, that occurs once among the names, with its line
-unfoldable pub once_text : List (List ℕ) → Standing → List PlainAt → List ℕ
-once_text names standing [] = []
-once_text names standing (w ∷ ws) = once_word names standing w ++ once_text names (behind standing (mark_in w.word)) ws
+unfoldable pub once_text : List (List ℕ) → Here → List PlainAt → List ℕ
+once_text names h [] = []
+once_text names h (w ∷ ws) = once_word names h w ++ once_text names (here_behind h w ws) ws
 
 -- ---- words that are dropped where a name could be
 
@@ -75,13 +72,6 @@ is_suspect before kind behind =
     && ((is_kind_among (map (λ row. row.now) ARTICLES) kind && (is_sign before || is_sign behind))
     || (is_kind_among (map (λ row. row.now) FILLERS) kind && is_sign behind))
 
--- the bytes of a name
-abbrev pub name_bytes : Kind → List ℕ
-name_bytes (w.name n) = n
-name_bytes (w.number n) = []
-name_bytes (w.sign s) = []
-name_bytes (w.picture ls) = []
-
 -- a word of the code, if there is one
 abbrev pub kind_seen : Option (Bor WordKind) → Option Kind
 kind_seen None = None
@@ -92,24 +82,23 @@ abbrev pub first_kind : List WordAt → Option Kind
 first_kind [] = None
 first_kind (w ∷ ws) = Some w.kind
 
--- the warning about a word between two others
-abbrev pub dropped_word : Option Kind → WordAt → Option Kind → List ℕ
-dropped_word before word behind = elim (is_suspect before word.kind behind) [
-  | true ↦ warning_line word.line (name_bytes word.kind) DROPPED_HERE.now
-  | false ↦ []
-]
+-- the warning about a word of this kind between two others
+abbrev pub dropped_kind : Option Kind → ℕ → Kind → Option Kind → List ℕ
+dropped_kind before line (w.name n) behind =
+    elim (is_suspect before (w.name n) behind) [ true ↦ warning_line line n DROPPED_HERE.now | false ↦ [] ]
+dropped_kind before line _ behind = []
 
 -- each of these words that is dropped where a name could be, after this word
 unfoldable pub dropped_text : Option Kind → List WordAt → List ℕ
 dropped_text before [] = []
-dropped_text before (w ∷ ws) = dropped_word before w (first_kind ws) ++ dropped_text (Some w.kind) ws
+dropped_text before (w ∷ ws) = dropped_kind before w.line w.kind (first_kind ws) ++ dropped_text (Some w.kind) ws
 
 -- ---- all of them
 
 -- the warnings of keys of ranked sets
 abbrev pub key_warnings : List Declaration → List PlainAt → List ℕ
 key_warnings declarations ws =
-    ranked_text declarations (collection wanted.Keys [] here.at_start [] ws) [] [] here.at_start ws
+    ranked_text declarations (collection wanted.Keys [] at_start [] ws) none_filed at_start ws
 
 -- the warnings of these names, some of which are declared
 abbrev pub name_warnings : List (List ℕ) → List Declaration → List PlainAt → List ℕ
@@ -121,7 +110,7 @@ name_warnings names declarations ws = once_text names at_start ws
 -- the warnings of plain words
 abbrev pub plain_warnings : List PlainAt → List ℕ
 plain_warnings ws =
-    name_warnings (names_in ws) (collection wanted.Declared [] here.at_start [] ws) ws
+    name_warnings (names_in ws) (collection wanted.Declared [] at_start [] ws) ws
 
 -- the warnings of words
 abbrev pub warnings_of_words : List WordAt → List ℕ

@@ -2,13 +2,13 @@
 ghost use Rattle.std.specs.Prelude.{◌≡◌, ◌++◌, map, IfOk, OnOk};
 ghost use Rattle.ss_words.specs.Plain.{plain_at};
 ghost use Rattle.ss_names.specs.Known.{known_at};
-ghost use Rattle.ss_names.specs.Meanings.{declared_as};
 ghost use Rattle.ss_names.specs.Subjects as spec;
 
+use crate::caret::push_name_caret;
 use crate::collected::{Wanted, collect};
 use crate::declarations::Declarations;
 use crate::known::{Known, What, given, known_as, push_known};
-use crate::statements::{StatementRule, push_statement_breach};
+use crate::statements::push_place;
 use ss_check::{Reason, Wrong};
 use ss_words::{PlainWord, TextFault, plain_words, words};
 use std::alloc::{AllocError, Global};
@@ -56,35 +56,6 @@ fn repeated_in(reason: Reason) -> Option<Wanted>
     }
 }
 
-/// The line of the declaration of a name among these, if it has one.
-fn line_in(declarations: &Declarations<'_>, name: &[u8]) -> Option<usize>
-    ensures { result ≡ spec.line_in (declared_as declarations.now name.now) }
-{
-    match declarations.get(name) {
-        Some(row) => Some(row.line),
-        None => None,
-    }
-}
-
-/// The line of the first of these places of a name.
-fn first_line(
-    alloc: Global,
-    words: &[PlainWord<'_>],
-    name: &[u8],
-    wanted: Option<Wanted>,
-) -> Result<Option<usize>, AllocError>
-    ensures { IfOk result
-        (λ line. line ≡ spec.first_line (map plain_at words.now) name.now wanted) }
-{
-    match wanted {
-        Some(wanted) => {
-            let places = collect(alloc, wanted, words)?;
-            Ok(line_in(&places, name))
-        }
-        None => Ok(None),
-    }
-}
-
 /// The kind that the language, a set or a class gives a name, or else its declared kind.
 fn first_known<'a>(names: &Declarations<'a>, name: &[u8]) -> Known<'a>
     ensures { known_at result ≡ spec.first_known names.now name.now }
@@ -96,13 +67,24 @@ fn first_known<'a>(names: &Declarations<'a>, name: &[u8]) -> Known<'a>
     }
 }
 
-/// The knowledge of a name, with this line, if there is one.
-fn told_place<'a>(known: Known<'a>, line: Option<usize>) -> Known<'a>
-    ensures { known_at result ≡ spec.told_place (known_at known.entry) line }
+/// The knowledge of a name, with the line of the first of these places of it, if it has one.
+fn told_at<'a>(
+    alloc: Global,
+    words: &[PlainWord<'_>],
+    known: Known<'a>,
+    name: &[u8],
+    wanted: Wanted,
+) -> Result<Known<'a>, AllocError>
+    ensures { IfOk result (λ told. known_at told
+        ≡ spec.told_at (map plain_at words.now) (known_at known.entry) name.now wanted) }
 {
-    match line {
-        Some(line) => Known { line, ..known },
-        None => known,
+    let places = collect(alloc, wanted, words)?;
+    match places.get(name) {
+        Some(row) => Ok(Known {
+            line: row.line,
+            ..known
+        }),
+        None => Ok(known),
     }
 }
 
@@ -117,12 +99,13 @@ fn told_by<'a>(
     ensures { IfOk result (λ known. known_at known
         ≡ spec.told_by (map plain_at words.now) names.now name.now reason) }
 {
-    match reason {
-        Reason::DeclaredTwice => Ok(first_known(names, name)),
-        _ => {
-            let line = first_line(alloc, words, name, repeated_in(reason))?;
-            Ok(told_place(known_as(names, name), line))
-        }
+    if matches!(reason, Reason::DeclaredTwice) {
+        return Ok(first_known(names, name));
+    }
+    let known = known_as(names, name);
+    match repeated_in(reason) {
+        Some(wanted) => told_at(alloc, words, known, name, wanted),
+        None => Ok(known),
     }
 }
 
@@ -145,37 +128,6 @@ fn push_named(
     text.extend_from_slice(reason_text(reason))
 }
 
-/// The question that a reason asks about statements, if it is about no name.
-fn asked_by(reason: Reason) -> Option<StatementRule>
-    ensures { result ≡ spec.asked_by reason }
-{
-    match reason {
-        Reason::WrongPicture => Some(StatementRule::WrongPicture),
-        Reason::NoMain | Reason::SecondMain => Some(StatementRule::WrongMain),
-        Reason::SecondPriority => Some(StatementRule::SecondPriority),
-        Reason::StartOutsideMain => Some(StatementRule::WrongStart),
-        Reason::WithoutFind => Some(StatementRule::WithoutFind),
-        _ => None,
-    }
-}
-
-/// Appends the text about the statement on a line.
-fn push_place(
-    alloc: Global,
-    words: &[PlainWord<'_>],
-    rule: Option<StatementRule>,
-    line: usize,
-    text: &mut Vec<u8>,
-) -> Result<(), AllocError>
-    ensures { OnOk result (text.new.items ≡ text.old.items
-        ++ spec.place_text (map plain_at words.now) line rule) }
-{
-    match rule {
-        Some(rule) => push_statement_breach(alloc, text, rule, line, words),
-        None => Ok(()),
-    }
-}
-
 /// Appends the text about what is wrong on a line.
 fn push_reason(
     alloc: Global,
@@ -189,14 +141,15 @@ fn push_reason(
 {
     match &wrong.name {
         Some(name) => push_named(alloc, words, name.bytes(), wrong.reason, text),
-        None => push_place(alloc, words, asked_by(wrong.reason), line, text),
+        None => push_place(alloc, words, wrong.reason, line, text),
     }
 }
 
 /// Appends the text about what is wrong with the statement on a line of a model that a rule of the
-/// checker refuses (docs/SENTENCES.md). For a name it gives its kind, the place of its declaration,
-/// and the reason. For a statement it gives its surroundings. It appends nothing if a rule L
-/// refuses the model. The only error is that memory was refused.
+/// checker refuses (docs/SENTENCES.md), to follow that line. For a name it gives a caret below it,
+/// its kind, the place of its declaration, and the reason. For a statement it gives its
+/// surroundings. It appends nothing if a rule L refuses the model. The only error is that memory
+/// was refused.
 #[tactic(auto, unfolding(crate::specs::Subjects::breach_text))]
 pub fn push_breach(
     alloc: Global,
@@ -211,6 +164,7 @@ pub fn push_breach(
     match words(alloc, model) {
         Ok(words) => {
             let plain = plain_words(alloc, &words)?;
+            push_name_caret(text, model, &words, line, wrong)?;
             push_reason(alloc, &plain, line, wrong, text)
         }
         Err(TextFault::Memory) => Err(AllocError),

@@ -1,5 +1,5 @@
 //! The declarations of a text, and the facts in its items about sets and events.
-ghost use Rattle.std.specs.Prelude.{◌≡◌, [], IfOk, OnOk, map};
+ghost use Rattle.std.specs.Prelude.{◌≡◌, [], IfOk, map};
 ghost use Rattle.ss_words.specs.Plain.{plain_at};
 ghost use Rattle.ss_names.specs.Collected as spec;
 ghost use Rattle.ss_names.specs.Here.{at_start};
@@ -7,7 +7,7 @@ ghost use Rattle.ss_names.specs.Here.{at_start};
 use crate::declarations::Declarations;
 use crate::here::Here;
 use crate::meaning::{Meaning, Row};
-use ss_words::{Mark, Plain, PlainWord, Reserved};
+use ss_words::{Plain, PlainWord, Reserved};
 use std::alloc::{AllocError, Global};
 
 /// Which names are collected.
@@ -31,83 +31,41 @@ pub enum Wanted {
     Externals,
 }
 
+/// Whether a name here is collected, if it has a meaning.
+fn is_wanted(wanted: Wanted, here: Here) -> bool
+    ensures { result ≡ spec.is_wanted wanted here }
+{
+    match wanted {
+        Wanted::Declared => true,
+        Wanted::Owned => matches!(here.last, Some(Reserved::Owns)),
+        Wanted::Joined => matches!(here.last, Some(Reserved::To)),
+        Wanted::Keys => is_rank(here.last) && is_define(here.begun),
+        Wanted::Ordered => matches!(here.begun, Some(Reserved::Priority)),
+        Wanted::Disciplines => is_define(here.last) && matches!(here.names, Some(Meaning::Set)),
+        Wanted::Ties => matches!(here.last, Some(Reserved::Break)),
+        Wanted::Externals => matches!(here.begun, Some(Reserved::External)),
+    }
+}
+
+/// The meaning of a name that is collected here.
+fn meaning_as(wanted: Wanted, here: Here) -> Option<Meaning>
+    ensures { result ≡ spec.meaning_as wanted here.names }
+{
+    match wanted {
+        Wanted::Keys => Some(Meaning::Attribute),
+        Wanted::Ordered | Wanted::Ties | Wanted::Externals => Some(Meaning::Event),
+        _ => here.names,
+    }
+}
+
 /// The meaning as which a name is collected here, if it is.
 fn collected_as(wanted: Wanted, here: Here) -> Option<Meaning>
     ensures { result ≡ spec.collected_as wanted here }
 {
-    match wanted {
-        Wanted::Declared => here.names,
-        Wanted::Owned => behind_owns(here),
-        Wanted::Joined => behind_belongs(here),
-        Wanted::Keys => behind_rank(here),
-        Wanted::Ordered => behind_priority(here),
-        Wanted::Disciplines => behind_define(here),
-        Wanted::Ties => behind_break(here),
-        Wanted::Externals => behind_external(here),
-    }
-}
-
-fn behind_owns(here: Here) -> Option<Meaning>
-    ensures { result ≡ spec.behind_owns here }
-{
-    match here.last {
-        Some(Reserved::Owns) => here.names,
-        _ => None,
-    }
-}
-
-fn behind_belongs(here: Here) -> Option<Meaning>
-    ensures { result ≡ spec.behind_belongs here }
-{
-    match here.last {
-        Some(Reserved::To) => here.names,
-        _ => None,
-    }
-}
-
-fn behind_rank(here: Here) -> Option<Meaning>
-    ensures { result ≡ spec.behind_rank here }
-{
-    if is_rank(here.last) && is_define(here.begun) {
-        return Some(Meaning::Attribute);
+    if is_wanted(wanted, here) {
+        return meaning_as(wanted, here);
     }
     None
-}
-
-fn behind_priority(here: Here) -> Option<Meaning>
-    ensures { result ≡ spec.behind_priority here }
-{
-    match here.begun {
-        Some(Reserved::Priority) => Some(Meaning::Event),
-        _ => None,
-    }
-}
-
-fn behind_define(here: Here) -> Option<Meaning>
-    ensures { result ≡ spec.behind_define here }
-{
-    match here.names {
-        Some(Meaning::Set) if is_define(here.last) => Some(Meaning::Set),
-        _ => None,
-    }
-}
-
-fn behind_break(here: Here) -> Option<Meaning>
-    ensures { result ≡ spec.behind_break here }
-{
-    match here.last {
-        Some(Reserved::Break) => Some(Meaning::Event),
-        _ => None,
-    }
-}
-
-fn behind_external(here: Here) -> Option<Meaning>
-    ensures { result ≡ spec.behind_external here }
-{
-    match here.begun {
-        Some(Reserved::External) => Some(Meaning::Event),
-        _ => None,
-    }
 }
 
 fn is_rank(last: Option<Reserved>) -> bool
@@ -130,6 +88,13 @@ pub fn here_at(here: Here, word: &PlainWord<'_>) -> Here
         Plain::Name(_) => here.at_name(word.line()),
         _ => here,
     }
+}
+
+/// The place after a word.
+pub fn here_behind(here: Here, word: &PlainWord<'_>, behind: &[PlainWord<'_>]) -> Here
+    ensures { result ≡ spec.here_behind here (plain_at word.now) (map plain_at behind.now) }
+{
+    here_at(here, word).behind(word.kind(), word.line(), behind)
 }
 
 /// The class of EVERY, or the last set of DEFINE, after a word: the word itself, if it is that.
@@ -162,63 +127,8 @@ fn class_of<'a>(here: Here, class: &'a [u8]) -> &'a [u8]
     b""
 }
 
-/// The place of a word, and the class or set of its clause.
-#[derive(Clone, Copy)]
-struct InClause<'a> {
-    /// The place of the word.
-    here: Here,
-    /// The class of the last EVERY, or the last set of DEFINE, before it; empty if there is none.
-    class: &'a [u8],
-}
-
-/// Puts a word to the collected declarations, if it is wanted.
-fn collect_word<'a>(
-    found: &mut Declarations<'a>,
-    wanted: Wanted,
-    at: InClause<'a>,
-    word: &PlainWord<'a>,
-) -> Result<(), AllocError>
-    ensures { OnOk result (found.new
-        ≡ spec.with_word found.old wanted at.entry.here at.entry.class.now (plain_at word.now)) }
-{
-    let Plain::Name(name) = word.kind() else {
-        return Ok(());
-    };
-    match collected_as(wanted, at.here) {
-        Some(meaning) => found.add(Row {
-            name: name.bytes(),
-            meaning,
-            of: class_of(at.here, at.class),
-            line: word.line(),
-        }),
-        None => Ok(()),
-    }
-}
-
-/// Adds the first place of each wanted name among the plain words of a text, if the name has none.
-#[tactic(auto, unfolding(crate::specs::Collected::collection))]
-pub fn collect_into<'a>(
-    wanted: Wanted,
-    words: &[PlainWord<'a>],
-    found: &mut Declarations<'a>,
-) -> Result<(), AllocError>
-    ensures { OnOk result (found.new
-        ≡ spec.collection wanted found.old at_start [] (map plain_at words.now)) }
-{
-    let mut here = Here::at_start();
-    let mut class: &'a [u8] = b"";
-    let mut rest = words;
-    while let [word, behind @ ..] = rest {
-        let at = here_at(here, word);
-        collect_word(found, wanted, InClause { here: at, class }, word)?;
-        class = class_at(at, class, word);
-        here = at.behind(word.kind(), word.line(), behind);
-        rest = behind;
-    }
-    Ok(())
-}
-
 /// The first place of each name that is wanted among the plain words of a text.
+#[tactic(auto, unfolding(crate::specs::Collected::collection))]
 pub fn collect<'a>(
     alloc: Global,
     wanted: Wanted,
@@ -228,6 +138,24 @@ pub fn collect<'a>(
         (λ found. found ≡ spec.collection wanted [] at_start [] (map plain_at words.now)) }
 {
     let mut found = Declarations::new(alloc);
-    collect_into(wanted, words, &mut found)?;
+    let mut here = Here::at_start();
+    let mut class: &'a [u8] = b"";
+    let mut rest = words;
+    while let [word, behind @ ..] = rest {
+        let at = here_at(here, word);
+        if let Plain::Name(name) = word.kind() {
+            if let Some(meaning) = collected_as(wanted, at) {
+                found.add(Row {
+                    name: name.bytes(),
+                    meaning,
+                    of: class_of(at, class),
+                    line: word.line(),
+                })?;
+            }
+        }
+        class = class_at(at, class, word);
+        here = at.behind(word.kind(), word.line(), behind);
+        rest = behind;
+    }
     Ok(found)
 }

@@ -55,28 +55,8 @@ fn is_suspect(before: Option<&WordKind>, kind: &WordKind, behind: Option<&WordKi
         || (is_kind_among(kind, &FILLERS) && is_sign(behind))
 }
 
-/// Appends the warning about a word between two others.
-fn push_dropped_word(
-    text: &mut Vec<u8>,
-    before: Option<&WordKind>,
-    word: &Word,
-    behind: Option<&WordKind>,
-) -> Result<(), AllocError>
-    ensures { OnOk result (text.new.items ≡ text.old.items
-        ++ spec.dropped_word
-        (spec.kind_seen before.entry) (word_at word.now) (spec.kind_seen behind.entry)) }
-{
-    if !is_suspect(before, &word.kind, behind) {
-        return Ok(());
-    }
-    match &word.kind {
-        WordKind::Name(name) => push_warning(text, word.line, name.bytes(), DROPPED_HERE),
-        _ => push_warning(text, word.line, b"", DROPPED_HERE),
-    }
-}
-
 /// The kind of the first of some words, if there is one.
-fn first_kind(words: &[Word]) -> Option<&WordKind>
+pub fn first_kind(words: &[Word]) -> Option<&WordKind>
     ensures { spec.kind_seen result ≡ spec.first_kind (map word_at words.now) }
 {
     match words {
@@ -94,7 +74,11 @@ pub fn push_dropped(text: &mut Vec<u8>, words: &[Word]) -> Result<(), AllocError
     let mut before = None;
     let mut rest = words;
     while let [word, behind @ ..] = rest {
-        push_dropped_word(text, before, word, first_kind(behind))?;
+        if let WordKind::Name(name) = &word.kind {
+            if is_suspect(before, &word.kind, first_kind(behind)) {
+                push_warning(text, word.line, name.bytes(), DROPPED_HERE)?;
+            }
+        }
         before = Some(&word.kind);
         rest = behind;
     }

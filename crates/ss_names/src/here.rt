@@ -58,7 +58,7 @@ impl Here {
             },
             Plain::Mark(Mark::Sign(sign)) => self.behind_sign(sign),
             Plain::Mark(Mark::Reserved(word)) => {
-                let sets = is_define(word) && defines_sets(rest);
+                let sets = matches!(word, Reserved::Define) && defines_sets(rest);
                 self.behind_reserved(word, line, sets)
             }
         }
@@ -126,12 +126,6 @@ impl Here {
             depth: if begins { 0 } else { self.depth },
         }
     }
-}
-
-fn is_define(word: Reserved) -> bool
-    ensures { result ≡ spec.is_define word }
-{
-    matches!(word, Reserved::Define)
 }
 
 /// Whether a DEFINE before these words is of sets: SETS is among them before VARIABLES and a
@@ -234,21 +228,15 @@ pub fn depth_behind(depth: u32, sign: Sign) -> u32
     }
 }
 
-/// Whether a word begins an item, a head, a statement or another place.
+/// Whether a word begins an item, a head, a statement or another place: EVENT after SAVING begins
+/// none.
 fn begins(word: Reserved, in_preamble: bool, before: Option<Mark>) -> bool
     ensures { result ≡ spec.begins word in_preamble before }
 {
     if in_preamble {
         return begins_item(word);
     }
-    begins_place(word) && !is_saving(before)
-}
-
-/// Whether it is SAVING, after which EVENT begins nothing.
-fn is_saving(before: Option<Mark>) -> bool
-    ensures { result ≡ spec.is_saving before }
-{
-    matches!(before, Some(Mark::Reserved(Reserved::Saving)))
+    begins_place(word) && !matches!(before, Some(Mark::Reserved(Reserved::Saving)))
 }
 
 fn begins_item(word: Reserved) -> bool
@@ -363,42 +351,15 @@ fn declared_behind(
 ) -> Option<Meaning>
     ensures { result ≡ spec.declared_behind word in_preamble begun class sets }
 {
-    if !in_preamble {
-        return declared_by_head(word);
-    }
     match word {
+        Reserved::Routine if !in_preamble => Some(Meaning::Routine),
+        _ if !in_preamble => None,
         Reserved::Include | Reserved::Every => Some(class),
-        Reserved::Has => Some(declared_by_has(begun)),
+        Reserved::Has if matches!(begun, Some(Reserved::System)) => Some(Meaning::Variable),
+        Reserved::Has => Some(Meaning::Attribute),
         Reserved::Owns | Reserved::To => Some(Meaning::Set),
-        Reserved::Define => Some(declared_by_define(sets)),
+        Reserved::Define if sets => Some(Meaning::Set),
+        Reserved::Define => Some(Meaning::Variable),
         _ => None,
-    }
-}
-
-fn declared_by_head(word: Reserved) -> Option<Meaning>
-    ensures { result ≡ spec.declared_by_head word }
-{
-    match word {
-        Reserved::Routine => Some(Meaning::Routine),
-        _ => None,
-    }
-}
-
-fn declared_by_has(begun: Option<Reserved>) -> Meaning
-    ensures { result ≡ spec.declared_by_has begun }
-{
-    match begun {
-        Some(Reserved::System) => Meaning::Variable,
-        _ => Meaning::Attribute,
-    }
-}
-
-fn declared_by_define(sets: bool) -> Meaning
-    ensures { result ≡ spec.declared_by_define sets }
-{
-    if sets {
-        Meaning::Set
-    } else {
-        Meaning::Variable
     }
 }

@@ -2,14 +2,12 @@
 ghost use Rattle.std.specs.Prelude.{◌≡◌, ◌++◌, [], IfOk, OnOk, map};
 ghost use Rattle.ss_words.specs.Plain.{plain_at};
 ghost use Rattle.ss_names.specs.Index as spec;
-ghost use Rattle.ss_names.specs.Names.{names_in as names_of};
 
 use crate::collected::{Wanted, collect};
 use crate::known::{known_as, push_known};
 use crate::names::names_in;
-use crate::roles::{Role, names_with, push_lines_with};
+use crate::roles::{Role, lines_with, push_lines};
 use crate::spoken::Spoken;
-use crate::unread::is_only;
 use itoa::Buffer;
 use ss_program::NameCounts;
 use ss_words::{Plain, PlainWord, TextFault, Words, plain_words, words};
@@ -34,72 +32,19 @@ fn push_names_of_words(alloc: Global, words: &Words, text: &mut Vec<u8>) -> Resu
 {
     let plain = plain_words(alloc, words)?;
     let all = names_in(alloc, &plain)?;
-    push_rows(alloc, &all, &all, &plain, text)
+    push_rows(alloc, &all, &plain, text)
 }
 
-/// Appends the names on a line of a model (docs/SENTENCES.md), each once: how often each occurs in
-/// the model, and the line on which it occurs first. It appends nothing if a rule L refuses the
-/// model. The only error is that memory was refused.
-pub fn push_line_names(
-    alloc: Global,
-    model: &[u8],
-    line: usize,
-    text: &mut Vec<u8>,
-) -> Result<(), AllocError>
-    ensures { OnOk result (text.new.items ≡ text.old.items ++ spec.line_text model.now line) }
-{
-    match words(alloc, model) {
-        Ok(words) => push_line_of_words(alloc, &words, line, text),
-        Err(TextFault::Memory) => Err(AllocError),
-        Err(TextFault::Refused { .. }) => Ok(()),
-    }
-}
-
-fn push_line_of_words(
-    alloc: Global,
-    words: &Words,
-    line: usize,
-    text: &mut Vec<u8>,
-) -> Result<(), AllocError>
-    ensures { OnOk result (text.new.items
-        ≡ text.old.items ++ spec.names_on_line line words.now) }
-{
-    let plain = plain_words(alloc, words)?;
-    let all = names_in(alloc, &plain)?;
-    let shown = names_on(alloc, line, &plain)?;
-    push_rows(alloc, &all, &shown, &plain, text)
-}
-
-/// How often each name occurs on a line.
-#[tactic(auto, unfolding(crate::specs::Index::words_on, crate::specs::Names::names_in))]
-fn names_on(alloc: Global, line: usize, words: &[PlainWord<'_>]) -> Result<NameCounts, AllocError>
-    ensures { IfOk result (λ names. names
-        ≡ names_of (spec.words_on line (map plain_at words.now))) }
-{
-    let mut names = NameCounts::new(alloc);
-    let mut rest = words;
-    while let [word, behind @ ..] = rest {
-        if word.line() == line {
-            if let Plain::Name(name) = word.kind() {
-                names.add(name.bytes())?;
-            }
-        }
-        rest = behind;
-    }
-    Ok(names)
-}
-
-/// Appends a row for each name among these words that is to be shown, at its first place.
+/// Appends a row for each name among these words, at its first place.
 #[tactic(auto, unfolding(crate::specs::Index::name_rows))]
 fn push_rows(
     alloc: Global,
     all: &NameCounts,
-    shown: &NameCounts,
     words: &[PlainWord<'_>],
     text: &mut Vec<u8>,
 ) -> Result<(), AllocError>
     ensures { OnOk result (text.new.items
-        ≡ text.old.items ++ spec.name_rows all.now shown.now [] (map plain_at words.now)) }
+        ≡ text.old.items ++ spec.name_rows all.now [] (map plain_at words.now)) }
 {
     let mut before = NameCounts::new(alloc);
     let mut rest = words;
@@ -109,7 +54,7 @@ fn push_rows(
                 name: name.bytes(),
                 line: word.line(),
             };
-            push_row(text, all, shown, &before, spoken)?;
+            push_row(text, all, &before, spoken)?;
             before.add(name.bytes())?;
         }
         rest = behind;
@@ -117,26 +62,25 @@ fn push_rows(
     Ok(())
 }
 
-/// Whether a name, one of those to be shown, occurs here first.
-#[tactic(auto, unfolding(crate::specs::Index::is_shown))]
-fn is_shown(shown: &NameCounts, before: &NameCounts, name: &[u8]) -> bool
-    ensures { result ≡ spec.is_shown shown.now before.now name.now }
+/// Whether a name occurs here first, after others.
+#[tactic(auto, unfolding(crate::specs::Index::is_first))]
+fn is_first(before: &NameCounts, name: &[u8]) -> bool
+    ensures { result ≡ spec.is_first before.now name.now }
 {
-    before.count(name) == 0 && shown.count(name) > 0
+    before.count(name) == 0
 }
 
-/// Appends the row of a name, if it occurs here first and is to be shown.
+/// Appends the row of a name, if it occurs here first.
 fn push_row(
     text: &mut Vec<u8>,
     all: &NameCounts,
-    shown: &NameCounts,
     before: &NameCounts,
     spoken: Spoken<'_>,
 ) -> Result<(), AllocError>
     ensures { OnOk result (text.new.items ≡ text.old.items
-        ++ spec.name_row all.now shown.now before.now spoken.entry.name.now spoken.entry.line) }
+        ++ spec.name_row all.now before.now spoken.entry.name.now spoken.entry.line) }
 {
-    if !is_shown(shown, before, spoken.name) {
+    if !is_first(before, spoken.name) {
         return Ok(());
     }
     let mut buffer = Buffer::new();
@@ -218,8 +162,9 @@ fn push_front(
     ensures { OnOk result (text.new.items
         ≡ text.old.items ++ spec.name_front (map plain_at words.now) name.now count) }
 {
+    let declarations = collect(*text.allocator(), Wanted::Declared, words)?;
     push_head(text, name, count)?;
-    push_what(words, name, text)
+    push_known(text, known_as(&declarations, name))
 }
 
 /// Appends a name, and how often it occurs.
@@ -229,17 +174,8 @@ fn push_head(text: &mut Vec<u8>, name: &[u8], count: usize) -> Result<(), AllocE
     let mut buffer = Buffer::new();
     text.extend_from_slice(name)?;
     text.extend_from_slice(b": ")?;
-    text.extend_from_slice(buffer.format(count).as_bytes())
-}
-
-/// Appends the kind of a name.
-fn push_what(words: &[PlainWord<'_>], name: &[u8], text: &mut Vec<u8>) -> Result<(), AllocError>
-    ensures { OnOk result (text.new.items
-        ≡ text.old.items ++ spec.what_told (map plain_at words.now) name.now) }
-{
-    let declarations = collect(*text.allocator(), Wanted::Declared, words)?;
-    text.extend_from_slice(b", ")?;
-    push_known(text, known_as(&declarations, name))
+    text.extend_from_slice(buffer.format(count).as_bytes())?;
+    text.extend_from_slice(b", ")
 }
 
 /// Appends the lines on which a name has each role.
@@ -292,7 +228,30 @@ fn push_only_remark(
     push_remark(text, is_so, said)
 }
 
-/// Whether words use a name in one way only, but that they declare it.
+/// Whether a name has a role somewhere.
+fn has_role(
+    alloc: Global,
+    words: &[PlainWord<'_>],
+    name: &[u8],
+    role: Role,
+) -> Result<bool, AllocError>
+    ensures { IfOk result (λ has. has ≡ spec.has_role (map plain_at words.now) name.now role) }
+{
+    let lines = lines_with(alloc, role, name, words)?;
+    Ok(!lines.is_empty())
+}
+
+/// The other of setting and reading.
+fn opposite(role: Role) -> Role
+    ensures { result ≡ spec.opposite role }
+{
+    match role {
+        Role::Set => Role::Read,
+        _ => Role::Set,
+    }
+}
+
+/// Whether words set or read a name only, but that they declare it.
 #[tactic(auto, unfolding(crate::specs::Index::only_with))]
 fn only_with(
     alloc: Global,
@@ -302,10 +261,10 @@ fn only_with(
 ) -> Result<bool, AllocError>
     ensures { IfOk result (λ only. only ≡ spec.only_with (map plain_at words.now) name.now role) }
 {
-    let all = names_in(alloc, words)?;
-    let declared = names_with(alloc, Role::Declared, words)?;
-    let used = names_with(alloc, role, words)?;
-    Ok(is_only(&all, &declared, &used, name))
+    let is_used = has_role(alloc, words, name, role)?;
+    let is_other = has_role(alloc, words, name, opposite(role))?;
+    let is_named = has_role(alloc, words, name, Role::Named)?;
+    Ok(is_used && !is_other && !is_named)
 }
 
 /// Appends a remark, if it is so.
@@ -331,11 +290,10 @@ fn push_role_part(
     ensures { OnOk result (text.new.items ≡ text.old.items
         ++ spec.role_part (map plain_at words.now) name.now role said.now) }
 {
-    let mut lines = Vec::new(*text.allocator());
-    push_lines_with(&mut lines, role, name, words)?;
+    let lines = lines_with(*text.allocator(), role, name, words)?;
     if lines.is_empty() {
         return Ok(());
     }
     text.extend_from_slice(said)?;
-    text.extend_from_slice(&lines)
+    push_lines(text, &lines)
 }

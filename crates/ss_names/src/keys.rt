@@ -1,11 +1,13 @@
 //! Names as they are counted: a local variable of one section is another than that of a second one.
 ghost use Rattle.std.specs.Prelude.{◌≡◌, IfOk, map};
 ghost use Rattle.ss_words.specs.Plain.{plain_at};
+ghost use Rattle.ss_names.specs.Here.{at_start};
 ghost use Rattle.ss_names.specs.Keys as spec;
-ghost use Rattle.ss_names.specs.Roles.{at_start};
 
+use crate::collected::here_behind;
 use crate::declarations::Declarations;
-use crate::roles::{Role, Standing, same_role};
+use crate::here::Here;
+use crate::roles::{Role, role_at, same_role};
 use itoa::Buffer;
 use ss_program::NameCounts;
 use ss_words::{Mark, Plain, PlainWord, Reserved};
@@ -41,42 +43,48 @@ pub fn key(
     Ok(key)
 }
 
-/// Whether a name is counted: all are, or those with this role.
-fn is_counted(role: Option<Role>, standing: Standing) -> bool
-    ensures { result ≡ spec.is_counted role standing }
+/// Which uses of names are counted.
+#[derive(Clone, Copy)]
+pub enum Counted {
+    /// Those in one way.
+    As(Role),
+    /// Those in any other way, but that a name is declared.
+    Besides(Role),
+}
+
+fn is_counted(counted: Counted, role: Role) -> bool
+    ensures { result ≡ spec.is_counted counted role }
 {
-    match role {
-        Some(role) => same_role(standing.role(), role),
-        None => true,
+    match counted {
+        Counted::As(wanted) => same_role(role, wanted),
+        Counted::Besides(other) => !same_role(role, Role::Declared) && !same_role(role, other),
     }
 }
 
-/// The key of each name with this role, or of each name.
+/// The key of each name whose use is counted.
 #[tactic(auto, unfolding(crate::specs::Keys::keys_with))]
 pub fn keys_with(
     alloc: Global,
     declarations: &Declarations<'_>,
-    role: Option<Role>,
+    counted: Counted,
     words: &[PlainWord<'_>],
 ) -> Result<NameCounts, AllocError>
     ensures { IfOk result (λ names. names
-        ≡ spec.keys_with declarations.now role 0 at_start
-        (map plain_at words.now)) }
+        ≡ spec.keys_with declarations.now counted 0 at_start (map plain_at words.now)) }
 {
     let mut names = NameCounts::new(alloc);
-    let mut standing = Standing::at_start();
+    let mut here = Here::at_start();
     let mut section: u32 = 0;
     let mut rest = words;
     while let [word, behind @ ..] = rest {
-        let kind = word.kind();
-        if let Plain::Name(name) = kind {
-            if is_counted(role, standing) {
+        if let Plain::Name(name) = word.kind() {
+            if is_counted(counted, role_at(here)) {
                 let key = key(alloc, declarations, section, name.bytes())?;
                 names.add(&key)?;
             }
         }
         section = section_behind(section, word);
-        standing = standing.behind(kind.mark());
+        here = here_behind(here, word, behind);
         rest = behind;
     }
     Ok(names)

@@ -2,27 +2,15 @@
 ghost use Rattle.std.specs.Prelude.{◌≡◌, ◌++◌, map, OnOk};
 ghost use Rattle.ss_names.specs.Known as spec;
 ghost use Rattle.ss_names.specs.Known.{known_at};
-ghost use Rattle.ss_names.specs.Meanings.{declaration_at};
 
 use crate::declarations::Declarations;
-use crate::meaning::{Meaning, Row};
+use crate::language::{CLOCK, COMPANIONS, FUNCTIONS};
+use crate::meaning::Meaning;
 use itoa::Buffer;
 use ss_columns::is_among;
 use std::alloc::AllocError;
 
-/// The clock. The definitions read these tables too.
-pub const CLOCK: [&[u8]; 1] = [b"TIME.V"];
-
-/// The functions of the language.
-pub const FUNCTIONS: [&[u8]; 5] = [b"ABS.F", b"MAX.F", b"MIN.F", b"DIV.F", b"MOD.F"];
-
-/// The beginnings of the names that a set keeps of its owners.
-pub const OF_OWNERS: [&[u8]; 3] = [b"F.", b"L.", b"N."];
-
-/// The beginnings of the names that a set keeps of its members.
-pub const OF_MEMBERS: [&[u8]; 3] = [b"P.", b"S.", b"M."];
-
-/// The beginning of the name of the count of a permanent class.
+/// The beginning of the name of the count of a permanent class. The definitions read it too.
 pub const OF_CLASS: [&[u8]; 1] = [b"N."];
 
 /// The kind of a name.
@@ -31,10 +19,8 @@ pub enum What {
     /// No declaration gives it: in a section, a local variable.
     Undeclared,
     Declared(Meaning),
-    /// Kept of the owners of a set.
-    OfOwners,
-    /// Kept of the members of a set.
-    OfMembers,
+    /// Kept of the owners or members of a set.
+    OfSet,
     /// The count of a permanent class, `N.class`.
     Count,
     Clock,
@@ -49,70 +35,42 @@ pub struct Known<'a> {
     pub line: usize,
 }
 
-/// The kind of a name that begins like the names that are kept of a set or class.
-fn companion<'a>(declarations: &Declarations<'a>, name: &[u8]) -> Known<'a>
-    ensures { known_at result ≡ spec.companion declarations.now name.now }
-{
-    if name.len() < 3 {
-        return undeclared();
-    }
-    let (front, base) = (&name[..2], &name[2..]);
-    match declarations.get(base) {
-        Some(row) => companion_of(front, row),
-        None => undeclared(),
-    }
-}
-
-fn undeclared<'a>() -> Known<'a>
-    ensures { known_at result ≡ spec.no_knowledge }
+/// A kind without a class, a set or a line.
+fn plainly<'a>(what: What) -> Known<'a>
+    ensures { known_at result ≡ spec.plainly what }
 {
     Known {
-        what: What::Undeclared,
+        what,
         of: b"",
         line: 0,
     }
 }
 
-/// The kind of a name that begins so, before a declared name.
-fn companion_of<'a>(front: &[u8], row: Row<'a>) -> Known<'a>
-    ensures { known_at result ≡ spec.companion_of front.now (declaration_at row.entry) }
+/// The kind of a name that begins like the names that are kept of a set or class.
+fn companion<'a>(declarations: &Declarations<'a>, name: &[u8]) -> Known<'a>
+    ensures { known_at result ≡ spec.companion declarations.now name.now }
 {
-    Known {
-        what: companion_what(front, row.meaning),
-        of: row.name,
-        line: row.line,
+    if name.len() < 3 {
+        return plainly(What::Undeclared);
+    }
+    match declarations.get(&name[2..]) {
+        Some(row) => Known {
+            what: companion_what(&name[..2], row.meaning),
+            of: row.name,
+            line: row.line,
+        },
+        None => plainly(What::Undeclared),
     }
 }
 
+/// The kind of a name that begins so, before a name of this meaning.
 fn companion_what(front: &[u8], meaning: Meaning) -> What
     ensures { result ≡ spec.companion_what front.now meaning }
 {
     match meaning {
-        Meaning::Set => kept_what(front),
-        Meaning::Permanent => count_what(front),
+        Meaning::Set if is_among(front, &COMPANIONS) => What::OfSet,
+        Meaning::Permanent if is_among(front, &OF_CLASS) => What::Count,
         _ => What::Undeclared,
-    }
-}
-
-fn kept_what(front: &[u8]) -> What
-    ensures { result ≡ spec.kept_what front.now }
-{
-    if is_among(front, &OF_OWNERS) {
-        What::OfOwners
-    } else if is_among(front, &OF_MEMBERS) {
-        What::OfMembers
-    } else {
-        What::Undeclared
-    }
-}
-
-fn count_what(front: &[u8]) -> What
-    ensures { result ≡ spec.count_what front.now }
-{
-    if is_among(front, &OF_CLASS) {
-        What::Count
-    } else {
-        What::Undeclared
     }
 }
 
@@ -121,10 +79,10 @@ pub fn given<'a>(declarations: &Declarations<'a>, name: &[u8]) -> Known<'a>
     ensures { known_at result ≡ spec.knowledge_given declarations.now name.now }
 {
     if is_among(name, &CLOCK) {
-        return of_language(What::Clock);
+        return plainly(What::Clock);
     }
     if is_among(name, &FUNCTIONS) {
-        return of_language(What::Function);
+        return plainly(What::Function);
     }
     companion(declarations, name)
 }
@@ -140,16 +98,6 @@ pub fn known_as<'a>(declarations: &Declarations<'a>, name: &[u8]) -> Known<'a>
             line: row.line,
         },
         None => given(declarations, name),
-    }
-}
-
-fn of_language<'a>(what: What) -> Known<'a>
-    ensures { known_at result ≡ spec.of_language what }
-{
-    Known {
-        what,
-        of: b"",
-        line: 0,
     }
 }
 
@@ -176,7 +124,7 @@ fn what_text(what: What) -> &'static [u8]
     match what {
         What::Undeclared => b"declared nowhere",
         What::Declared(meaning) => meaning_text(meaning),
-        What::OfOwners | What::OfMembers => b"kept of the set ",
+        What::OfSet => b"kept of the set ",
         What::Count => b"the count of the class ",
         What::Clock => b"the clock",
         What::Function => b"a function of the language",
@@ -189,7 +137,7 @@ fn tells_of(what: What) -> bool
 {
     matches!(
         what,
-        What::Declared(Meaning::Attribute) | What::OfOwners | What::OfMembers | What::Count
+        What::Declared(Meaning::Attribute) | What::OfSet | What::Count
     )
 }
 

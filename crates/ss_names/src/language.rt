@@ -4,10 +4,11 @@ ghost use Rattle.ss_names.specs.Names as spec;
 
 use ss_columns::is_among;
 
-/// The clock and the functions. The definitions read these tables too.
-pub const LANGUAGE_NAMES: [&[u8]; 6] = [
-    b"TIME.V", b"ABS.F", b"MAX.F", b"MIN.F", b"DIV.F", b"MOD.F",
-];
+/// The clock. The definitions read these tables too.
+pub const CLOCK: [&[u8]; 1] = [b"TIME.V"];
+
+/// The functions of the language.
+pub const FUNCTIONS: [&[u8]; 5] = [b"ABS.F", b"MAX.F", b"MIN.F", b"DIV.F", b"MOD.F"];
 
 /// The beginnings of the names that are kept of a class or a set.
 pub const COMPANIONS: [&[u8]; 6] = [b"N.", b"F.", b"L.", b"P.", b"S.", b"M."];
@@ -27,5 +28,5 @@ fn is_companion(name: &[u8]) -> bool
 pub fn is_of_language(name: &[u8]) -> bool
     ensures { result ≡ spec.is_of_language name.now }
 {
-    is_among(name, &LANGUAGE_NAMES) || is_companion(name)
+    is_among(name, &CLOCK) || is_among(name, &FUNCTIONS) || is_companion(name)
 }

@@ -2,6 +2,7 @@
 #![tactic(auto)]
 
 mod breaches;
+mod caret;
 mod collected;
 mod declarations;
 mod dropped;
@@ -28,7 +29,6 @@ mod values;
 mod warnings;
 
 pub use breaches::push_breach;
-pub use index::{push_line_names, push_name, push_names};
-pub use roles::{Role, Standing};
+pub use index::{push_name, push_names};
 pub use unused::push_program_warnings;
 pub use warnings::push_warnings;

@@ -1,12 +1,14 @@
 //! Names that occur once.
 ghost use Rattle.std.specs.Prelude.{◌≡◌, ◌++◌, OnOk, map};
 ghost use Rattle.ss_words.specs.Plain.{plain_at};
+ghost use Rattle.ss_names.specs.Here.{at_start};
 ghost use Rattle.ss_names.specs.Saying.{name_text, number_text, warning_line};
-ghost use Rattle.ss_names.specs.Roles.{at_start};
 ghost use Rattle.ss_names.specs.Warnings as spec;
 
+use crate::collected::here_behind;
+use crate::here::Here;
 use crate::language::is_of_language;
-use crate::roles::Standing;
+use crate::roles::may_occur_once;
 use itoa::Buffer;
 use ss_program::NameCounts;
 use ss_words::{Plain, PlainWord};
@@ -60,39 +62,31 @@ pub fn push_name_behind(text: &mut Vec<u8>, before: &[u8], name: &[u8]) -> Resul
     text.extend_from_slice(name)
 }
 
-/// Appends the warning about a name, if it occurs once.
-fn push_once_name(
-    text: &mut Vec<u8>,
-    names: &NameCounts,
-    line: usize,
-    name: &[u8],
-) -> Result<(), AllocError>
-    ensures { OnOk result (text.new.items
-        ≡ text.old.items ++ spec.once_name names.now line name.now) }
+/// Whether a name occurs once, where it may not well do so.
+#[tactic(auto, unfolding(crate::specs::Warnings::is_once))]
+fn is_once(names: &NameCounts, here: Here, name: &[u8]) -> bool
+    ensures { result ≡ spec.is_once names.now here name.now }
 {
-    if names.count(name) == 1 && !is_of_language(name) {
-        return push_warning(text, line, name, ONCE);
-    }
-    Ok(())
+    !may_occur_once(here) && names.count(name) == 1 && !is_of_language(name)
 }
 
-/// Appends the warning about a word, unless its name may well occur once.
+/// Appends the warning about a word, if it is such a name.
 fn push_once_word(
     text: &mut Vec<u8>,
     names: &NameCounts,
-    standing: Standing,
+    here: Here,
     word: &PlainWord<'_>,
 ) -> Result<(), AllocError>
     ensures { OnOk result (text.new.items
-        ≡ text.old.items ++ spec.once_word names.now standing (plain_at word.now)) }
+        ≡ text.old.items ++ spec.once_word names.now here (plain_at word.now)) }
 {
     let Plain::Name(name) = word.kind() else {
         return Ok(());
     };
-    if standing.may_stand_once() {
-        return Ok(());
+    if is_once(names, here, name.bytes()) {
+        return push_warning(text, word.line(), name.bytes(), ONCE);
     }
-    push_once_name(text, names, word.line(), name.bytes())
+    Ok(())
 }
 
 /// Appends each name of these words that occurs once, unless it may well do so, with its line.
@@ -105,11 +99,11 @@ pub fn push_once(
     ensures { OnOk result (text.new.items
         ≡ text.old.items ++ spec.once_text names.now at_start (map plain_at words.now)) }
 {
-    let mut standing = Standing::at_start();
+    let mut here = Here::at_start();
     let mut rest = words;
     while let [word, behind @ ..] = rest {
-        push_once_word(text, names, standing, word)?;
-        standing = standing.behind(word.kind().mark());
+        push_once_word(text, names, here, word)?;
+        here = here_behind(here, word, behind);
         rest = behind;
     }
     Ok(())

@@ -1,10 +1,12 @@
 //! How a name is used, as far as the words directly before it show.
 ghost use Rattle.std.specs.Prelude.{◌≡◌, ◌++◌, IfOk, OnOk, map};
 ghost use Rattle.ss_words.specs.Plain.{plain_at};
+ghost use Rattle.ss_names.specs.Here.{at_start};
 ghost use Rattle.ss_names.specs.Roles as spec;
 
+use crate::collected::here_behind;
+use crate::here::Here;
 use itoa::Buffer;
-use ss_program::NameCounts;
 use ss_words::{Mark, Plain, PlainWord, Reserved, Sign};
 use std::alloc::{AllocError, Global};
 
@@ -21,98 +23,52 @@ pub enum Role {
     Named,
 }
 
-/// The words before a word.
-#[derive(Clone, Copy)]
-pub struct Standing {
-    /// The reserved word or sign directly before it, if that is one.
-    pub before: Option<Mark>,
-    /// Whether the last reserved word is DEFINE.
-    pub in_define: bool,
-    /// Whether it is HAS.
-    pub in_has: bool,
-    /// Whether a CALL is after the last head of a section.
-    pub in_call: bool,
-}
-
-impl Standing {
-    /// At the start of a text.
-    pub fn at_start() -> Self
-        ensures { result ≡ spec.at_start }
-    {
-        Standing {
-            before: None,
-            in_define: false,
-            in_has: false,
-            in_call: false,
-        }
-    }
-
-    /// After a further word: this reserved word or sign, if it is one.
-    pub fn behind(self, mark: Option<Mark>) -> Self
-        ensures { result ≡ spec.behind self mark }
-    {
-        match mark {
-            Some(Mark::Reserved(word)) => Standing {
-                before: mark,
-                in_define: matches!(word, Reserved::Define),
-                in_has: matches!(word, Reserved::Has),
-                in_call: calls(word, self.in_call),
-            },
-            Some(Mark::Sign(_)) | None => Standing {
-                before: mark,
-                in_define: self.in_define,
-                in_has: self.in_has,
-                in_call: self.in_call,
-            },
-        }
-    }
-
-    /// The role of a name here.
-    pub fn role(self) -> Role
-        ensures { result ≡ spec.role_at self }
-    {
-        if self.in_define || self.in_has {
-            return Role::Declared;
-        }
-        match self.before {
-            None => Role::Named,
-            Some(Mark::Sign(sign)) => read_or_named(sign_reads(sign)),
-            Some(Mark::Reserved(word)) => {
-                if sets_name(word, self.in_call) {
-                    return Role::Set;
-                }
-                read_or_named(reads_name(word))
-            }
-        }
-    }
-}
-
-impl Standing {
-    /// Whether a name may well occur once here: as an attribute, which may only carry a value given
-    /// in its place, or as the variable of a loop that only counts.
-    pub fn may_stand_once(self) -> bool
-        ensures { result ≡ spec.may_stand_once self }
-    {
-        self.in_has || matches!(self.before, Some(Mark::Reserved(Reserved::For)))
-    }
-}
-
-fn calls(word: Reserved, in_call: bool) -> bool
-    ensures { result ≡ spec.calls word in_call }
+/// The role of a name at a place.
+pub fn role_at(here: Here) -> Role
+    ensures { result ≡ spec.role_at here }
 {
-    match word {
-        Reserved::Call => true,
-        Reserved::Routine | Reserved::Event => false,
-        _ => in_call,
+    if matches!(here.last, Some(Reserved::Define | Reserved::Has)) {
+        return Role::Declared;
+    }
+    match here.before {
+        None => Role::Named,
+        Some(Mark::Sign(sign)) => read_or_named(sign_reads(sign)),
+        Some(Mark::Reserved(word)) => {
+            if sets_name(word, here.begun) {
+                return Role::Set;
+            }
+            read_or_named(reads_name(word))
+        }
     }
 }
 
-fn sets_name(word: Reserved, in_call: bool) -> bool
-    ensures { result ≡ spec.sets_name word in_call }
+/// Whether a name may well occur once at a place: as an attribute, which may only carry a value
+/// given in its place, or as the variable of a loop that only counts.
+pub fn may_occur_once(here: Here) -> bool
+    ensures { result ≡ spec.may_occur_once here }
+{
+    is_has(here.last) || is_for(here.before)
+}
+
+fn is_has(last: Option<Reserved>) -> bool
+    ensures { result ≡ spec.is_has last }
+{
+    matches!(last, Some(Reserved::Has))
+}
+
+fn is_for(before: Option<Mark>) -> bool
+    ensures { result ≡ spec.is_for before }
+{
+    matches!(before, Some(Mark::Reserved(Reserved::For)))
+}
+
+/// Whether a reserved word sets the name directly after it, in a statement that `begun` begins.
+fn sets_name(word: Reserved, begun: Option<Reserved>) -> bool
+    ensures { result ≡ spec.sets_name word begun }
 {
     match word {
         Reserved::Let | Reserved::Read | Reserved::Compute => true,
-        Reserved::Yielding => in_call,
+        Reserved::Yielding => matches!(begun, Some(Reserved::Call)),
         _ => false,
     }
 }
@@ -157,53 +113,40 @@ pub fn same_role(one: Role, other: Role) -> bool
     }
 }
 
-/// How often each name occurs with this role among these plain words.
-#[tactic(auto, unfolding(crate::specs::Roles::names_with))]
-pub fn names_with(
-    alloc: Global,
-    role: Role,
-    words: &[PlainWord<'_>],
-) -> Result<NameCounts, AllocError>
-    ensures { IfOk result (λ names. names
-        ≡ spec.names_with role spec.at_start (map plain_at words.now)) }
-{
-    let mut names = NameCounts::new(alloc);
-    let mut standing = Standing::at_start();
-    let mut rest = words;
-    while let [word, behind @ ..] = rest {
-        let kind = word.kind();
-        if let Plain::Name(name) = kind {
-            if same_role(standing.role(), role) {
-                names.add(name.bytes())?;
-            }
-        }
-        standing = standing.behind(kind.mark());
-        rest = behind;
-    }
-    Ok(names)
-}
-
-/// Appends the lines on which a name has this role, each after a blank.
+/// The lines on which a name has this role.
 #[tactic(auto, unfolding(crate::specs::Roles::lines_with))]
-pub fn push_lines_with(
-    text: &mut Vec<u8>,
+pub fn lines_with(
+    alloc: Global,
     role: Role,
     told: &[u8],
     words: &[PlainWord<'_>],
-) -> Result<(), AllocError>
-    ensures { OnOk result (text.new.items ≡ text.old.items
-        ++ spec.lines_with role told.now spec.at_start (map plain_at words.now)) }
+) -> Result<Vec<usize>, AllocError>
+    ensures { IfOk result (λ lines. lines.items
+        ≡ spec.lines_with role told.now at_start (map plain_at words.now)) }
 {
-    let mut standing = Standing::at_start();
+    let mut lines = Vec::new(alloc);
+    let mut here = Here::at_start();
     let mut rest = words;
     while let [word, behind @ ..] = rest {
-        let kind = word.kind();
-        if let Plain::Name(name) = kind {
-            if same_role(standing.role(), role) && name.bytes() == told {
-                push_line(text, word.line())?;
+        if let Plain::Name(name) = word.kind() {
+            if same_role(role_at(here), role) && name.bytes() == told {
+                lines.push(word.line())?;
             }
         }
-        standing = standing.behind(kind.mark());
+        here = here_behind(here, word, behind);
+        rest = behind;
+    }
+    Ok(lines)
+}
+
+/// Appends the numbers of lines, each after a blank.
+#[tactic(auto, unfolding(crate::specs::Roles::lines_text))]
+pub fn push_lines(text: &mut Vec<u8>, lines: &[usize]) -> Result<(), AllocError>
+    ensures { OnOk result (text.new.items ≡ text.old.items ++ spec.lines_text lines.now) }
+{
+    let mut rest = lines;
+    while let [line, behind @ ..] = rest {
+        push_line(text, *line)?;
         rest = behind;
     }
     Ok(())

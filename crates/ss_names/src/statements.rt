@@ -1,55 +1,21 @@
-//! Which statement a breach of the checker's rules is about, if it is about no name.
-ghost use Rattle.std.specs.Prelude.{◌≡◌, ◌++◌, OnOk, map};
+//! The text about a breach of the checker's rules that is about no name, but about a statement.
+ghost use Rattle.std.specs.Prelude.{◌≡◌, ◌++◌, OnOk, map, option_map};
 ghost use Rattle.ss_words.specs.Plain.{plain_at};
+ghost use Rattle.ss_words.specs.PlainRules.{mark_in};
 ghost use Rattle.ss_names.specs.Here.{at_start};
+ghost use Rattle.ss_names.specs.Landmarks.{no_section, section_at};
+ghost use Rattle.ss_names.specs.Pictures as pictures;
 ghost use Rattle.ss_names.specs.Statements as spec;
 
 use crate::collected::here_at;
 use crate::here::Here;
-use crate::landmarks::{head_behind, is_main, main_behind, priority_behind, section_behind};
+use crate::landmarks::{InSection, section_behind};
 use crate::once::{push_name_behind, push_number};
 use crate::pictures::{fields_in, first_picture, push_picture_text, value_count};
 use crate::position::first_mark;
+use ss_check::Reason;
 use ss_words::{Mark, PlainWord, Reserved};
 use std::alloc::{AllocError, Global};
-
-/// The rules that are about statements, each with its question.
-#[derive(Clone, Copy)]
-pub enum StatementRule {
-    /// C10
-    WrongPicture,
-    /// C11
-    WrongMain,
-    /// C12
-    SecondPriority,
-    /// C13
-    WrongStart,
-    /// C14
-    WithoutFind,
-}
-
-/// Whether a rule asks about the statement that this word begins.
-fn asks_about(rule: StatementRule, word: Reserved) -> bool
-    ensures { result ≡ spec.asks_about rule word }
-{
-    match rule {
-        StatementRule::WrongPicture => matches!(word, Reserved::Print),
-        StatementRule::WrongMain => matches!(word, Reserved::Main),
-        StatementRule::SecondPriority => matches!(word, Reserved::Priority),
-        StatementRule::WrongStart => matches!(word, Reserved::Start),
-        StatementRule::WithoutFind => matches!(word, Reserved::If),
-    }
-}
-
-/// Whether a rule asks about the statement that a word of the text begins.
-fn asks_at(rule: StatementRule, word: &PlainWord<'_>) -> bool
-    ensures { result ≡ spec.asks_at rule (plain_at word.now) }
-{
-    match word.kind().mark() {
-        Some(Mark::Reserved(reserved)) => asks_about(rule, reserved),
-        _ => false,
-    }
-}
 
 /// Whether FOUND or NONE is here.
 fn is_of_find(mark: Option<Mark>) -> bool
@@ -67,157 +33,106 @@ fn is_find(word: Option<Reserved>) -> bool
     matches!(word, Some(Reserved::Find))
 }
 
-/// What is asked about a text: which statement that begins on a line breaks a rule.
-#[derive(Clone, Copy)]
-struct StatementBreach {
-    /// The rule.
-    rule: StatementRule,
-    /// The line.
-    line: usize,
-}
-
-/// The landmarks before a word.
-#[derive(Clone, Copy)]
-struct Track<'a> {
-    /// The line of the first MAIN; 0 if there is none.
-    main: usize,
-    /// The line of the first PRIORITY; 0 if there is none.
-    priority: usize,
-    /// The name of its section; empty in MAIN and before the first named section.
-    section: &'a [u8],
-    /// The line of the head of that section.
-    head: usize,
-}
-
-/// Whether the statement before these words breaks a rule that asks about it.
-fn is_broken(rule: StatementRule, track: Track<'_>, here: Here, behind: &[PlainWord<'_>]) -> bool
-    ensures { result
-        ≡ spec.is_broken rule (spec.landmarks_at track.entry) here (map plain_at behind.now) }
+/// Whether a reason is about the statement that this word begins.
+fn is_about(reason: Reason, word: Reserved) -> bool
+    ensures { result ≡ spec.is_about reason word }
 {
-    match rule {
-        StatementRule::WrongPicture => true,
-        StatementRule::WrongMain => track.main > 0,
-        StatementRule::SecondPriority => track.priority > 0,
-        StatementRule::WrongStart => !track.section.is_empty(),
-        StatementRule::WithoutFind => is_of_find(first_mark(behind)) && !is_find(here.begun),
+    match reason {
+        Reason::WrongPicture => matches!(word, Reserved::Print),
+        Reason::SecondMain => matches!(word, Reserved::Main),
+        Reason::SecondPriority => matches!(word, Reserved::Priority),
+        Reason::StartOutsideMain => matches!(word, Reserved::Start),
+        Reason::WithoutFind => matches!(word, Reserved::If),
+        _ => false,
     }
 }
 
-/// Whether a word begins a statement that is asked about and breaks the rule.
-fn is_broken_at(
-    breach: StatementBreach,
-    track: Track<'_>,
-    here: Here,
-    word: &PlainWord<'_>,
-    behind: &[PlainWord<'_>],
-) -> bool
-    ensures { result
-        ≡ spec.is_broken_at breach.rule breach.line (spec.landmarks_at track.entry) here
-        (plain_at word.now) (map plain_at behind.now) }
+/// Whether a reason is about the statement that a word of the text begins.
+fn is_about_word(reason: Reason, word: &PlainWord<'_>) -> bool
+    ensures { result ≡ spec.is_about_mark reason (mark_in (plain_at word.now).word) }
 {
-    word.line() == breach.line
-        && asks_at(breach.rule, word)
-        && is_broken(breach.rule, track, here, behind)
+    match word.kind().mark() {
+        Some(Mark::Reserved(reserved)) => is_about(reason, reserved),
+        _ => false,
+    }
 }
 
-/// A statement that breaks a rule.
+/// A statement, by what is before and in it.
 #[derive(Clone, Copy)]
 struct Beginning<'a> {
-    /// The lines of the first MAIN and PRIORITY before it; 0 if there is none.
-    main: usize,
-    priority: usize,
-    /// The name of its section, and the line of that head.
-    section: &'a [u8],
-    head: usize,
-    /// The line on which the item, head or statement before it begins.
+    /// Its line.
     line: usize,
+    /// Its section.
+    section: InSection<'a>,
+    /// The place of its first word.
+    here: Here,
     /// How many values it has after WITH.
     values: usize,
     /// The lines of its picture.
     picture: &'a [Vec<u8>],
 }
 
-/// The statement that a word begins, before these words, if it is asked about and breaks the rule.
-fn word_statement<'a>(
-    breach: StatementBreach,
-    track: Track<'a>,
+/// Whether a statement on a line, before these words, is one that breaks the rule; the first MAIN
+/// and PRIORITY are told whatever their lines.
+fn is_told(
+    reason: Reason,
+    is_on_line: bool,
+    section: InSection<'_>,
     here: Here,
-    word: &PlainWord<'a>,
-    behind: &[PlainWord<'a>],
-) -> Option<Beginning<'a>>
-    ensures { option_map spec.spot_at result
-        ≡ spec.word_statement breach.rule breach.line (spec.landmarks_at track.entry) here
-        (plain_at word.now) (map plain_at behind.now) }
+    behind: &[PlainWord<'_>],
+) -> bool
+    ensures { result ≡ spec.is_told reason is_on_line (section_at section.entry) here
+        (map plain_at behind.now) }
 {
-    if !is_broken_at(breach, track, here, word, behind) {
-        return None;
+    match reason {
+        Reason::StartOutsideMain => is_on_line && !section.name.is_empty(),
+        Reason::WithoutFind => {
+            is_on_line && is_of_find(first_mark(behind)) && !is_find(here.begun)
+        }
+        Reason::WrongPicture => is_on_line,
+        _ => true,
     }
-    Some(Beginning {
-        main: track.main,
-        priority: track.priority,
-        section: track.section,
-        head: track.head,
-        line: here.line,
-        values: value_count(behind),
-        picture: first_picture(behind),
-    })
 }
 
-/// The first statement that begins on a line and breaks a rule.
+/// The first statement that a reason on a line is about.
 #[tactic(auto, unfolding(crate::specs::Statements::statement))]
-fn first_statement<'a>(breach: StatementBreach, words: &[PlainWord<'a>]) -> Option<Beginning<'a>>
+fn first_statement<'a>(
+    reason: Reason,
+    line: usize,
+    words: &[PlainWord<'a>],
+) -> Option<Beginning<'a>>
     ensures { option_map spec.spot_at result
-        ≡ spec.statement breach.rule breach.line no_landmarks at_start (map plain_at words.now) }
+        ≡ spec.statement reason line no_section at_start (map plain_at words.now) }
 {
     let mut here = Here::at_start();
-    let mut main: usize = 0;
-    let mut priority: usize = 0;
-    let mut section: &'a [u8] = b"";
-    let mut head: usize = 0;
+    let mut section = InSection { name: b"", head: 0 };
     let mut rest = words;
     while let [word, behind @ ..] = rest {
         let at = here_at(here, word);
-        let track = Track {
-            main,
-            priority,
-            section,
-            head,
-        };
-        if let Some(found) = word_statement(breach, track, at, word, behind) {
-            return Some(found);
+        let is_on_line = word.line() == line;
+        if is_about_word(reason, word) && is_told(reason, is_on_line, section, at, behind) {
+            return Some(Beginning {
+                line: word.line(),
+                section,
+                here: at,
+                values: value_count(behind),
+                picture: first_picture(behind),
+            });
         }
-        main = main_behind(main, word);
-        priority = priority_behind(priority, word);
         section = section_behind(section, at, word);
-        head = head_behind(head, at, word);
         here = at.behind(word.kind(), word.line(), behind);
         rest = behind;
     }
     None
 }
 
-/// Whether MAIN is among words.
-#[tactic(auto, unfolding(crate::specs::Statements::has_main))]
-fn has_main(words: &[PlainWord<'_>]) -> bool
-    ensures { result ≡ spec.has_main (map plain_at words.now) }
-{
-    let mut rest = words;
-    while let [word, behind @ ..] = rest {
-        if is_main(word.kind().mark()) {
-            return true;
-        }
-        rest = behind;
-    }
-    false
-}
-
 /// Appends the section of a statement.
-fn push_section(text: &mut Vec<u8>, section: &[u8], line: usize) -> Result<(), AllocError>
+fn push_section(text: &mut Vec<u8>, section: InSection<'_>) -> Result<(), AllocError>
     ensures { OnOk result (text.new.items
-        ≡ text.old.items ++ spec.section_text section.now line) }
+        ≡ text.old.items ++ spec.section_text (section_at section.entry)) }
 {
-    push_name_behind(text, b"It is in the section ", section)?;
-    push_number(text, b", line ", line, b".\n")
+    push_name_behind(text, b"It is in the section ", section.name)?;
+    push_number(text, b", line ", section.head, b".\n")
 }
 
 /// Appends the text about a PRINT with `values` values.
@@ -234,75 +149,50 @@ fn push_print(
     push_picture_text(text, values, fields)
 }
 
-/// Appends the text about a statement that breaks a rule.
+/// Appends the text about a statement that a reason is about.
 fn push_statement(
     alloc: Global,
     text: &mut Vec<u8>,
-    rule: StatementRule,
+    reason: Reason,
     at: Beginning<'_>,
 ) -> Result<(), AllocError>
     ensures { OnOk result (text.new.items
-        ≡ text.old.items ++ spec.statement_text rule (spec.spot_at at.entry)) }
+        ≡ text.old.items ++ spec.statement_text reason (spec.spot_at at.entry)) }
 {
-    match rule {
-        StatementRule::WrongPicture => push_print(alloc, text, at.values, at.picture),
-        StatementRule::WrongMain => {
-            push_number(text, b"The first MAIN is on line ", at.main, b".\n")
+    match reason {
+        Reason::WrongPicture => push_print(alloc, text, at.values, at.picture),
+        Reason::SecondMain => push_number(text, b"The first MAIN is on line ", at.line, b".\n"),
+        Reason::SecondPriority => {
+            push_number(text, b"The first PRIORITY is on line ", at.line, b".\n")
         }
-        StatementRule::SecondPriority => push_number(
-            text,
-            b"The first PRIORITY is on line ",
-            at.priority,
-            b".\n",
-        ),
-        StatementRule::WrongStart => push_section(text, at.section, at.head),
-        StatementRule::WithoutFind => push_number(
+        Reason::StartOutsideMain => push_section(text, at.section),
+        Reason::WithoutFind => push_number(
             text,
             b"The words that begin on line ",
-            at.line,
+            at.here.line,
             b" come before it, and are no FIND.\n",
         ),
+        _ => Ok(()),
     }
 }
 
-fn is_main_rule(rule: StatementRule) -> bool
-    ensures { result ≡ spec.is_main_rule rule }
-{
-    matches!(rule, StatementRule::WrongMain)
-}
-
-/// Appends the text if there is no such statement: that no section is MAIN.
-fn push_no_statement(
-    text: &mut Vec<u8>,
-    rule: StatementRule,
+/// Appends the text about the first statement that a reason on a line is about, or that no section
+/// is MAIN.
+pub fn push_place(
+    alloc: Global,
     words: &[PlainWord<'_>],
+    reason: Reason,
+    line: usize,
+    text: &mut Vec<u8>,
 ) -> Result<(), AllocError>
     ensures { OnOk result (text.new.items
-        ≡ text.old.items ++ spec.no_statement_text rule (map plain_at words.now)) }
+        ≡ text.old.items ++ spec.place_text (map plain_at words.now) reason line) }
 {
-    if is_main_rule(rule) && !has_main(words) {
+    if matches!(reason, Reason::NoMain) {
         return text.extend_from_slice(b"No section is MAIN.\n");
     }
-    Ok(())
-}
-
-/// Appends the text about the first statement that begins on a line and breaks a rule.
-pub fn push_statement_breach(
-    alloc: Global,
-    text: &mut Vec<u8>,
-    rule: StatementRule,
-    line: usize,
-    words: &[PlainWord<'_>],
-) -> Result<(), AllocError>
-    ensures { OnOk result (text.new.items
-        ≡ text.old.items ++ spec.statement_breach rule line (map plain_at words.now)) }
-{
-    match first_statement(StatementBreach { rule, line }, words) {
-        Some(at) => push_statement(alloc, text, rule, at),
-        None => push_no_statement(text, rule, words),
+    match first_statement(reason, line, words) {
+        Some(at) => push_statement(alloc, text, reason, at),
+        None => Ok(()),
     }
 }
-
-ghost use Rattle.std.specs.Prelude.{option_map};
-ghost use Rattle.ss_names.specs.Landmarks.{no_landmarks};
-ghost use Rattle.ss_names.specs.Pictures as pictures;

@@ -5,8 +5,8 @@ use Rattle.ss_names.proofs.index.push_rows.Given as goal
 
 abbrev pub invariant-loop-rest : goal.invariant-loop-rest
 invariant-loop-rest l =
-    l.text.items ++ name_rows l.all l.shown l.before (map plain_at l.rest)
-    ≡ l.fn.text.items ++ name_rows l.all l.shown [] (map plain_at l.words)
+    l.text.items ++ name_rows l.all l.before (map plain_at l.rest)
+    ≡ l.fn.text.items ++ name_rows l.all [] (map plain_at l.words)
 
 abbrev pub decreases-loop-rest : goal.decreases-loop-rest
 decreases-loop-rest l = length l.rest

@@ -6,5 +6,5 @@ use Rattle.ss_names.proofs.statements.push_section.Goals as goal
 pub returns : goal.returns
 returns c =
     on_ok c.push_number.result c.push_number.ensures
-    (two_joined c.args.text.now.items (name_text (codes "It is in the section ") c.args.section.now) _ _ _
+    (two_joined c.args.text.now.items (name_text (codes "It is in the section ") c.args.section.name.now) _ _ _
     c.in_ok-push_name_behind.ensures)
