@@ -2,6 +2,7 @@
 use Rattle.std.proofs.Common.{◌≡◌, ◌≢◌, ℕ, ◌+◌, ◌-◌, ◌<◌, Bool, true, false, List, [], ◌∷◌, ◌++◌, map, refl, sym, ap}
 use Rattle.std.proofs.Common.{◌∙◌, ◌⊎◌, inl, inr, arith, rules, nat_lt, append_assoc}
 use Rattle.std.proofs.Common.{Result, Ok, Err, OnOk}
+use Rattle.std.specs.Prelude.{IfOk}
 use Rattle.std.specs.Prelude.{codes, ◌&&◌}
 use Rattle.std.proofs.lemmas.Bool.{lt-ltb}
 use Rattle.std.proofs.lemmas.Bool.Decides.{nat_tests}
@@ -15,15 +16,20 @@ use Rattle.ss_state.specs.Run.{Input, run}
 use Rattle.ss_debug.specs.Answer.{earliest_word}
 use Rattle.ss_debug.specs.View.{DebuggerView}
 use Rattle.ss_changes.specs.declared.change.Change.{Change}
-use Rattle.ss_changes.specs.Changes.{changes_between, changed_at, changes_across, turned}
+use Rattle.ss_changes.specs.Changes.{changes_between, changed_at, changes_across, movement_changes, turned}
 use Rattle.ss_changes.specs.Texts.{first_changes, all_changes, changed_text, stop_changes, stop_changes_ahead}
-use Rattle.ss_changes.specs.Texts.{stop_changes_since}
+use Rattle.ss_changes.specs.Texts.{movement_word}
 use Rattle.ss_changes.specs.View.{IsAt, HasReturned, program_of, state_of, state_before}
 
 -- a consequence of a result that holds if a call succeeded
 pub on_ok : {A B P Q : Type 0} (r : Result A B) → OnOk r P → (P → Q) → OnOk r Q
 on_ok (Ok x) h f = f h
 on_ok (Err e) h f = tt
+
+-- the same of the value of a result
+pub if_ok : {A B : Type 0} (r : Result A B) (P Q : A → Type 0) → IfOk r P → ((x : A) → P x → Q x) → IfOk r Q
+if_ok (Ok x) P Q h f = f x h
+if_ok (Err e) P Q h f = tt
 
 -- ---- a debugger that goes one step back and forward again
 
@@ -71,7 +77,8 @@ again p e h = omega (arith, h)
 
 -- if one is kept
 pub said_later : (t : Input) (e p : ℕ) → e < p →
-    changed_text t e p ≡ all_changes t.program (run t p) (changes_between t.program (run t (p - 1)) (run t p))
+    changed_text t e p
+    ≡ all_changes (codes "CHANGED") t.program (run t p) (changes_between t.program (run t (p - 1)) (run t p))
 unfolding changed_text changed_at
 said_later t e p h = rw (lt-ltb e p h, again p e h) refl
 
@@ -138,37 +145,36 @@ ahead_told_at m n k h =
 
 -- ---- a movement
 
+-- one of no step
+pub moved_nowhere : (t : Input) (p q : ℕ) → p ≡ q → movement_changes t p q ≡ []
+unfolding movement_changes
+moved_nowhere t p q h = rw (h, not_below q) refl
+
 -- one that went forward
-since_later : (t : Input) (p q : ℕ) → p < q →
-    stop_changes_since t p q
-    ≡ first_changes (codes "CHANGED") t.program (run t q) (changes_across t.program (run t p) (run t q))
-unfolding stop_changes_since
-since_later t p q h = rw (lt-ltb p q h) refl
+pub moved_on : (t : Input) (p q : ℕ) → p < q →
+    movement_changes t p q ≡ changes_across t.program (run t p) (run t q)
+unfolding movement_changes
+moved_on t p q h = rw (lt-ltb p q h) refl
 
 not_less : (p q : ℕ) → q < p → nat_lt p q ≡ false
 not_less p q h = grind (arith, nat_tests, h)
 
 -- one that went back
-since_earlier : (t : Input) (p q : ℕ) → q < p →
-    stop_changes_since t p q
-    ≡ first_changes (codes "WILL CHANGE") t.program (run t q) (map turned (changes_across t.program (run t p) (run t q)))
-unfolding stop_changes_since
-since_earlier t p q h = rw (not_less p q h, lt-ltb q p h) refl
+pub moved_back : (t : Input) (p q : ℕ) → q < p →
+    movement_changes t p q ≡ map turned (changes_across t.program (run t p) (run t q))
+unfolding movement_changes
+moved_back t p q h = rw (not_less p q h, lt-ltb q p h) refl
 
--- one of no step
-pub since_same : (t : Input) (p q : ℕ) → p ≡ q → stop_changes_since t p q ≡ []
-unfolding stop_changes_since
-since_same t p q h = rw (h, not_below q) refl
-
--- as a machine at its end shows it
-pub since_forward : (m : Moment) (p : ℕ) (cs : List Change) (old new : List ℕ) → m.state ≡ run m.input (position m) →
-    p < position m → cs ≡ changes_across m.input.program (run m.input p) m.state →
-    new ≡ old ++ first_changes (codes "CHANGED") m.input.program m.state cs →
-    new ≡ old ++ stop_changes_since m.input p (position m)
-since_forward m p cs old new here h e k = rw (since_later m.input p (position m) h, ← here, ← e) k
-
-pub since_back : (m : Moment) (p : ℕ) (cs : List Change) (old new : List ℕ) → m.state ≡ run m.input (position m) →
-    position m < p → cs ≡ map turned (changes_across m.input.program (run m.input p) m.state) →
-    new ≡ old ++ first_changes (codes "WILL CHANGE") m.input.program m.state cs →
-    new ≡ old ++ stop_changes_since m.input p (position m)
-since_back m p cs old new here h e k = rw (since_earlier m.input p (position m) h, ← here, ← e) k
+-- the text about its changes, by the state at a machine's position
+pub said_since : (m : Moment) (p at q : ℕ) (word : List ℕ) (cs : List Change)
+    (say : List ℕ → ProgramTable → State → List Change → List ℕ) (old new : List ℕ) → m.state ≡ run m.input (position m) →
+    at ≡ p → q ≡ position m → word ≡ movement_word at q → cs ≡ movement_changes m.input p (position m) →
+    new ≡ old ++ say word m.input.program m.state cs →
+    new ≡ old ++ say (movement_word p (position m)) m.input.program (run m.input (position m))
+    (movement_changes m.input p (position m))
+said_since m p at q word cs say old new here a h w e said =
+    said ∙ ap (λ (l : List Change). old ++ say word m.input.program m.state l) e
+    ∙ ap (λ (l : List ℕ). old ++ say l m.input.program m.state (movement_changes m.input p (position m)))
+    (w ∙ ap (λ (n : ℕ). movement_word n q) a ∙ ap (λ (n : ℕ). movement_word p n) h)
+    ∙ ap (λ (s : State). old ++ say (movement_word p (position m)) m.input.program s
+    (movement_changes m.input p (position m))) here

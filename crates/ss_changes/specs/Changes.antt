@@ -1,5 +1,5 @@
 -- The parts that differ between two states, and those that a step changed.
-use Rattle.std.specs.Prelude.{ℕ, ◌+◌, Bool, List, map}
+use Rattle.std.specs.Prelude.{ℕ, ◌+◌, nat_lt, Bool, if◌then◌else◌, List, [], map}
 use Rattle.std.specs.List.{filter}
 use Rattle.ss_program.specs.Program.{ProgramTable}
 use Rattle.ss_state.specs.State.{State}
@@ -37,3 +37,10 @@ turned change = record { part = change.part; before = change.after; after = chan
 -- the changes of step p
 unfoldable pub changed_at : Input → ℕ → List Change
 changed_at input p = changes_between input.program (run input p) (run input (p + 1))
+
+-- what a movement from state p to state q changed; if it went back, what will change on the way to
+-- state p again; nothing if no step was made
+unfoldable pub movement_changes : Input → ℕ → ℕ → List Change
+movement_changes input p q =
+    if nat_lt p q then changes_across input.program (run input p) (run input q) else
+    if nat_lt q p then map turned (changes_across input.program (run input p) (run input q)) else []

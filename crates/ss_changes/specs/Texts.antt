@@ -1,6 +1,6 @@
 -- The texts that show the changes of a step, or of a movement.
 use Rattle.std.specs.Prelude.{ℕ, ◌+◌, ◌-◌, nat_lt, ◌&&◌, if◌then◌else◌, List, [], ◌∷◌, ◌++◌, length, take, codes}
-use Rattle.std.specs.Prelude.{decimal, slice_index_or, map}
+use Rattle.std.specs.Prelude.{decimal, slice_index_or}
 use Rattle.std.specs.Fmt.{signed_decimal}
 use Rattle.ss_program.specs.declared.kinds.Owner.{Owner}
 use Rattle.ss_program.specs.declared.kinds.Owner.TheVariants.{System, OwnedBy}
@@ -20,7 +20,7 @@ use Rattle.ss_changes.specs.declared.value.PartValue.TheVariants.{Absent, Number
 use Rattle.ss_changes.specs.declared.change.Change.{Change}
 use Rattle.ss_changes.specs.declared.limits.TheConstants.{MOST_TOLD, MOST_LISTED, MOST_COLUMNS}
 use Rattle.ss_changes.specs.Parts.{local_names}
-use Rattle.ss_changes.specs.Changes.{changed_at, changes_across, turned}
+use Rattle.ss_changes.specs.Changes.{changed_at, movement_changes}
 
 -- ---- parts
 
@@ -115,17 +115,17 @@ more_text n = if nat_lt MOST_TOLD n then codes "AND " ++ decimal (n - MOST_TOLD)
 abbrev pub first_changes : List ℕ → ProgramTable → State → List Change → List ℕ
 first_changes word program state cs = brief_lines word program state (take MOST_TOLD cs) ++ more_text (length cs)
 
--- all changes, or that there is none
-abbrev pub all_changes : ProgramTable → State → List Change → List ℕ
-all_changes program state [] = codes "NOTHING CHANGED\n"
-all_changes program state (c ∷ cs) = change_lines (codes "CHANGED") program state (c ∷ cs)
+-- all changes, following a word, or that there is none
+abbrev pub all_changes : List ℕ → ProgramTable → State → List Change → List ℕ
+all_changes word program state [] = codes "NOTHING CHANGED\n"
+all_changes word program state (c ∷ cs) = change_lines word program state (c ∷ cs)
 
 -- ---- answers; parts are named as in the state after the step
 
 -- the answer to SHOW CHANGED in state p, if the states from `earliest` on are kept
 unfoldable pub changed_text : Input → ℕ → ℕ → List ℕ
 changed_text input earliest p =
-    if nat_lt earliest p then all_changes input.program (run input p) (changed_at input (p - 1))
+    if nat_lt earliest p then all_changes (codes "CHANGED") input.program (run input p) (changed_at input (p - 1))
     else earliest_word earliest ++ 10 ∷ []
 
 -- the text at a stop that was reached going forward: the changes of the last step, if it is kept
@@ -140,10 +140,18 @@ stop_changes_ahead input p =
     if is_ready_at input p && nat_lt p LAST_POSITION
     then first_changes (codes "WILL CHANGE") input.program (run input (p + 1)) (changed_at input p) else []
 
--- the text at the stop in state q of a movement from state p: what differs, as what changed going
--- forward, or as what will change on the way to state p again
+-- ---- a movement from state p to state q; parts are named as in state q
+
+-- the word of its changes: if it went back, they will be made on the way to state p again
+abbrev pub movement_word : ℕ → ℕ → List ℕ
+movement_word p q = if nat_lt q p then codes "WILL CHANGE" else codes "CHANGED"
+
+-- the text at its stop: the first of its changes
 unfoldable pub stop_changes_since : Input → ℕ → ℕ → List ℕ
 stop_changes_since input p q =
-    let changes = changes_across input.program (run input p) (run input q) in
-    if nat_lt p q then first_changes (codes "CHANGED") input.program (run input q) changes else
-    if nat_lt q p then first_changes (codes "WILL CHANGE") input.program (run input q) (map turned changes) else []
+    first_changes (movement_word p q) input.program (run input q) (movement_changes input p q)
+
+-- the answer to SHOW CHANGED after it: all of them
+unfoldable pub all_changes_since : Input → ℕ → ℕ → List ℕ
+all_changes_since input p q =
+    all_changes (movement_word p q) input.program (run input q) (movement_changes input p q)

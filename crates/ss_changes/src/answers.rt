@@ -1,16 +1,12 @@
-//! The answers about the changes of the last step, of the next one, and of a movement.
+//! The answers about the changes of the last step, and of the next one.
 ghost use Rattle.std.specs.Prelude.{◌≡◌, ◌++◌, ◌∷◌, [], OnOk, OnErr};
 ghost use Rattle.ss_machine.specs.Moment.{position};
 ghost use Rattle.ss_debug.specs.Answer.{earliest_word};
 ghost use Rattle.ss_debug.specs.View.{debugger_state_of};
-ghost use Rattle.ss_changes.specs.Snapshots.{IsTakenIn};
 ghost use Rattle.ss_changes.specs.Texts.{changed_text, stop_changes, stop_changes_ahead};
-ghost use Rattle.ss_changes.specs.Texts.{stop_changes_since};
 ghost use Rattle.ss_changes.specs.View.{IsBehind, IsAhead};
 
 use crate::changes::last_changes;
-use crate::since::{changes_since, turned};
-use crate::snapshot::Snapshot;
 use crate::stepping::go_back;
 use crate::texts::{push_all_changes, push_first_changes};
 use ss_debug::Debugger;
@@ -63,7 +59,7 @@ pub fn push_changed<S: SetBoard>(
     }
     let changes = last_changes(alloc, debugger)?;
     debugger.machine().known();
-    push_all_changes(bytes, debugger.machine(), &changes)
+    push_all_changes(bytes, b"CHANGED", debugger.machine(), &changes)
 }
 
 /// Appends the text at a stop that was reached going forward, also if no step was made: a line
@@ -121,35 +117,4 @@ pub fn push_stop_changes_ahead<S: SetBoard>(
     push_first_changes(alloc, bytes, b"WILL CHANGE", debugger.machine(), &changes)?;
     go_back(debugger);
     Ok(())
-}
-
-/// Appends the text at the stop of a movement from the state that a snapshot was taken in: a line
-/// `CHANGED part: before -> after` for each of the first five parts that differ in the two states,
-/// and `AND n MORE`, as [`push_stop_changes`] does. If the movement went back, the lines are
-/// `WILL CHANGE part: before -> after`, with the values in this state first. A local is shown only
-/// if its frame runs the same section in both states. Appends nothing if the position is the same.
-///
-/// `AllocError` if memory was refused; then the appended text does not count.
-pub fn push_stop_changes_since<S: SetBoard>(
-    alloc: Global,
-    debugger: &Debugger<S>,
-    left: &Snapshot,
-    bytes: &mut Vec<u8>,
-) -> Result<(), AllocError>
-    requires { IsTakenIn debugger.now.machine.input left.now }
-    ensures { OnOk result (bytes.new.items ≡ bytes.old.items
-        ++ stop_changes_since debugger.now.machine.input left.now.position
-        (position debugger.now.machine)) }
-{
-    let machine = debugger.machine();
-    machine.known();
-    if left.position == machine.position() {
-        return Ok(());
-    }
-    let changes = changes_since(alloc, machine, left)?;
-    if left.position < machine.position() {
-        return push_first_changes(alloc, bytes, b"CHANGED", machine, &changes);
-    }
-    let ahead = turned(alloc, changes)?;
-    push_first_changes(alloc, bytes, b"WILL CHANGE", machine, &ahead)
 }

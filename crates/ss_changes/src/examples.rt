@@ -5,7 +5,7 @@ ghost use Rattle.std.specs.Prelude.{◌≡◌, ◌++◌, [], codes, replicate};
 ghost use Rattle.ss_inspect.specs.Examples as seen;
 ghost use Rattle.ss_changes.specs.declared.value.PartValue.TheVariants.{Listed};
 ghost use Rattle.ss_changes.specs.Texts.{changed_text, stop_changes, stop_changes_ahead};
-ghost use Rattle.ss_changes.specs.Texts.{stop_changes_since};
+ghost use Rattle.ss_changes.specs.Texts.{stop_changes_since, all_changes_since};
 ghost use Rattle.ss_changes.specs.Texts.{brief_text, cut_text};
 ghost use Rattle.ss_changes.specs.Examples as e;
 
@@ -111,4 +111,19 @@ fn movements_back_tell_what_will_differ()
     ensures notices { stop_changes_since seen.ticks_run 3 1
         ≡ codes "WILL CHANGE TICK 1: LIVES -> NONE\nWILL CHANGE TICK 1 AT: 3 -> NONE\n"
         ++ codes "WILL CHANGE CLOCK: 0 -> 3\nWILL CHANGE REPORT: 0 BYTES -> 2 BYTES\n" }
+{}
+
+/// SHOW CHANGED after such movements: all that differs, or that nothing does.
+fn movements_are_told_as_a_whole()
+    ensures far { all_changes_since e.jobs_run 0 5
+        ≡ codes "CHANGED VAR JOB: 0 -> 1\nCHANGED VAR N: 0 -> 3\nCHANGED VAR M: 0 -> 4\n"
+        ++ codes "CHANGED VAR X: 0 -> 9\nCHANGED JOB 1: NONE -> LIVES\n"
+        ++ codes "CHANGED SET ROW: EMPTY -> 1\nCHANGED TAKEN: 0 -> 3\n" }
+    ensures back { all_changes_since e.jobs_run 5 0
+        ≡ codes "WILL CHANGE VAR JOB: 0 -> 1\nWILL CHANGE VAR N: 0 -> 3\n"
+        ++ codes "WILL CHANGE VAR M: 0 -> 4\nWILL CHANGE VAR X: 0 -> 9\n"
+        ++ codes "WILL CHANGE JOB 1: NONE -> LIVES\nWILL CHANGE SET ROW: EMPTY -> 1\n"
+        ++ codes "WILL CHANGE TAKEN: 0 -> 3\n" }
+    ensures call { all_changes_since e.jobs_run 5 7 ≡ codes "NOTHING CHANGED\n" }
+    ensures nowhere { all_changes_since e.jobs_run 4 4 ≡ codes "NOTHING CHANGED\n" }
 {}

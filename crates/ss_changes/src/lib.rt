@@ -20,6 +20,7 @@ mod examples;
 mod laws;
 mod limits;
 mod listing;
+mod movement;
 mod numbers;
 mod part;
 mod reading;
@@ -30,11 +31,10 @@ mod stepping;
 mod texts;
 mod value;
 
-pub use answers::{
-    push_changed, push_stop_changes, push_stop_changes_ahead, push_stop_changes_since,
-};
+pub use answers::{push_changed, push_stop_changes, push_stop_changes_ahead};
 pub use change::Change;
 pub use laws::{what_a_step_changed_is_all, what_a_step_changed_is_exact};
+pub use movement::{push_all_changes_since, push_stop_changes_since};
 pub use part::Part;
 pub use snapshot::{FrameNoted, Noted, Snapshot};
 pub use value::{Members, PartValue};

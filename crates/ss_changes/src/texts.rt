@@ -324,14 +324,15 @@ pub fn push_first_changes<S: SetBoard>(
 /// Appends a line for each change, or that there is none.
 pub fn push_all_changes<S: SetBoard>(
     text: &mut Vec<u8>,
+    word: &[u8],
     machine: &Machine<S>,
     changes: &[Change],
 ) -> Result<(), AllocError>
     ensures { OnOk result (text.new.items ≡ text.old.items
-        ++ all_changes machine.now.input.program machine.now.state changes.now) }
+        ++ all_changes word.now machine.now.input.program machine.now.state changes.now) }
 {
     if changes.is_empty() {
         return text.extend_from_slice(b"NOTHING CHANGED\n");
     }
-    push_lines(text, b"CHANGED", machine, changes)
+    push_lines(text, word, machine, changes)
 }

@@ -1,4 +1,5 @@
 use Rattle.std.proofs.Common.{◌≡◌, ◌<◌, sym, ◌∙◌, arith}
+use Rattle.std.specs.Prelude.{codes}
 use Rattle.ss_machine.specs.Moment.{position}
 use Rattle.ss_changes.specs.Texts.{all_changes}
 use Rattle.ss_changes.proofs.Orders.{behind}
@@ -22,7 +23,7 @@ returns-clause-said g c =
     let some : d.machine.forgotten < position d.machine = omega (arith, kept, c.if-kept-eq0.false) in
     let here = rw c.machine-2.ensures at c.known.ensures.state in
     let said =
-    said_there d c.last_changes.new.debugger c.machine-3.result.now c.deref.result.now all_changes
+    said_there d c.last_changes.new.debugger c.machine-3.result.now c.deref.result.now (all_changes (codes "CHANGED"))
     c.in_ok-changes.ensures.stays c.machine-3.ensures here (c.deref.ensures.value ∙ c.in_ok-changes.ensures.changes) in
     on_ok c.push_all_changes.result c.push_all_changes.ensures
     (behind c.args.bytes.now.items c.push_all_changes.new.text.items _ _
