@@ -9,7 +9,8 @@ use Rattle.ss_debug.specs.Turn.{obeyed_lines, is_quit}
 use Rattle.ss_console.specs.Dialogue.{answered, state_after_all}
 use Rattle.ss_console.specs.Laws.{answers}
 use Rattle.ss_prompt.specs.declared.commands.PromptCommand.TheVariants.{Plain}
-use Rattle.ss_prompt.specs.PromptState.{PromptState, with_listed}
+use Rattle.ss_prompt.specs.PromptState.{PromptState, with_listed, with_left}
+use Rattle.ss_prompt.specs.Left.{left_after}
 use Rattle.ss_prompt.specs.Listed.{listed_after}
 use Rattle.ss_prompt.specs.Plain.{plain_next, plain_said, plain_stop}
 use Rattle.ss_prompt.specs.Misread.{line_misread}
@@ -28,7 +29,7 @@ up_to false t d lines text h = h
 
 -- the state after the plain command c
 abbrev plain_after : PromptState → Command → PromptState
-plain_after s c = with_listed (plain_next s c) (listed_after s (Plain c))
+plain_after s c = with_left (with_listed (plain_next s c) (listed_after s (Plain c))) (left_after s (Plain c))
 
 -- the answer to a line that is the plain command c, and the answers to the lines after it
 abbrev with_rest : PromptState → Command → List (List ℕ) → List ℕ

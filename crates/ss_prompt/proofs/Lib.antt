@@ -19,9 +19,11 @@ pub mod Causing
 pub mod Once
 pub mod Cleared
 pub mod Listed
+pub mod Ways
 pub mod TakenRefusals
 pub mod RowTexts
 pub mod MissingLaws
+pub mod Letters
 mod NothingAsked
 pub mod Misreads
 pub mod BreakWhens

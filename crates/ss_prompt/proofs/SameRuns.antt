@@ -4,9 +4,10 @@ use Rattle.ss_debug.specs.declared.commands.Command.{Command}
 use Rattle.ss_debug.specs.declared.commands.Command.TheVariants as plain
 use Rattle.ss_prompt.specs.declared.commands.PromptCommand.{PromptCommand}
 use Rattle.ss_prompt.specs.declared.commands.PromptCommand.TheVariants as prompt
-use Rattle.ss_prompt.specs.PromptState.{PromptState, with_listed, IsSameBeside}
+use Rattle.ss_prompt.specs.PromptState.{PromptState, with_listed, with_left, IsSameBeside}
 use Rattle.ss_prompt.specs.Plain.{IsPlainRefused}
 use Rattle.ss_prompt.specs.Travel.{IsTravelRefused}
+use Rattle.ss_prompt.specs.Left.{IsAskedRefused, IsChangedRefused}
 use Rattle.ss_prompt.specs.Stops.{HasLookedBeside, IsStopRefused}
 use Rattle.ss_prompt.specs.Causes.{back_cause_next, IsBackCauseRefused}
 use Rattle.ss_prompt.specs.declared.causes.CauseCommand.TheVariants as causes
@@ -56,9 +57,9 @@ on_line : (s : PromptState) (make : ℕ → Command) (line : Option ℕ) → IsS
 on_line s make None = same s
 on_line s make (Some line) = record { input = refl; model = refl; lines = refl; data_text = refl; symbols = refl }
 
--- another line after which LIST goes on
-noted : (s after : PromptState) (x : Option ℕ) → IsSameRun s after → IsSameRun s (with_listed after x)
-noted s after x h = record { input = h.input; model = h.model; lines = h.lines; data_text = h.data_text; symbols = h.symbols }
+-- another line after which LIST goes on, and another position that was left
+noted : (s after : PromptState) (x y : Option ℕ) → IsSameRun s after → IsSameRun s (with_left (with_listed after x) y)
+noted s after x y h = record { input = h.input; model = h.model; lines = h.lines; data_text = h.data_text; symbols = h.symbols }
 
 -- after a movement to a state in which a condition holds
 sought : (s : PromptState) (way : Until) (o : Option Aimed) → IsSameRun s (until_led s way o)
@@ -102,12 +103,12 @@ obeyed s (prompt.Lines line) = record { input = refl; model = refl; lines = refl
 obeyed s (prompt.LinesBetween from to) = record { input = refl; model = refl; lines = refl; data_text = refl; symbols = refl }
 obeyed s (prompt.SectionLines name) = record { input = refl; model = refl; lines = refl; data_text = refl; symbols = refl }
 obeyed s (prompt.BreakSection name) =
-    noted s (on_line_next s plain.Break (line_of_section s.input.program name)) s.listed
+    noted s (on_line_next s plain.Break (line_of_section s.input.program name)) s.listed s.left
     (on_line s plain.Break (line_of_section s.input.program name))
 obeyed s (prompt.BreakWhen place text numbered) = record { input = refl; model = refl; lines = refl; data_text = refl; symbols = refl }
 obeyed s (prompt.NoPlace line next) = record { input = refl; model = refl; lines = refl; data_text = refl; symbols = refl }
 obeyed s (prompt.ClearSection name) =
-    noted s (on_line_next s plain.Clear (line_of_section s.input.program name)) s.listed
+    noted s (on_line_next s plain.Clear (line_of_section s.input.program name)) s.listed s.left
     (on_line s plain.Clear (line_of_section s.input.program name))
 obeyed s prompt.ClearAll = record { input = refl; model = refl; lines = refl; data_text = refl; symbols = refl }
 obeyed s prompt.Breaks = record { input = refl; model = refl; lines = refl; data_text = refl; symbols = refl }
@@ -121,13 +122,13 @@ obeyed s (prompt.History question rows) = record { input = refl; model = refl; l
 obeyed s (prompt.Display question) = record { input = refl; model = refl; lines = refl; data_text = refl; symbols = refl }
 obeyed s prompt.Undisplay = record { input = refl; model = refl; lines = refl; data_text = refl; symbols = refl }
 obeyed s (prompt.UndisplayOne question) = record { input = refl; model = refl; lines = refl; data_text = refl; symbols = refl }
-obeyed s (prompt.Until way text numbered) = noted s (until_next s way text) None (sought s way (aim_by s text s.symbols))
-obeyed s (prompt.Meant Why text numbered) = noted s (meant_next s Why text) s.listed (asked s Why text)
-obeyed s (prompt.Meant History text numbered) = noted s (meant_next s History text) s.listed (asked s History text)
-obeyed s (prompt.Meant RunChange text numbered) = noted s (meant_next s RunChange text) None (asked s RunChange text)
-obeyed s (prompt.Meant BackChange text numbered) = noted s (meant_next s BackChange text) None (asked s BackChange text)
-obeyed s (prompt.Meant Display text numbered) = noted s (meant_next s Display text) s.listed (asked s Display text)
-obeyed s (prompt.Meant Undisplay text numbered) = noted s (meant_next s Undisplay text) s.listed (asked s Undisplay text)
+obeyed s (prompt.Until way text numbered) = noted s (until_next s way text) None None (sought s way (aim_by s text s.symbols))
+obeyed s (prompt.Meant Why text numbered) = noted s (meant_next s Why text) s.listed s.left (asked s Why text)
+obeyed s (prompt.Meant History text numbered) = noted s (meant_next s History text) s.listed s.left (asked s History text)
+obeyed s (prompt.Meant RunChange text numbered) = noted s (meant_next s RunChange text) None None (asked s RunChange text)
+obeyed s (prompt.Meant BackChange text numbered) = noted s (meant_next s BackChange text) None None (asked s BackChange text)
+obeyed s (prompt.Meant Display text numbered) = noted s (meant_next s Display text) s.listed s.left (asked s Display text)
+obeyed s (prompt.Meant Undisplay text numbered) = noted s (meant_next s Undisplay text) s.listed s.left (asked s Undisplay text)
 obeyed s (prompt.Value text numbered) = record { input = refl; model = refl; lines = refl; data_text = refl; symbols = refl }
 obeyed s (prompt.Unread word numbered) = record { input = refl; model = refl; lines = refl; data_text = refl; symbols = refl }
 obeyed s (prompt.Missing missing) = record { input = refl; model = refl; lines = refl; data_text = refl; symbols = refl }
@@ -187,9 +188,15 @@ at_stop s after h =
     let b = beside_stop (back_cause_next s) after h in
     record { input = b.2; model = b.0; lines = b.1; data_text = b.5; symbols = b.6 }
 
+-- if memory was refused for SHOW CHANGED, all but the debugger is the same
+asked_beside : (s after : PromptState) (o : Option ℕ) → IsAskedRefused s o after → IsSameBeside s after
+unfolding HasLookedBeside
+asked_beside s after None h = h.0
+asked_beside s after (Some p) h = h.0
+
 -- if memory was refused for a command
 refused : (s after : PromptState) (command : PromptCommand) → IsRefused s command after → IsSameRun s after
-unfolding IsRefused IsTravelRefused IsOnceRefused IsClearRefused IsBackCauseRefused HasLookedBeside HasLookedBack
+unfolding IsRefused IsTravelRefused IsOnceRefused IsClearRefused IsBackCauseRefused IsChangedRefused HasLookedBack
 refused s after (prompt.Plain command) h = refused_plain s after command h
 refused s after (prompt.Travel movement) h = beside s after h.0
 refused s after (prompt.Once line) h = beside s after h.0
@@ -204,7 +211,7 @@ refused s after prompt.ClearAll h = beside s after h.0
 refused s after prompt.Breaks h = unchanged s after h
 refused s after (prompt.Ask question) h = unchanged s after h
 refused s after (prompt.See sight) h = unchanged s after h
-refused s after prompt.Changed h = beside s after h.0
+refused s after prompt.Changed h = beside s after (asked_beside s after s.left h)
 refused s after (prompt.Why question) h = beside s after h.0
 refused s after (prompt.Cause causes.Why) h = beside s after h.0
 refused s after (prompt.Cause causes.Back) h = at_stop s after h
@@ -222,89 +229,99 @@ refused s after prompt.Reads h = beside s after h.0
 refused s after prompt.Warnings h = unchanged s after h
 refused s after (prompt.Help word) h = unchanged s after h
 
--- the line after which LIST goes on, if memory was refused for a command of docs/DEBUGGER.md
-listed_plain : (s after : PromptState) (command : Command) → IsPlainRefused s command after → after.listed ≡ s.listed
+-- the line after which LIST goes on is the same, and so is the position that was left
+abbrev IsNotedSo : PromptState → PromptState → Type 0
+IsNotedSo s after = (after.listed ≡ s.listed) × (after.left ≡ s.left)
+
+noted_beside : (s after : PromptState) → IsSameBeside s after → IsNotedSo s after
+noted_beside s after h = (h.4, h.7)
+
+noted_same : (s after : PromptState) → after ≡ s → IsNotedSo s after
+noted_same s after e = (ap (λ (v : PromptState). v.listed) e, ap (λ (v : PromptState). v.left) e)
+
+-- if memory was refused for a command of docs/DEBUGGER.md
+noted_plain : (s after : PromptState) (command : Command) → IsPlainRefused s command after → IsNotedSo s after
 unfolding IsPlainRefused
-listed_plain s after plain.Blank h = h.0.4
-listed_plain s after plain.Bad h = h.0.4
-listed_plain s after (plain.Move movement) h = h.0.4
-listed_plain s after (plain.Break line) h = h.0.4
-listed_plain s after (plain.Clear line) h = h.0.4
-listed_plain s after (plain.Forget count) h = h.0.4
-listed_plain s after (plain.Show question) h = h.0.4
-listed_plain s after plain.Quit h = h.0.4
+noted_plain s after plain.Blank h = noted_beside s after h.0
+noted_plain s after plain.Bad h = noted_beside s after h.0
+noted_plain s after (plain.Move movement) h = noted_beside s after h.0
+noted_plain s after (plain.Break line) h = noted_beside s after h.0
+noted_plain s after (plain.Clear line) h = noted_beside s after h.0
+noted_plain s after (plain.Forget count) h = noted_beside s after h.0
+noted_plain s after (plain.Show question) h = noted_beside s after h.0
+noted_plain s after plain.Quit h = noted_beside s after h.0
 
 -- for a movement to a state in which a condition holds
-listed_aim : (s after : PromptState) (way : Until) (o : Option Aimed) → IsAimRefused s way o after → after.listed ≡ s.listed
+noted_aim : (s after : PromptState) (way : Until) (o : Option Aimed) → IsAimRefused s way o after → IsNotedSo s after
 unfolding IsSeekRefused
-listed_aim s after way None h = ap (λ (v : PromptState). v.listed) h
-listed_aim s after way (Some (aimed aim)) h = h.0.4
-listed_aim s after way (Some (aims.refused answer)) h = ap (λ (v : PromptState). v.listed) h
+noted_aim s after way None h = noted_same s after h
+noted_aim s after way (Some (aimed aim)) h = noted_beside s after h.0
+noted_aim s after way (Some (aims.refused answer)) h = noted_same s after h
 
-listed_until : (s after : PromptState) (way : Until) (text : List ℕ) → IsUntilRefused s way text after →
-    after.listed ≡ s.listed
+noted_until : (s after : PromptState) (way : Until) (text : List ℕ) → IsUntilRefused s way text after →
+    IsNotedSo s after
 unfolding IsUntilRefused
-listed_until s after way text (inl e) = ap (λ (v : PromptState). v.listed) e
-listed_until s after way text (inr h) = listed_aim s after way (aim_by s text s.symbols) h
+noted_until s after way text (inl e) = noted_same s after e
+noted_until s after way text (inr h) = noted_aim s after way (aim_by s text s.symbols) h
 
 -- for a command on what a text asks
-listed_change : (s after : PromptState) (back : Bool) (o : Option Meant) → IsChangeLedRefused s back o after →
-    after.listed ≡ s.listed
+noted_change : (s after : PromptState) (back : Bool) (o : Option Meant) → IsChangeLedRefused s back o after →
+    IsNotedSo s after
 unfolding IsChangeRefused
-listed_change s after back None h = ap (λ (v : PromptState). v.listed) h
-listed_change s after back (Some (meant meaning)) h = h.0.4
-listed_change s after back (Some (meanings.refused answer)) h = ap (λ (v : PromptState). v.listed) h
+noted_change s after back None h = noted_same s after h
+noted_change s after back (Some (meant meaning)) h = noted_beside s after h.0
+noted_change s after back (Some (meanings.refused answer)) h = noted_same s after h
 
-listed_manner : (s after : PromptState) (manner : Manner) (text : List ℕ) → IsMannerRefused s manner text after →
-    after.listed ≡ s.listed
+noted_manner : (s after : PromptState) (manner : Manner) (text : List ℕ) → IsMannerRefused s manner text after →
+    IsNotedSo s after
 unfolding HasLookedBack
-listed_manner s after Why text h = h.0.4
-listed_manner s after History text h = h.0.4
-listed_manner s after RunChange text h = listed_change s after false (meaning_in s text) h
-listed_manner s after BackChange text h = listed_change s after true (meaning_in s text) h
-listed_manner s after Display text h = ap (λ (v : PromptState). v.listed) h
-listed_manner s after Undisplay text h = ap (λ (v : PromptState). v.listed) h
+noted_manner s after Why text h = noted_beside s after h.0
+noted_manner s after History text h = noted_beside s after h.0
+noted_manner s after RunChange text h = noted_change s after false (meaning_in s text) h
+noted_manner s after BackChange text h = noted_change s after true (meaning_in s text) h
+noted_manner s after Display text h = noted_same s after h
+noted_manner s after Undisplay text h = noted_same s after h
 
-listed_meant : (s after : PromptState) (manner : Manner) (text : List ℕ) → IsMeantRefused s manner text after →
-    after.listed ≡ s.listed
+noted_meant : (s after : PromptState) (manner : Manner) (text : List ℕ) → IsMeantRefused s manner text after →
+    IsNotedSo s after
 unfolding IsMeantRefused
-listed_meant s after manner text (inl e) = ap (λ (v : PromptState). v.listed) e
-listed_meant s after manner text (inr h) = listed_manner s after manner text h
+noted_meant s after manner text (inl e) = noted_same s after e
+noted_meant s after manner text (inr h) = noted_manner s after manner text h
 
 -- and for a command
-listed_still : (s after : PromptState) (command : PromptCommand) → IsRefused s command after → after.listed ≡ s.listed
-unfolding IsRefused IsTravelRefused IsOnceRefused IsClearRefused IsBackCauseRefused HasLookedBeside HasLookedBack
-listed_still s after (prompt.Plain command) h = listed_plain s after command h
-listed_still s after (prompt.Travel movement) h = h.0.4
-listed_still s after (prompt.Once line) h = h.0.4
-listed_still s after (prompt.Lines line) h = ap (λ (v : PromptState). v.listed) h
-listed_still s after (prompt.LinesBetween from to) h = ap (λ (v : PromptState). v.listed) h
-listed_still s after (prompt.SectionLines name) h = ap (λ (v : PromptState). v.listed) h
-listed_still s after (prompt.BreakSection name) h = ap (λ (v : PromptState). v.listed) h
-listed_still s after (prompt.BreakWhen place text numbered) h = ap (λ (v : PromptState). v.listed) h
-listed_still s after (prompt.NoPlace line next) h = ap (λ (v : PromptState). v.listed) h
-listed_still s after (prompt.ClearSection name) h = ap (λ (v : PromptState). v.listed) h
-listed_still s after prompt.ClearAll h = h.0.4
-listed_still s after prompt.Breaks h = ap (λ (v : PromptState). v.listed) h
-listed_still s after (prompt.Ask question) h = ap (λ (v : PromptState). v.listed) h
-listed_still s after (prompt.See sight) h = ap (λ (v : PromptState). v.listed) h
-listed_still s after prompt.Changed h = h.0.4
-listed_still s after (prompt.Why question) h = h.0.4
-listed_still s after (prompt.Cause causes.Why) h = h.0.4
-listed_still s after (prompt.Cause causes.Back) h = (beside_stop (back_cause_next s) after h).4
-listed_still s after (prompt.History question rows) h = h.0.4
-listed_still s after (prompt.Display question) h = ap (λ (v : PromptState). v.listed) h
-listed_still s after prompt.Undisplay h = ap (λ (v : PromptState). v.listed) h
-listed_still s after (prompt.UndisplayOne question) h = ap (λ (v : PromptState). v.listed) h
-listed_still s after (prompt.Value text numbered) h = ap (λ (v : PromptState). v.listed) h
-listed_still s after (prompt.Until way text numbered) h = listed_until s after way text h
-listed_still s after (prompt.Meant manner text numbered) h = listed_meant s after manner text h
-listed_still s after (prompt.Unread word numbered) h = ap (λ (v : PromptState). v.listed) h
-listed_still s after (prompt.Missing missing) h = ap (λ (v : PromptState). v.listed) h
-listed_still s after (prompt.Names name) h = ap (λ (v : PromptState). v.listed) h
-listed_still s after prompt.Reads h = h.0.4
-listed_still s after prompt.Warnings h = ap (λ (v : PromptState). v.listed) h
-listed_still s after (prompt.Help word) h = ap (λ (v : PromptState). v.listed) h
+noted_still : (s after : PromptState) (command : PromptCommand) → IsRefused s command after → IsNotedSo s after
+unfolding IsRefused IsTravelRefused IsOnceRefused IsClearRefused IsBackCauseRefused IsChangedRefused HasLookedBack
+noted_still s after (prompt.Plain command) h = noted_plain s after command h
+noted_still s after (prompt.Travel movement) h = noted_beside s after h.0
+noted_still s after (prompt.Once line) h = noted_beside s after h.0
+noted_still s after (prompt.Lines line) h = noted_same s after h
+noted_still s after (prompt.LinesBetween from to) h = noted_same s after h
+noted_still s after (prompt.SectionLines name) h = noted_same s after h
+noted_still s after (prompt.BreakSection name) h = noted_same s after h
+noted_still s after (prompt.BreakWhen place text numbered) h = noted_same s after h
+noted_still s after (prompt.NoPlace line next) h = noted_same s after h
+noted_still s after (prompt.ClearSection name) h = noted_same s after h
+noted_still s after prompt.ClearAll h = noted_beside s after h.0
+noted_still s after prompt.Breaks h = noted_same s after h
+noted_still s after (prompt.Ask question) h = noted_same s after h
+noted_still s after (prompt.See sight) h = noted_same s after h
+noted_still s after prompt.Changed h = noted_beside s after (asked_beside s after s.left h)
+noted_still s after (prompt.Why question) h = noted_beside s after h.0
+noted_still s after (prompt.Cause causes.Why) h = noted_beside s after h.0
+noted_still s after (prompt.Cause causes.Back) h = let b = beside_stop (back_cause_next s) after h in (b.4, b.7)
+noted_still s after (prompt.History question rows) h = noted_beside s after h.0
+noted_still s after (prompt.Display question) h = noted_same s after h
+noted_still s after prompt.Undisplay h = noted_same s after h
+noted_still s after (prompt.UndisplayOne question) h = noted_same s after h
+noted_still s after (prompt.Value text numbered) h = noted_same s after h
+noted_still s after (prompt.Until way text numbered) h = noted_until s after way text h
+noted_still s after (prompt.Meant manner text numbered) h = noted_meant s after manner text h
+noted_still s after (prompt.Unread word numbered) h = noted_same s after h
+noted_still s after (prompt.Missing missing) h = noted_same s after h
+noted_still s after (prompt.Names name) h = noted_same s after h
+noted_still s after prompt.Reads h = noted_beside s after h.0
+noted_still s after prompt.Warnings h = noted_same s after h
+noted_still s after (prompt.Help word) h = noted_same s after h
 
 -- after a command that was obeyed, or for which memory was refused
 pub stays : {T E : Type 0} (result : Result T E) (s after : PromptState) (command : PromptCommand) →
@@ -323,4 +340,10 @@ stays (Err error) s after command ok err = refused s after command err
 pub listed_stays : {T E : Type 0} (result : Result T E) (s after : PromptState) (command : PromptCommand) →
     OnErr result (IsRefused s command after) → OnErr result (after.listed ≡ s.listed)
 listed_stays (Ok value) s after command err = err
-listed_stays (Err error) s after command err = listed_still s after command err
+listed_stays (Err error) s after command err = (noted_still s after command err).0
+
+-- the position that was left is as before
+pub left_stays : {T E : Type 0} (result : Result T E) (s after : PromptState) (command : PromptCommand) →
+    OnErr result (IsRefused s command after) → OnErr result (after.left ≡ s.left)
+left_stays (Ok value) s after command err = err
+left_stays (Err error) s after command err = (noted_still s after command err).1

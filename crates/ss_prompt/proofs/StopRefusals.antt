@@ -41,6 +41,7 @@ same s after e = (
   ap (λ (v : PromptState). v.listed) e,
   ap (λ (v : PromptState). v.data_text) e,
   ap (λ (v : PromptState). v.symbols) e,
+  ap (λ (v : PromptState). v.left) e,
 )
 
 -- all but the debugger is the same

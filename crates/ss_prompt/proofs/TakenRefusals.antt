@@ -19,6 +19,7 @@ after_taken s after e = (
     ap (λ (v : PromptState). v.listed) e,
     ap (λ (v : PromptState). v.data_text) e,
     ap (λ (v : PromptState). v.symbols) e,
+    ap (λ (v : PromptState). v.left) e,
   ),
   ap (λ (v : PromptState). v.debugger) e,
 )
@@ -35,6 +36,7 @@ after_events s after e = (
     ap (λ (v : PromptState). v.listed) e,
     ap (λ (v : PromptState). v.data_text) e,
     ap (λ (v : PromptState). v.symbols) e,
+    ap (λ (v : PromptState). v.left) e,
   ),
   ap (λ (v : PromptState). v.debugger) e,
 )

@@ -6,7 +6,7 @@ use Rattle.std.specs.Str.{bytes_eq}
 use Rattle.ss_debug.specs.CommandLines.{command_words}
 use Rattle.ss_program.specs.Program.{ProgramTable}
 use Rattle.ss_prompt.specs.Missing.{is_declared}
-use Rattle.ss_prompt.specs.Table.{forms, is_asked_after, words_at}
+use Rattle.ss_prompt.specs.Table.{forms, letters, is_asked_after, words_at}
 use Rattle.ss_prompt.specs.Words.{line_behind, with_word}
 
 -- whether a word is the beginning of another
@@ -24,18 +24,14 @@ abbrev pub whole : Bool → List ℕ → List ℕ → List ℕ
 whole asked before word =
     if nat_lt (length word) 3 then word else only_one word (filter (begins word) (words_at asked before forms))
 
--- the word that a letter means at the beginning of a line; another word as it is
-abbrev pub word_of_letter : List ℕ → List ℕ
-word_of_letter word =
-    if bytes_eq word (codes "S") then codes "STEP" else
-    if bytes_eq word (codes "N") then codes "NEXT" else
-    if bytes_eq word (codes "C") then codes "RUN" else
-    if bytes_eq word (codes "B") then codes "BREAK" else
-    if bytes_eq word (codes "Q") then codes "QUIT" else word
+-- the word that a letter means at the beginning of a line, by some rows; another word as it is
+abbrev pub word_of_letter : List ℕ → List (List ℕ × List ℕ) → List ℕ
+word_of_letter word [] = word
+word_of_letter word (row ∷ rows) = if bytes_eq row.0 word then row.1 else word_of_letter word rows
 
 -- the first word of a line made whole
 abbrev pub first_whole : List ℕ → List ℕ
-first_whole word = whole false [] (word_of_letter word)
+first_whole word = whole false [] (word_of_letter word letters)
 
 -- another word made whole by the text before it; a name of the program stays as it is in a question, and after SHOW
 abbrev pub further_whole : ProgramTable → Bool → List ℕ → List ℕ → List ℕ

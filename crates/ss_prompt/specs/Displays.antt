@@ -1,12 +1,12 @@
 -- Questions that are answered at each stop.
 use Rattle.std.specs.Prelude.{ℕ, Bool, Option, Some, None, is_some, position, List}
 use Rattle.std.specs.Prelude.{[], ◌∷◌, ◌++◌, length, codes, decimal, if◌then◌else◌, nat_le}
-use Rattle.std.specs.List.{list_any, remove}
+use Rattle.std.specs.List.{remove}
 use Rattle.std.specs.Str.{bytes_eq}
 use Rattle.ss_prompt.specs.declared.shown.Shown.{Shown}
 use Rattle.ss_prompt.specs.declared.shown.Shown.TheVariants.{Asked, Text}
 use Rattle.ss_trace.specs.Question.{question_text}
-use Rattle.ss_prompt.specs.declared.displays.TheConstants.{MOST_DISPLAYS}
+use Rattle.ss_prompt.specs.declared.desk.displays.TheConstants.{MOST_DISPLAYS}
 use Rattle.ss_prompt.specs.PromptState.{PromptState, with_displays}
 
 -- what is printed at each stop, as it is asked
@@ -14,9 +14,13 @@ abbrev pub shown_text : Shown → List ℕ
 shown_text (Asked question) = question_text question
 shown_text (Text text section) = text
 
+-- the place among some of a question that is asked so
+abbrev pub place_among : List Shown → List ℕ → Option ℕ
+place_among displays text = position (λ d. bytes_eq (shown_text d) text) displays
+
 -- whether a question that is asked so is among some
 abbrev pub is_among : List Shown → List ℕ → Bool
-is_among displays text = list_any (λ d. bytes_eq (shown_text d) text) displays
+is_among displays text = is_some (place_among displays text)
 
 -- whether there is no room for one more
 abbrev pub is_full : List Shown → Bool
@@ -58,10 +62,6 @@ undisplay_said state = cleared_text state.displays
 abbrev pub undisplay_next : PromptState → PromptState
 undisplay_next state = with_displays state []
 
--- the place among some of a question that is asked so
-abbrev pub place_among : List Shown → List ℕ → Option ℕ
-place_among displays text = position (λ d. bytes_eq (shown_text d) text) displays
-
 -- the questions but the one in this place
 abbrev pub without_place : List Shown → Option ℕ → List Shown
 without_place displays None = displays
@@ -74,7 +74,7 @@ displays_without displays text = without_place displays (place_among displays te
 -- that a question is not answered at stops any more, or that it was not
 abbrev pub undisplay_text : List Shown → List ℕ → List ℕ
 undisplay_text displays text =
-    if is_some (place_among displays text) then codes "DISPLAY " ++ text ++ codes " CLEARED\n"
+    if is_among displays text then codes "DISPLAY " ++ text ++ codes " CLEARED\n"
     else codes "NO DISPLAY " ++ text ++ 10 ∷ []
 
 -- the answer to UNDISPLAY x

@@ -10,8 +10,10 @@ use Rattle.ss_debug.specs.Entities.{class_named}
 use Rattle.ss_debug.specs.declared.limits.TheConstants.{GREATEST_LINE}
 use Rattle.ss_debug.specs.CommandLines.{command_lines}
 use Rattle.ss_debug.specs.Command.{command_of}
+use Rattle.ss_state.specs.declared.limits.TheConstants.{LAST_POSITION}
 use Rattle.ss_state.specs.Run.{Input, run}
 use Rattle.ss_store.specs.Store.{number_of, exists}
+use Rattle.ss_trace.specs.Laws.{AreReadyBefore}
 use Rattle.ss_trace.specs.Question.{attribute_text, count_text}
 use Rattle.ss_debug.specs.Turn.{DebuggerState, show_answer, answer}
 use Rattle.ss_debug.specs.Turn.{debugger_state_after, debugger_state_after_lines, obeyed_lines}
@@ -20,6 +22,7 @@ use Rattle.ss_console.specs.Lines.{lines, kept_part}
 use Rattle.ss_console.specs.Laws.{answers}
 use Rattle.ss_prompt.specs.declared.commands.PromptCommand.{PromptCommand}
 use Rattle.ss_prompt.specs.declared.commands.PromptCommand.TheVariants.{Plain, ClearAll}
+use Rattle.ss_prompt.specs.Left.{position_near}
 use Rattle.ss_prompt.specs.Points.{is_movement, point_of, clears_all}
 use Rattle.ss_prompt.specs.declared.missing.Missing.{Missing}
 use Rattle.ss_prompt.specs.declared.missing.Missing.TheVariants as missing
@@ -122,6 +125,13 @@ abbrev pub OthersStandStill : Type 0
 OthersStandStill =
     (s : PromptState) (command : PromptCommand) → is_movement command ≡ false →
     (prompt_state_after s command).debugger.position ≡ s.debugger.position
+
+-- the state with which SHOW CHANGED compares is the one that was left, if that is kept: GO leads to
+-- each kept position after states that are ready, as all are that a debugger was at
+abbrev pub LeftStatesAreFound : Type 0
+LeftStatesAreFound =
+    (s : PromptState) (p : ℕ) → s.debugger.earliest ≤ p → p ≤ LAST_POSITION → AreReadyBefore s.input p →
+    position_near s p ≡ p
 
 -- a variable that no section has is missing in every state
 abbrev pub MissingVariablesAreAnsweredSo : Type 0

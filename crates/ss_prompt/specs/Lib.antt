@@ -9,6 +9,7 @@ pub mod Missing
 pub mod Places
 pub mod Cuts
 pub mod Completions
+pub mod ConsoleWords
 pub mod Asked
 pub mod Rows
 pub mod Sights
@@ -35,6 +36,7 @@ pub mod Help
 pub mod Advice
 pub mod Points
 pub mod Listed
+pub mod Left
 pub mod Misread
 pub mod Prompting
 pub mod Laws

@@ -114,11 +114,6 @@ abbrev pub history_with_rows : PromptState → Option (List ℕ × ℕ) → Opti
 history_with_rows state None = None
 history_with_rows state (Some x) = history_if state x.0 x.1 (meaning_in state x.0)
 
--- an answer is appended, or nothing, as there is one or none
-abbrev pub IsToldIf : Bool → List ℕ → List ℕ → Option (List ℕ) → Type 0
-IsToldIf told before after None = (told ≡ false) × (after ≡ before)
-IsToldIf told before after (Some answer) = (told ≡ true) × (after ≡ before ++ answer)
-
 -- an answer, or else another, or else that the line is no command
 abbrev pub told_or : Option (List ℕ) → Option (List ℕ) → List ℕ → List ℕ
 told_or (Some answer) other unread = answer

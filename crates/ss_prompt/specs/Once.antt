@@ -21,14 +21,19 @@ run_on = Move (Run GREATEST_BOUND)
 abbrev pub after_run : PromptState → DebuggerState
 after_run state = debugger_state_after state.input state.debugger run_on
 
--- a debugger after CLEAR of the line, if it was no break line before BREAK
-abbrev pub set_back : Input → DebuggerState → ℕ → Bool → DebuggerState
-set_back input debugger line true = debugger
-set_back input debugger line false = debugger_state_after input debugger (Clear line)
+-- a debugger after a command, unless the line was a break line before TBREAK
+abbrev pub after_unless : Input → DebuggerState → Command → Bool → DebuggerState
+after_unless input debugger command true = debugger
+after_unless input debugger command false = debugger_state_after input debugger command
+
+-- the answer to the command then
+abbrev pub said_unless : Input → DebuggerState → Command → Bool → List ℕ
+said_unless input debugger command true = []
+said_unless input debugger command false = answer input debugger command
 
 -- the state at the stop
 abbrev pub once_stop : PromptState → ℕ → Bool → PromptState
-once_stop state line was = with_debugger state (set_back state.input (after_run state) line was)
+once_stop state line was = with_debugger state (after_unless state.input (after_run state) (Clear line) was)
 
 -- the answer to RUN, and the text at its stop
 abbrev pub once_stop_said : PromptState → ℕ → Bool → List ℕ
@@ -44,24 +49,14 @@ IsRunRefused state line was after =
 
 -- ---- TBREAK
 
--- a debugger after BREAK of the line, if it is no break line: one that is keeps its condition
-abbrev pub set_unless : Input → DebuggerState → ℕ → Bool → DebuggerState
-set_unless input debugger line true = debugger
-set_unless input debugger line false = debugger_state_after input debugger (Break line)
-
--- the answer to that BREAK
-abbrev pub set_said_unless : Input → DebuggerState → ℕ → Bool → List ℕ
-set_said_unless input debugger line true = []
-set_said_unless input debugger line false = answer input debugger (Break line)
-
 -- whether the line is a break line before TBREAK
 abbrev pub was_taken : PromptState → ℕ → Bool
 was_taken state line = is_break_line state.debugger.breaks line
 
--- the state after BREAK of the line
+-- the state after BREAK of the line, if it is no break line: one that is keeps its condition
 abbrev pub once_set : PromptState → ℕ → PromptState
 once_set state line =
-    with_debugger state (set_unless state.input state.debugger line (was_taken state line))
+    with_debugger state (after_unless state.input state.debugger (Break line) (was_taken state line))
 
 -- whether the line is a break line then: BREAK takes 1,000 lines at most
 abbrev pub is_taken : PromptState → ℕ → Bool
@@ -81,7 +76,7 @@ once_next state line = with_debugger state (once_left state line)
 abbrev pub once_said : PromptState → ℕ → List ℕ
 once_said state line =
     if is_taken state line then once_stop_said (once_set state line) line (was_taken state line)
-    else set_said_unless state.input state.debugger line (was_taken state line)
+    else said_unless state.input state.debugger (Break line) (was_taken state line)
 
 -- if memory was refused: for BREAK, after it, or after it took the line
 unfoldable pub IsOnceRefused : PromptState → ℕ → PromptState → Type 0

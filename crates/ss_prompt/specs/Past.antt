@@ -1,6 +1,6 @@
 -- The text of the history on a fault at which a movement stops: the state in which the missing
 -- entity ended, or in which the list that a loop names changed last.
-use Rattle.std.specs.Prelude.{ℕ, ◌≡◌, nat_lt, ◌⊎◌, List, [], ◌++◌, codes, decimal, if◌then◌else◌, Option, Some, None}
+use Rattle.std.specs.Prelude.{ℕ, Bool, true, false, ◌≡◌, nat_lt, ◌⊎◌, List, [], ◌++◌, codes, decimal, if◌then◌else◌, Option, Some, None}
 use Rattle.ss_state.specs.Run.{Input, run}
 use Rattle.ss_debug.specs.declared.commands.Question.TheVariants.{Entity, Set}
 use Rattle.ss_debug.specs.Answer.{state_line}
@@ -17,33 +17,38 @@ use Rattle.ss_prompt.specs.PromptState.{PromptState}
 unfoldable pub number_phrase : List ℕ → ℕ → List ℕ → List ℕ
 number_phrase head n tail = head ++ decimal n ++ tail
 
--- that an entity was in no state that is kept
-abbrev pub no_life_text : ℕ → List ℕ
-no_life_text earliest = number_phrase (codes " has not lived since STATE ") earliest (codes ".\n")
+-- what is told of the last change: of a list, or of an entity that is missing
+abbrev pub change_words : Bool → List ℕ
+change_words true = codes " changed last in "
+change_words false = codes " ended in "
 
--- that an entity was in no state that is kept; if all steps are kept, that it was never made
-unfoldable pub no_end_text : ℕ → List ℕ
-no_end_text earliest = if nat_lt 0 earliest then no_life_text earliest else codes " was never made.\n"
+-- that a list changed in no step that is kept, or that an entity was in no state that is kept; if all steps are kept, that
+-- it was never made
+unfoldable pub no_change_text : Bool → ℕ → List ℕ
+no_change_text true earliest = number_phrase (codes " has not changed since STATE ") earliest (codes ".\n")
+no_change_text false earliest =
+    if nat_lt 0 earliest then number_phrase (codes " has not lived since STATE ") earliest (codes ".\n")
+    else codes " was never made.\n"
 
--- the end of a missing entity: the state of the last step at which it changed, if there is one
-abbrev pub end_text : Input → List ℕ → ℕ → Option ℕ → List ℕ
-end_text input words earliest None = words ++ no_end_text earliest
-end_text input words earliest (Some q) = words ++ codes " ended in " ++ state_line input q
+-- the state of the last step at which a list or a missing entity changed, if there is one
+abbrev pub last_change_text : Input → List ℕ → Bool → ℕ → Option ℕ → List ℕ
+last_change_text input words is_list earliest None = words ++ no_change_text is_list earliest
+last_change_text input words is_list earliest (Some q) = words ++ change_words is_list ++ state_line input q
 
--- that a list changed in no step that is kept
-unfoldable pub no_list_change_text : ℕ → List ℕ
-no_list_change_text earliest = codes " has not changed since STATE " ++ decimal earliest ++ codes ".\n"
+-- whether a question is on a list; none if it is neither on one nor on an entity
+abbrev pub asks_list : Question → Option Bool
+asks_list (Shown (Entity name x)) = Some false
+asks_list (Shown (Set name owner)) = Some true
+asks_list _ = None
 
--- when a list changed last
-abbrev pub list_change_text : Input → List ℕ → ℕ → Option ℕ → List ℕ
-list_change_text input words earliest None = words ++ no_list_change_text earliest
-list_change_text input words earliest (Some q) = words ++ codes " changed last in " ++ state_line input q
+-- that text, if it is known whether a list or an entity is asked for
+abbrev pub change_told : Input → List ℕ → Option Bool → ℕ → Option ℕ → List ℕ
+change_told input words None earliest step = []
+change_told input words (Some is_list) earliest step = last_change_text input words is_list earliest step
 
 -- that text for an entity or a list asked with these words, by its last change; else nothing
 abbrev pub change_text : Input → List ℕ → Question → ℕ → Option ℕ → List ℕ
-change_text input words (Shown (Entity name x)) earliest step = end_text input words earliest step
-change_text input words (Shown (Set name owner)) earliest step = list_change_text input words earliest step
-change_text input words _ earliest step = []
+change_text input words question earliest step = change_told input words (asks_list question) earliest step
 
 -- the text of the history on a question, if there is one
 abbrev pub question_text : PromptState → List ℕ → Option Question → List ℕ

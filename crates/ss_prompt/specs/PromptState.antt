@@ -16,7 +16,7 @@ use Rattle.ss_prompt.specs.Names.{warnings_told}
 use Rattle.ss_faults.specs.Sentence.{fault_text}
 
 -- a debugger in the run of an input, its model and its lines, the questions of each stop, the line
--- after which LIST goes on, and the text of the data
+-- after which LIST goes on, the position that was left, and the text of the data
 pub record PromptState : Type 0 where
   -- the bytes of the model
   pub model : List ℕ
@@ -30,13 +30,15 @@ pub record PromptState : Type 0 where
   pub displays : List Shown
   -- the last line that LIST printed, if no movement came after it
   pub listed : Option ℕ
+  -- the position that the last movement left, if all that it changed is shown
+  pub left : Option ℕ
   -- the text of the data, if it is known
   pub data_text : Option (List ℕ)
   -- the symbol table of the model, if it is kept
   pub symbols : Option Symbols
 
 -- the state of the prompt for a debugger with this model, these lines, these questions, this text of
--- the data and this symbol table; LIST printed nothing
+-- the data and this symbol table; LIST printed nothing, and no position was left
 abbrev pub prompt_state_of : DebuggerView → List ℕ → List (List ℕ) → List Shown → Option (List ℕ) → Option Symbols →
     PromptState
 prompt_state_of debugger model lines displays data_text symbols = record {
@@ -46,6 +48,7 @@ prompt_state_of debugger model lines displays data_text symbols = record {
   debugger = debugger_state_of debugger;
   displays = displays;
   listed = None;
+  left = None;
   data_text = data_text;
   symbols = symbols;
 }
@@ -60,6 +63,8 @@ pub record PromptDeskView : Type 0 where
   pub displays : List Shown
   -- the last line that LIST printed, if no movement came after it
   pub listed : Option ℕ
+  -- the position that the last movement left, if all that it changed is shown
+  pub left : Option ℕ
   -- the text of the data, if it is known
   pub data_text : Option (List ℕ)
   -- the symbol table of the model, if it is kept
@@ -73,6 +78,7 @@ with_questions desk displays =
       lines = desk.lines;
       displays = displays;
       listed = desk.listed;
+      left = desk.left;
       data_text = desk.data_text;
       symbols = desk.symbols;
     }
@@ -85,6 +91,20 @@ noting desk listed =
       lines = desk.lines;
       displays = desk.displays;
       listed = listed;
+      left = desk.left;
+      data_text = desk.data_text;
+      symbols = desk.symbols;
+    }
+
+-- the same desk, with another position that was left
+abbrev pub leaving : PromptDeskView → Option ℕ → PromptDeskView
+leaving desk left =
+    record {
+      model = desk.model;
+      lines = desk.lines;
+      displays = desk.displays;
+      listed = desk.listed;
+      left = left;
       data_text = desk.data_text;
       symbols = desk.symbols;
     }
@@ -98,6 +118,7 @@ state_at debugger desk = record {
   debugger = debugger_state_of debugger;
   displays = desk.displays;
   listed = desk.listed;
+  left = desk.left;
   data_text = desk.data_text;
   symbols = desk.symbols;
 }
@@ -118,6 +139,7 @@ with_debugger state debugger =
       debugger = debugger;
       displays = state.displays;
       listed = state.listed;
+      left = state.left;
       data_text = state.data_text;
       symbols = state.symbols;
     }
@@ -132,6 +154,7 @@ with_displays state displays =
       debugger = state.debugger;
       displays = displays;
       listed = state.listed;
+      left = state.left;
       data_text = state.data_text;
       symbols = state.symbols;
     }
@@ -146,20 +169,36 @@ with_listed state listed =
       debugger = state.debugger;
       displays = state.displays;
       listed = listed;
+      left = state.left;
       data_text = state.data_text;
       symbols = state.symbols;
     }
 
--- a state of the prompt in which LIST does not go on
-abbrev pub unlisted : PromptState → PromptState
-unlisted state = with_listed state None
+-- a state of the prompt, with another position that was left
+abbrev pub with_left : PromptState → Option ℕ → PromptState
+with_left state left =
+    record {
+      model = state.model;
+      lines = state.lines;
+      input = state.input;
+      debugger = state.debugger;
+      displays = state.displays;
+      listed = state.listed;
+      left = left;
+      data_text = state.data_text;
+      symbols = state.symbols;
+    }
+
+-- a state of the prompt in which LIST does not go on, and no position was left
+abbrev pub as_lent : PromptState → PromptState
+as_lent state = with_left (with_listed state None) None
 
 -- all but the state of the debugger is the same
 abbrev pub IsSameBeside : PromptState → PromptState → Type 0
 IsSameBeside state after =
     (after.model ≡ state.model) × (after.lines ≡ state.lines) × (after.input ≡ state.input)
     × (after.displays ≡ state.displays) × (after.listed ≡ state.listed) × (after.data_text ≡ state.data_text)
-    × (after.symbols ≡ state.symbols)
+    × (after.symbols ≡ state.symbols) × (after.left ≡ state.left)
 
 -- the line of the place of a state, as it is written in the model
 abbrev pub source_line : PromptState → List ℕ

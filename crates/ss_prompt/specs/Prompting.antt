@@ -15,7 +15,7 @@ use Rattle.ss_prompt.specs.declared.commands.PromptCommand.TheVariants.{Value, U
 use Rattle.ss_prompt.specs.declared.commands.PromptCommand.TheVariants.{Ask, See, Why, History, Display, Undisplay}
 use Rattle.ss_prompt.specs.declared.commands.PromptCommand.TheVariants.{Names, Warnings, Help, Cause, Reads}
 use Rattle.ss_prompt.specs.Reading.{plain_command_of, prompt_command_of}
-use Rattle.ss_prompt.specs.PromptState.{PromptState, with_listed}
+use Rattle.ss_prompt.specs.PromptState.{PromptState, with_listed, with_left}
 use Rattle.ss_prompt.specs.Plain.{plain_next, plain_said, IsPlainRefused}
 use Rattle.ss_prompt.specs.Travel.{travel_next, travel_said, IsTravelRefused}
 use Rattle.ss_prompt.specs.Once.{once_said, once_next, IsOnceRefused}
@@ -32,7 +32,7 @@ use Rattle.ss_prompt.specs.Displays.{undisplay_one_said, undisplay_one_next}
 use Rattle.ss_prompt.specs.Sights.{sight_said}
 use Rattle.ss_prompt.specs.Histories.{why_said, history_said, HasLookedBack}
 use Rattle.ss_prompt.specs.Causes.{cause_said, cause_next, IsCauseRefused}
-use Rattle.ss_prompt.specs.Stops.{changed_said, HasLookedBeside}
+use Rattle.ss_prompt.specs.Left.{left_after, changed_said, IsChangedRefused}
 use Rattle.ss_prompt.specs.Names.{names_said, warnings_said}
 use Rattle.ss_prompt.specs.Advice.{unread_text}
 use Rattle.ss_prompt.specs.Valued.{value_said}
@@ -76,7 +76,7 @@ prompt_answer state (Names name) = names_said state.model name
 prompt_answer state Warnings = warnings_said state.input.program state.model
 prompt_answer state (Help word) = help_said word
 
--- the state after a command, but for the line after which LIST goes on
+-- the state after a command, but for the line after which LIST goes on and the position that was left
 unfoldable pub state_led : PromptState → PromptCommand → PromptState
 state_led state (Plain command) = plain_next state command
 state_led state (Travel m) = travel_next state m
@@ -95,7 +95,8 @@ state_led state _ = state
 
 -- the state after a command
 unfoldable pub prompt_state_after : PromptState → PromptCommand → PromptState
-prompt_state_after state command = with_listed (state_led state command) (listed_after state command)
+prompt_state_after state command =
+    with_left (with_listed (state_led state command) (listed_after state command)) (left_after state command)
 
 -- whether a command ends the dialogue: only QUIT does
 abbrev pub is_quit : PromptCommand → Bool
@@ -105,8 +106,8 @@ is_quit _ = false
 -- if memory was refused: a movement was made in part or whole, and the debugger is then perhaps one
 -- step away, or, at a fault on which the history has a text, at an earlier state; the line of
 -- TBREAK is perhaps still a break line; CLEAR cleared perhaps the first break lines; WHY, HISTORY and
--- READS left the debugger perhaps at an earlier state, SHOW CHANGED one step away; other commands changed
--- nothing
+-- READS left the debugger perhaps at an earlier state, SHOW CHANGED one step away or on the way to the
+-- position that was left; other commands changed nothing
 unfoldable pub IsRefused : PromptState → PromptCommand → PromptState → Type 0
 IsRefused state (Plain command) after = IsPlainRefused state command after
 IsRefused state (Travel m) after = IsTravelRefused state m after
@@ -114,7 +115,7 @@ IsRefused state (Once line) after = IsOnceRefused state line after
 IsRefused state (Until way text numbered) after = IsUntilRefused state way text after
 IsRefused state (Meant manner text numbered) after = IsMeantRefused state manner text after
 IsRefused state ClearAll after = IsClearRefused state after
-IsRefused state Changed after = HasLookedBeside state after
+IsRefused state Changed after = IsChangedRefused state after
 IsRefused state (Why x) after = HasLookedBack state after
 IsRefused state (Cause command) after = IsCauseRefused state command after
 IsRefused state (History x rows) after = HasLookedBack state after

@@ -1,7 +1,7 @@
 -- The command that a line of the prompt gives.
 use Rattle.std.specs.Prelude.{ℕ, Bool, false, not, List, [], ◌∷◌, length, map, drop, Option, Some, None}
 use Rattle.std.specs.Prelude.{if◌then◌else◌, nat_lt, codes}
-use Rattle.std.specs.Prelude.{nat_eq, nat_le, is_some, Result, Ok, Err}
+use Rattle.std.specs.Prelude.{nat_eq, nat_le, is_some, option_map, Result, Ok, Err}
 use Rattle.std.specs.Char.{to_ascii_uppercase}
 use Rattle.std.specs.Str.{bytes_eq}
 use Rattle.ss_console.specs.declared.lines.TheConstants.{LONGEST_LINE}
@@ -19,13 +19,14 @@ use Rattle.ss_trace.specs.declared.question.Question.TheVariants.{Shown}
 use Rattle.ss_program.specs.Program.{ProgramTable}
 use Rattle.ss_prompt.specs.declared.histories.TheConstants.{ROWS_UNLESS_SAID}
 use Rattle.ss_prompt.specs.declared.missing.Missing.{Missing as Unknown}
+use Rattle.ss_prompt.specs.declared.sight.Sight.{Sight}
 use Rattle.ss_prompt.specs.declared.sight.Sight.TheVariants.{Living}
 use Rattle.ss_prompt.specs.Missing.{asked_of_program, bare_asked, is_declared}
 use Rattle.ss_prompt.specs.Advice.{verb_of, has_number}
 use Rattle.ss_prompt.specs.Places.{next_line}
 use Rattle.ss_prompt.specs.Words.{command_or_bad, command_behind, line_behind, only_name_of, after_words}
 use Rattle.ss_prompt.specs.Table.{Form, forms, form_words}
-use Rattle.ss_prompt.specs.Asked.{own_asked, asked_of, question_in}
+use Rattle.ss_prompt.specs.Asked.{first_there, own_asked, asked_of, question_in}
 use Rattle.ss_prompt.specs.Histories.{with_rows}
 use Rattle.ss_prompt.specs.declared.causes.CauseCommand.TheVariants as causes
 use Rattle.ss_prompt.specs.Sections.{line_of_section, taken_line}
@@ -58,39 +59,24 @@ use Rattle.ss_prompt.specs.declared.commands.PromptCommand.TheVariants.{Reads}
 abbrev pub bad : PromptCommand
 bad = Plain Bad
 
--- the command that is made of the thing that was read, or a bad one
-abbrev pub made_or_bad : {A : Type 0} → (A → PromptCommand) → Option A → PromptCommand
-made_or_bad make None = bad
-made_or_bad make (Some x) = make x
-
 -- a command after which no word may come
-abbrev pub alone : PromptCommand → List (List ℕ) → PromptCommand
-alone command [] = command
-alone command (word ∷ more) = bad
+abbrev pub alone : PromptCommand → List (List ℕ) → Option PromptCommand
+alone command [] = Some command
+alone command (word ∷ more) = None
 
--- OVER: as often as STEP makes steps
-abbrev pub over_of : Command → PromptCommand
-over_of (Move (Step n)) = Travel (Over n)
-over_of _ = bad
+-- a number of steps, as STEP takes it
+abbrev pub steps_in : Command → Option ℕ
+steps_in (Move (Step n)) = Some n
+steps_in _ = None
 
--- BACK OVER: as often as STEP makes steps
-abbrev pub back_over_of : Command → PromptCommand
-back_over_of (Move (Step n)) = Travel (BackOver n)
-back_over_of _ = bad
-
--- BACK TO: a time as RUN TO takes it
-abbrev pub back_to_of : Command → PromptCommand
-back_to_of (Move (RunTo time)) = Travel (BackTo time)
-back_to_of _ = bad
+-- a time or a position, as RUN TO takes it
+abbrev pub time_in : Command → Option ℕ
+time_in (Move (RunTo time)) = Some time
+time_in _ = None
 
 -- a movement to a state in which a condition holds; the words of the condition may be none
-abbrev pub until_command : Way → List (List ℕ) → PromptCommand
-until_command way words = made_or_bad (λ text. Until way text (has_number words)) (line_behind [] words)
-
--- GO: a position is a number as RUN TO takes it
-abbrev pub go_of : Command → PromptCommand
-go_of (Move (RunTo position)) = Travel (Go position)
-go_of _ = bad
+abbrev pub until_command : Way → List (List ℕ) → Option PromptCommand
+until_command way words = option_map (λ text. Until way text (has_number words)) (line_behind [] words)
 
 -- a command on a question as a program has its names, or which of them it hasn't
 abbrev pub asked_command : (AskedQuestion → PromptCommand) → Result AskedQuestion Unknown → PromptCommand
@@ -107,26 +93,26 @@ made_by manners.Display x = Display x
 made_by manners.Undisplay x = UndisplayOne x
 
 -- a command on what a text of some words asks
-abbrev pub text_command : Manner → List (List ℕ) → PromptCommand
-text_command manner words = made_or_bad (λ text. Meant manner text (has_number words)) (line_behind [] words)
+abbrev pub text_command : Manner → List (List ℕ) → Option PromptCommand
+text_command manner words = option_map (λ text. Meant manner text (has_number words)) (line_behind [] words)
 
 -- a command on a question, if there is one, or else on a text
-abbrev pub question_or_text : Manner → List (List ℕ) → Option (Result AskedQuestion Unknown) → PromptCommand
-question_or_text manner words (Some asked) = asked_command (made_by manner) asked
+abbrev pub question_or_text : Manner → List (List ℕ) → Option (Result AskedQuestion Unknown) → Option PromptCommand
+question_or_text manner words (Some asked) = Some (asked_command (made_by manner) asked)
 question_or_text manner words None = text_command manner words
 
 -- a command on the question that some words ask, or else on a text
-abbrev pub manner_command : ProgramTable → Manner → List (List ℕ) → PromptCommand
+abbrev pub manner_command : ProgramTable → Manner → List (List ℕ) → Option PromptCommand
 manner_command program manner words = question_or_text manner words (question_in program words)
 
 -- HISTORY of the longest question whose names the program has, else the longest's missing name, else
 -- another command
 abbrev pub history_by : Option (Result AskedQuestion Unknown) → Option (Result AskedQuestion Unknown × ℕ) →
-    PromptCommand → PromptCommand
-history_by (Some (Ok x)) shorter other = History x ROWS_UNLESS_SAID
-history_by longest (Some (Ok x, rows)) other = History x rows
-history_by (Some (Err m)) shorter other = Missing m
-history_by None (Some (Err m, rows)) other = Missing m
+    Option PromptCommand → Option PromptCommand
+history_by (Some (Ok x)) shorter other = Some (History x ROWS_UNLESS_SAID)
+history_by longest (Some (Ok x, rows)) other = Some (History x rows)
+history_by (Some (Err m)) shorter other = Some (Missing m)
+history_by None (Some (Err m, rows)) other = Some (Missing m)
 history_by None None other = other
 
 -- whether a question is on an entity of no class: then its number is one of rows
@@ -139,66 +125,67 @@ abbrev pub longest_in : ProgramTable → List (List ℕ) → Option (Result Aske
 longest_in program words = if is_rows_of program (asked_of words) then None else question_in program words
 
 -- the words after HISTORY: a question, and perhaps a number of rows, or else a text
-unfoldable pub history_command : ProgramTable → List (List ℕ) → PromptCommand
+unfoldable pub history_command : ProgramTable → List (List ℕ) → Option PromptCommand
 history_command program words =
     history_by (longest_in program words) (with_rows program words) (text_command manners.History words)
 
 -- a bare name: the entities of a class, or else a set or a variable; another may be an attribute
-abbrev pub bare_command : ProgramTable → List ℕ → PromptCommand
+abbrev pub bare_command : ProgramTable → List ℕ → Option PromptCommand
 bare_command program name =
-    if is_some (class_named program name) then See (Living name) else
-    if is_declared program name then Ask (bare_asked program name) else bad
+    if is_some (class_named program name) then Some (See (Living name)) else
+    if is_declared program name then Some (Ask (bare_asked program name)) else None
 
 -- a sight; a bare name is read by its declaration
-abbrev pub seen_command : ProgramTable → PromptCommand → PromptCommand
-seen_command program (See (Living name)) = bare_command program name
-seen_command program command = command
+abbrev pub seen_command : ProgramTable → Option Sight → Option PromptCommand
+seen_command program None = None
+seen_command program (Some (Living name)) = bare_command program name
+seen_command program (Some sight) = Some (See sight)
 
 -- the rows that the words after SHOW ask for, or else another sight
-abbrev pub rows_or_sight : ProgramTable → Option PromptCommand → List (List ℕ) → PromptCommand
-rows_or_sight program (Some rows) words = rows
-rows_or_sight program None words = seen_command program (made_or_bad See (sight_of words))
+abbrev pub rows_or_sight : ProgramTable → Option PromptCommand → List (List ℕ) → Option PromptCommand
+rows_or_sight program (Some rows) words = Some rows
+rows_or_sight program None words = seen_command program (sight_of words)
 
 -- the words after SHOW: a question, rows or another sight
-abbrev pub show_command : ProgramTable → Option AskedQuestion → List (List ℕ) → PromptCommand
-show_command program (Some x) words = asked_command Ask (asked_of_program program x)
+abbrev pub show_command : ProgramTable → Option AskedQuestion → List (List ℕ) → Option PromptCommand
+show_command program (Some x) words = Some (asked_command Ask (asked_of_program program x))
 show_command program None words = rows_or_sight program (rows_command program words) words
 
 -- LIST: a line as BREAK takes it, or the name of a section
-abbrev pub lines_of : Command → Option (List ℕ) → PromptCommand
-lines_of (Break line) name = Lines (Some line)
-lines_of _ name = made_or_bad SectionLines name
+abbrev pub lines_of : Command → Option (List ℕ) → Option PromptCommand
+lines_of (Break line) name = Some (Lines (Some line))
+lines_of _ name = option_map SectionLines name
 
 -- the lines from one to another, each as BREAK takes it
-abbrev pub lines_between : Command → Command → PromptCommand
-lines_between (Break from) (Break to) = if nat_le from to then LinesBetween from to else bad
-lines_between _ _ = bad
+abbrev pub lines_between : Command → Command → Option PromptCommand
+lines_between (Break from) (Break to) = if nat_le from to then Some (LinesBetween from to) else None
+lines_between _ _ = None
 
 -- the words after LIST
-abbrev pub list_command : List (List ℕ) → PromptCommand
-list_command [] = Lines None
+abbrev pub list_command : List (List ℕ) → Option PromptCommand
+list_command [] = Some (Lines None)
 list_command (word ∷ []) = lines_of (command_behind (codes "BREAK") (word ∷ [])) (only_name_of (word ∷ []))
 list_command (word ∷ next ∷ rest) =
     lines_between (command_behind (codes "BREAK") (word ∷ [])) (command_behind (codes "BREAK") (next ∷ rest))
 
 -- the words after NAMES
-abbrev pub names_command : List (List ℕ) → PromptCommand
-names_command [] = Names None
-names_command (word ∷ rest) = made_or_bad (λ name. Names (Some name)) (only_name_of (word ∷ rest))
+abbrev pub names_command : List (List ℕ) → Option PromptCommand
+names_command [] = Some (Names None)
+names_command (word ∷ rest) = option_map (λ name. Names (Some name)) (only_name_of (word ∷ rest))
 
 -- the words after HELP: the first word counts
-abbrev pub help_command : List (List ℕ) → PromptCommand
-help_command [] = Help None
-help_command (word ∷ rest) = made_or_bad (λ name. Help (Some name)) (only_name_of (word ∷ []))
+abbrev pub help_command : List (List ℕ) → Option PromptCommand
+help_command [] = Some (Help None)
+help_command (word ∷ rest) = option_map (λ name. Help (Some name)) (only_name_of (word ∷ []))
 
 -- the words after CLEAR: none, or the name of a section
-abbrev pub clear_command : List (List ℕ) → PromptCommand
-clear_command [] = ClearAll
-clear_command (word ∷ rest) = made_or_bad ClearSection (only_name_of (word ∷ rest))
+abbrev pub clear_command : List (List ℕ) → Option PromptCommand
+clear_command [] = Some ClearAll
+clear_command (word ∷ rest) = option_map ClearSection (only_name_of (word ∷ rest))
 
 -- the words after UNDISPLAY: none, or a question
-abbrev pub undisplay_command : ProgramTable → List (List ℕ) → PromptCommand
-undisplay_command program [] = Undisplay
+abbrev pub undisplay_command : ProgramTable → List (List ℕ) → Option PromptCommand
+undisplay_command program [] = Some Undisplay
 undisplay_command program (word ∷ rest) = manner_command program manners.Undisplay (word ∷ rest)
 
 -- a command on a line with a place, or the next one that has one
@@ -212,32 +199,33 @@ once_in (Some line) name = Once line
 once_in None name = BreakSection name
 
 -- TBREAK: a line as BREAK takes it, or the name of a section
-abbrev pub once_of : ProgramTable → Command → Option (List ℕ) → PromptCommand
-once_of program (Break line) name = placed (Once line) line (next_line program line)
-once_of program _ name = made_or_bad (λ n. once_in (taken_line (line_of_section program n)) n) name
+abbrev pub once_of : ProgramTable → Command → Option (List ℕ) → Option PromptCommand
+once_of program (Break line) name = Some (placed (Once line) line (next_line program line))
+once_of program _ name = option_map (λ n. once_in (taken_line (line_of_section program n)) n) name
 
 -- BREAK of a place, with a condition that some words may be
-abbrev pub when_at : BreakPlace → List (List ℕ) → Bool → PromptCommand
-when_at place words numbered = made_or_bad (λ text. BreakWhen place text numbered) (line_behind [] words)
+abbrev pub when_at : BreakPlace → List (List ℕ) → Bool → Option PromptCommand
+when_at place words numbered = option_map (λ text. BreakWhen place text numbered) (line_behind [] words)
 
 -- BREAK with a condition, of a line as BREAK takes it, or else of the section of a name
-abbrev pub when_by : ProgramTable → Command → Option (List ℕ) → List (List ℕ) → Bool → PromptCommand
+abbrev pub when_by : ProgramTable → Command → Option (List ℕ) → List (List ℕ) → Bool → Option PromptCommand
 when_by program (Break line) name words numbered =
-    placed (when_at (place.Line line) words numbered) line (next_line program line)
-when_by program _ name words numbered = made_or_bad (λ n. when_at (place.Section n) words numbered) name
+    option_map (λ command. placed command line (next_line program line)) (when_at (place.Line line) words numbered)
+when_by program _ None words numbered = None
+when_by program _ (Some name) words numbered = when_at (place.Section name) words numbered
 
 -- BREAK of the line or the section that a word is, with a condition
-abbrev pub when_command : ProgramTable → List ℕ → List (List ℕ) → Bool → PromptCommand
+abbrev pub when_command : ProgramTable → List ℕ → List (List ℕ) → Bool → Option PromptCommand
 when_command program word words numbered =
     when_by program (command_behind (codes "BREAK") (word ∷ [])) (only_name_of (word ∷ [])) words numbered
 
 -- the words after BREAK that is none of docs/DEBUGGER.md: a section, or a place, WHEN and a condition
-abbrev pub break_words_command : ProgramTable → List (List ℕ) → PromptCommand
-break_words_command program [] = bad
-break_words_command program (word ∷ []) = made_or_bad BreakSection (only_name_of (word ∷ []))
+abbrev pub break_words_command : ProgramTable → List (List ℕ) → Option PromptCommand
+break_words_command program [] = None
+break_words_command program (word ∷ []) = option_map BreakSection (only_name_of (word ∷ []))
 break_words_command program (word ∷ when ∷ words) =
     if bytes_eq when (codes "WHEN") then when_command program word words (has_number (word ∷ when ∷ words))
-    else made_or_bad BreakSection (only_name_of (word ∷ when ∷ words))
+    else option_map BreakSection (only_name_of (word ∷ when ∷ words))
 
 -- a command of one or two words
 abbrev pub single : Single → PromptCommand
@@ -258,21 +246,22 @@ single singles.Sets = See sights.Sets
 single singles.Sections = See sights.Sections
 
 -- what a row makes of the words after its own
-abbrev pub made_of : ProgramTable → Makes → List (List ℕ) → PromptCommand
-made_of program makes.Elsewhere words = bad
-made_of program makes.Asked words = bad
-made_of program makes.Also words = bad
+abbrev pub made_of : ProgramTable → Makes → List (List ℕ) → Option PromptCommand
+made_of program makes.Elsewhere words = None
+made_of program makes.Asked words = None
+made_of program makes.Also words = None
 made_of program (makes.Alone command) words = alone (single command) words
-made_of program makes.Over words = over_of (command_behind (codes "STEP") words)
-made_of program makes.BackOver words = back_over_of (command_behind (codes "STEP") words)
-made_of program makes.BackTo words = back_to_of (command_behind (codes "RUN TO") words)
-made_of program makes.Go words = go_of (command_behind (codes "RUN TO") words)
+made_of program makes.Over words = option_map (λ n. Travel (Over n)) (steps_in (command_behind (codes "STEP") words))
+made_of program makes.BackOver words =
+    option_map (λ n. Travel (BackOver n)) (steps_in (command_behind (codes "STEP") words))
+made_of program makes.BackTo words = option_map (λ time. Travel (BackTo time)) (time_in (command_behind (codes "RUN TO") words))
+made_of program makes.Go words = option_map (λ p. Travel (Go p)) (time_in (command_behind (codes "RUN TO") words))
 made_of program (makes.Until way) words = until_command way words
 made_of program (makes.Question manner) words = manner_command program manner words
 made_of program makes.History words = history_command program words
 made_of program makes.Undisplay words = undisplay_command program words
 made_of program makes.Show words = show_command program (own_asked words) words
-made_of program makes.Places words = made_or_bad See (places_of (command_behind (codes "SHOW") words))
+made_of program makes.Places words = option_map See (places_of (command_behind (codes "SHOW") words))
 made_of program makes.List words = list_command words
 made_of program makes.Break words = break_words_command program words
 made_of program makes.Clear words = clear_command words
@@ -281,24 +270,19 @@ made_of program makes.Names words = names_command words
 made_of program makes.Help words = help_command words
 
 -- that, if a line begins with the words of the row
-abbrev pub made_after : ProgramTable → Makes → Option (List (List ℕ)) → PromptCommand
-made_after program what None = bad
+abbrev pub made_after : ProgramTable → Makes → Option (List (List ℕ)) → Option PromptCommand
+made_after program what None = None
 made_after program what (Some words) = made_of program what words
 
--- a command, or if it is none, another one
-abbrev pub made_or : PromptCommand → PromptCommand → PromptCommand
-made_or (Plain Bad) other = other
-made_or command other = command
-
 -- the command that the last of some rows makes that makes one of the words of a line, or else another one
-abbrev pub own_by : ProgramTable → List (List ℕ) → List Form → PromptCommand → PromptCommand
+abbrev pub own_by : ProgramTable → List (List ℕ) → List Form → Option PromptCommand → Option PromptCommand
 own_by program words [] other = other
 own_by program words (form ∷ rows) other =
-    own_by program words rows (made_or (made_after program form.1 (after_words (form_words form) words)) other)
+    own_by program words rows (first_there (made_after program form.1 (after_words (form_words form) words)) other)
 
 -- the command in the words of a line that is none of docs/DEBUGGER.md
-unfoldable pub own_in_words : ProgramTable → List (List ℕ) → PromptCommand
-own_in_words program words = own_by program words forms bad
+unfoldable pub own_in_words : ProgramTable → List (List ℕ) → Option PromptCommand
+own_in_words program words = own_by program words forms None
 
 -- BREAK of a line with a place, or the next one that has one
 abbrev pub break_command : ℕ → Option ℕ → PromptCommand
@@ -315,9 +299,9 @@ or_own program Bad own = own
 or_own program command own = plain_meant program command
 
 -- a command, or the advice on words that are none
-abbrev pub advised : List (List ℕ) → PromptCommand → PromptCommand
-advised words (Plain Bad) = Unread (verb_of words) (has_number words)
-advised words command = command
+abbrev pub advised : List (List ℕ) → Option PromptCommand → PromptCommand
+advised words None = Unread (verb_of words) (has_number words)
+advised words (Some command) = command
 
 -- the command in a line whose words are whole, if it is not too long
 abbrev pub own_of_whole : ProgramTable → Option (List ℕ) → PromptCommand

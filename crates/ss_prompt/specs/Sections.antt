@@ -1,10 +1,10 @@
 -- Sections and their lines.
-use Rattle.std.specs.Prelude.{ℕ, ◌-◌, List, [], ◌∷◌, ◌++◌, length, codes, Option, Some, None, option_map, position}
+use Rattle.std.specs.Prelude.{ℕ, Bool, true, false, ◌-◌, List, [], ◌∷◌, ◌++◌, length, codes, Option, Some, None, option_map, position}
 use Rattle.std.specs.Prelude.{if◌then◌else◌, nat_le, slice_get}
 use Rattle.std.specs.Str.{bytes_eq}
 use Rattle.ss_program.specs.Program.{ProgramTable, places_of, spot_at}
 use Rattle.ss_debug.specs.declared.commands.Command.{Command}
-use Rattle.ss_debug.specs.declared.commands.Command.TheVariants.{Bad}
+use Rattle.ss_debug.specs.declared.commands.Command.TheVariants.{Bad, Break, Clear}
 use Rattle.ss_debug.specs.Move.{spot_line}
 use Rattle.ss_debug.specs.Turn.{answer}
 use Rattle.ss_debug.specs.declared.limits.TheConstants.{GREATEST_LINE}
@@ -26,6 +26,11 @@ first_line program n = spot_line (spot_at program n 0)
 -- the line of its last place
 abbrev pub last_line : ProgramTable → ℕ → ℕ
 last_line program n = spot_line (spot_at program n (length (places_of (slice_get program.sections n)) - 1))
+
+-- BREAK, or else CLEAR
+abbrev pub break_or_clear : Bool → ℕ → Command
+break_or_clear true = Break
+break_or_clear false = Clear
 
 -- BREAK or CLEAR of a line, or a bad command past the last line that they take
 abbrev pub command_on : (ℕ → Command) → ℕ → Command

@@ -5,7 +5,7 @@ use Rattle.ss_debug.specs.declared.commands.Movement.TheVariants.{RunTo, Next, B
 use Rattle.ss_debug.specs.Turn.{debugger_state_at}
 use Rattle.ss_trace.specs.declared.movement.Movement.{Movement}
 use Rattle.ss_trace.specs.declared.movement.Movement.TheVariants.{Over, Out, BackOver, BackOut, BackTo, BackChange, Go}
-use Rattle.ss_changes.specs.Texts.{changed_text, stop_changes, stop_changes_ahead, stop_changes_since}
+use Rattle.ss_changes.specs.Texts.{stop_changes, stop_changes_ahead, stop_changes_since}
 use Rattle.ss_prompt.specs.Past.{past_told, HasSearchedPast}
 use Rattle.ss_prompt.specs.PromptState.{PromptState, IsSameBeside, source_line, fault_told, answers_to}
 
@@ -66,10 +66,6 @@ stop_text is_back state = text_with (changes_told is_back state) state
 -- the text at the stop of a movement from state p, with all that differs
 abbrev pub leg_text : ℕ → PromptState → List ℕ
 leg_text p state = text_with (stop_changes_since state.input p state.debugger.position) state
-
--- the answer to SHOW CHANGED
-abbrev pub changed_said : PromptState → List ℕ
-changed_said state = changed_text state.input state.debugger.earliest state.debugger.position
 
 -- if memory was refused for the changes, the debugger is at its position, or one step away
 unfoldable pub HasLookedBeside : PromptState → PromptState → Type 0

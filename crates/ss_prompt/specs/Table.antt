@@ -6,7 +6,7 @@ use Rattle.ss_debug.specs.CommandLines.{command_words}
 use Rattle.ss_prompt.specs.Words.{after_words, only_of}
 use Rattle.ss_prompt.specs.declared.makes.Makes.{Makes}
 use Rattle.ss_prompt.specs.declared.makes.Makes.TheVariants.{Asked, Also, Question, History, Undisplay}
-use Rattle.ss_prompt.specs.declared.table.TheConstants.{FORMS}
+use Rattle.ss_prompt.specs.declared.table.TheConstants.{FORMS, LETTERS}
 
 -- a row: the words with which its lines begin, what it makes of the words after these, and the lines of HELP on it
 abbrev pub Form : Type 0
@@ -23,6 +23,14 @@ forms_of rows = map form_of rows
 -- the rows of the table
 unfoldable pub forms : List Form
 forms = map (λ row. (row.0.now, row.1, row.2.now)) FORMS
+
+-- the letters of the code, each with its word
+abbrev pub letters_of : List (Bor (List ℕ) × Bor (List ℕ)) → List (List ℕ × List ℕ)
+letters_of rows = map (λ row. (row.0.now, row.1.now)) rows
+
+-- the letters that mean a word at the beginning of a line, each with its word
+unfoldable pub letters : List (List ℕ × List ℕ)
+letters = map (λ row. (row.0.now, row.1.now)) LETTERS
 
 -- the words with which a line of a row begins
 abbrev pub form_words : Form → List (List ℕ)

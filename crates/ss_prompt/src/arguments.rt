@@ -1,9 +1,9 @@
 //! Reads the words after the first word of a line.
-ghost use Rattle.std.specs.Prelude.{◌≡◌, ◌∷◌, [], codes};
+ghost use Rattle.std.specs.Prelude.{◌≡◌, ◌∷◌, [], codes, option_map, Some};
 ghost use Rattle.ss_debug.specs.CommandLines.{command_words};
 ghost use Rattle.ss_prompt.specs.Words.{command_behind, only_name_of};
-ghost use Rattle.ss_prompt.specs.Reading.{made_or_bad, alone, over_of, back_over_of, back_to_of};
-ghost use Rattle.ss_prompt.specs.Reading.{go_of, list_command, names_command, help_command};
+ghost use Rattle.ss_prompt.specs.Reading.{alone, steps_in, time_in};
+ghost use Rattle.ss_prompt.specs.Reading.{list_command, names_command, help_command};
 ghost use Rattle.ss_prompt.specs.Reading.{show_command, bare_command};
 ghost use Rattle.ss_prompt.specs.Sights.{places_of};
 ghost use Rattle.ss_prompt.specs.Reading.{seen_command, rows_or_sight, history_by, history_command};
@@ -30,65 +30,41 @@ use ss_program::Program;
 use ss_trace::{Movement, Question};
 
 /// A command after which no word may come.
-pub(crate) fn alone(command: PromptCommand, rest: &[u8]) -> PromptCommand
+pub(crate) fn alone(command: PromptCommand, rest: &[u8]) -> Option<PromptCommand>
     ensures { result ≡ alone command (command_words rest.now) }
 {
     if next_word(rest).is_some() {
-        return PromptCommand::Plain(Command::Bad);
+        return None;
     }
-    command
+    Some(command)
 }
 
-/// OVER: as often as STEP makes steps.
-pub(crate) fn over(rest: &[u8]) -> PromptCommand
-    ensures { result ≡ over_of (command_behind (codes "STEP") (command_words rest.now)) }
+/// A number of steps, as STEP takes it.
+pub(crate) fn steps(rest: &[u8]) -> Option<u64>
+    ensures { result ≡ steps_in (command_behind (codes "STEP") (command_words rest.now)) }
 {
     match command_behind(b"STEP", rest) {
-        Command::Move(PlainMovement::Step(n)) => PromptCommand::Travel(Movement::Over(n)),
-        _ => PromptCommand::Plain(Command::Bad),
+        Command::Move(PlainMovement::Step(n)) => Some(n),
+        _ => None,
     }
 }
 
-/// BACK OVER: as often as STEP makes steps.
-pub(crate) fn back_over(rest: &[u8]) -> PromptCommand
-    ensures { result ≡ back_over_of (command_behind (codes "STEP") (command_words rest.now)) }
-{
-    match command_behind(b"STEP", rest) {
-        Command::Move(PlainMovement::Step(n)) => PromptCommand::Travel(Movement::BackOver(n)),
-        _ => PromptCommand::Plain(Command::Bad),
-    }
-}
-
-/// BACK TO: a time as RUN TO takes it.
-pub(crate) fn back_to(rest: &[u8]) -> PromptCommand
-    ensures { result ≡ back_to_of (command_behind (codes "RUN TO") (command_words rest.now)) }
+/// A time or a position, as RUN TO takes it.
+pub(crate) fn time(rest: &[u8]) -> Option<u64>
+    ensures { result ≡ time_in (command_behind (codes "RUN TO") (command_words rest.now)) }
 {
     match command_behind(b"RUN TO", rest) {
-        Command::Move(PlainMovement::RunTo(time)) => PromptCommand::Travel(Movement::BackTo(time)),
-        _ => PromptCommand::Plain(Command::Bad),
+        Command::Move(PlainMovement::RunTo(time)) => Some(time),
+        _ => None,
     }
 }
 
 /// A movement to a state in which the condition of a text holds; the text may be none.
-pub(crate) fn until(way: Until, rest: &[u8]) -> PromptCommand
+pub(crate) fn until(way: Until, rest: &[u8]) -> Option<PromptCommand>
     ensures { result ≡ until_command way (command_words rest.now) }
 {
-    match Line::of_words(rest) {
-        Some(text) => PromptCommand::Until(way, text, has_number(rest)),
-        None => PromptCommand::Plain(Command::Bad),
-    }
-}
-
-/// GO: a position is a number as RUN TO takes it.
-pub(crate) fn go(rest: &[u8]) -> PromptCommand
-    ensures { result ≡ go_of (command_behind (codes "RUN TO") (command_words rest.now)) }
-{
-    match command_behind(b"RUN TO", rest) {
-        Command::Move(PlainMovement::RunTo(position)) => {
-            PromptCommand::Travel(Movement::Go(position))
-        }
-        _ => PromptCommand::Plain(Command::Bad),
-    }
+    let text = Line::of_words(rest)?;
+    Some(PromptCommand::Until(way, text, has_number(rest)))
 }
 
 /// A command on a question, by its manner.
@@ -106,65 +82,60 @@ pub(crate) fn made_by(manner: Manner, question: Question) -> PromptCommand
 }
 
 /// A command on what the words ask as a text.
-fn text_command(manner: Manner, rest: &[u8]) -> PromptCommand
+fn text_command(manner: Manner, rest: &[u8]) -> Option<PromptCommand>
     ensures { result ≡ text_command manner (command_words rest.now) }
 {
-    match Line::of_words(rest) {
-        Some(text) => PromptCommand::Meant(manner, text, has_number(rest)),
-        None => PromptCommand::Plain(Command::Bad),
-    }
+    let text = Line::of_words(rest)?;
+    Some(PromptCommand::Meant(manner, text, has_number(rest)))
 }
 
 /// A command on the question that the words ask, or else on what they ask as a text.
-pub(crate) fn on_question(program: &Program, manner: Manner, rest: &[u8]) -> PromptCommand
+pub(crate) fn on_question(program: &Program, manner: Manner, rest: &[u8]) -> Option<PromptCommand>
     ensures { result ≡ manner_command program.now manner (command_words rest.now) }
 {
     match question_in(program, rest) {
         None => text_command(manner, rest),
-        Some(Ok(question)) => made_by(manner, question),
-        Some(Err(missing)) => PromptCommand::Missing(missing),
+        Some(Ok(question)) => Some(made_by(manner, question)),
+        Some(Err(missing)) => Some(PromptCommand::Missing(missing)),
     }
 }
 
 /// A bare name: the entities of a class, or else a set or a variable; another may be an attribute.
-fn bare_command(program: &Program, name: Name) -> PromptCommand
+fn bare_command(program: &Program, name: Name) -> Option<PromptCommand>
     ensures { result ≡ bare_command program.now name }
 {
     if is_class(program, name.as_slice()) {
-        return PromptCommand::See(Sight::Living(name));
+        return Some(PromptCommand::See(Sight::Living(name)));
     }
     if !is_declared(program, name.as_slice()) {
-        return PromptCommand::Plain(Command::Bad);
+        return None;
     }
-    PromptCommand::Ask(bare(program, name))
+    Some(PromptCommand::Ask(bare(program, name)))
 }
 
 /// A sight; a bare name is read by its declaration.
-fn seen_command(program: &Program, command: PromptCommand) -> PromptCommand
-    ensures { result ≡ seen_command program.now command }
+fn seen_command(program: &Program, sight: Sight) -> Option<PromptCommand>
+    ensures { result ≡ seen_command program.now (Some sight) }
 {
-    match command {
-        PromptCommand::See(Sight::Living(name)) => bare_command(program, name),
-        other => other,
+    match sight {
+        Sight::Living(name) => bare_command(program, name),
+        other => Some(PromptCommand::See(other)),
     }
 }
 
 /// The rows that the words after SHOW ask for, or else another sight.
-fn rows_or_sight(program: &Program, rest: &[u8]) -> PromptCommand
+fn rows_or_sight(program: &Program, rest: &[u8]) -> Option<PromptCommand>
     ensures { result ≡ rows_or_sight program.now
         (rows_command program.now (command_words rest.now)) (command_words rest.now) }
 {
     if let Some(command) = rows(program, rest) {
-        return command;
+        return Some(command);
     }
-    match sight(rest) {
-        Some(sight) => seen_command(program, PromptCommand::See(sight)),
-        None => PromptCommand::Plain(Command::Bad),
-    }
+    seen_command(program, sight(rest)?)
 }
 
 /// The words after SHOW that are none of docs/DEBUGGER.md: a question, rows or another sight.
-pub(crate) fn show(program: &Program, rest: &[u8]) -> PromptCommand
+pub(crate) fn show(program: &Program, rest: &[u8]) -> Option<PromptCommand>
     ensures { result ≡ show_command program.now (own_asked (command_words rest.now))
         (command_words rest.now) }
 {
@@ -172,19 +143,21 @@ pub(crate) fn show(program: &Program, rest: &[u8]) -> PromptCommand
         return rows_or_sight(program, rest);
     };
     match asked_of_program(program, question) {
-        Ok(question) => PromptCommand::Ask(question),
-        Err(missing) => PromptCommand::Missing(missing),
+        Ok(question) => Some(PromptCommand::Ask(question)),
+        Err(missing) => Some(PromptCommand::Missing(missing)),
     }
 }
 
 /// IN c k: an entity as SHOW takes it.
-pub(crate) fn places(rest: &[u8]) -> PromptCommand
-    ensures { result ≡ made_or_bad prompt.See
+pub(crate) fn places(rest: &[u8]) -> Option<PromptCommand>
+    ensures { result ≡ option_map prompt.See
         (places_of (command_behind (codes "SHOW") (command_words rest.now))) }
 {
     match command_behind(b"SHOW", rest) {
-        Command::Show(Shown::Entity(class, x)) => PromptCommand::See(Sight::Places(class, x)),
-        _ => PromptCommand::Plain(Command::Bad),
+        Command::Show(Shown::Entity(class, x)) => {
+            Some(PromptCommand::See(Sight::Places(class, x)))
+        }
+        _ => None,
     }
 }
 
@@ -193,23 +166,23 @@ pub(crate) fn places(rest: &[u8]) -> PromptCommand
 fn history_by(
     longest: Option<Result<Question, Missing>>,
     shorter: Option<(Result<Question, Missing>, u64)>,
-    other: PromptCommand,
-) -> PromptCommand
+    other: Option<PromptCommand>,
+) -> Option<PromptCommand>
     ensures { result ≡ history_by longest shorter other }
 {
     match longest {
-        Some(Ok(question)) => PromptCommand::History(question, ROWS_UNLESS_SAID),
+        Some(Ok(question)) => Some(PromptCommand::History(question, ROWS_UNLESS_SAID)),
         Some(Err(missing)) => match shorter {
             Some((asked, rows)) => match asked {
-                Ok(question) => PromptCommand::History(question, rows),
-                Err(_) => PromptCommand::Missing(missing),
+                Ok(question) => Some(PromptCommand::History(question, rows)),
+                Err(_) => Some(PromptCommand::Missing(missing)),
             },
-            None => PromptCommand::Missing(missing),
+            None => Some(PromptCommand::Missing(missing)),
         },
         None => match shorter {
             Some((asked, rows)) => match asked {
-                Ok(question) => PromptCommand::History(question, rows),
-                Err(missing) => PromptCommand::Missing(missing),
+                Ok(question) => Some(PromptCommand::History(question, rows)),
+                Err(missing) => Some(PromptCommand::Missing(missing)),
             },
             None => other,
         },
@@ -238,7 +211,7 @@ fn longest_in(program: &Program, rest: &[u8]) -> Option<Result<Question, Missing
 
 /// The words after HISTORY: a question, and perhaps a number of rows, or else a text.
 #[tactic(auto, unfolding(crate::specs::Reading::history_command))]
-pub(crate) fn history(program: &Program, rest: &[u8]) -> PromptCommand
+pub(crate) fn history(program: &Program, rest: &[u8]) -> Option<PromptCommand>
     ensures { result ≡ history_command program.now (command_words rest.now) }
 {
     history_by(
@@ -249,36 +222,33 @@ pub(crate) fn history(program: &Program, rest: &[u8]) -> PromptCommand
 }
 
 /// One word after LIST: a line as BREAK takes it, or the name of a section.
-fn lines_of(word: &[u8]) -> PromptCommand
+fn lines_of(word: &[u8]) -> Option<PromptCommand>
     ensures { result ≡ list_command (word.now ∷ []) }
 {
     match command_of_word(b"BREAK", word) {
-        Command::Break(line) => PromptCommand::Lines(Some(line)),
-        _ => match name_of_word(word) {
-            Some(name) => PromptCommand::SectionLines(name),
-            None => PromptCommand::Plain(Command::Bad),
-        },
+        Command::Break(line) => Some(PromptCommand::Lines(Some(line))),
+        _ => Some(PromptCommand::SectionLines(name_of_word(word)?)),
     }
 }
 
 /// The lines from one to another, each as BREAK takes it.
-fn lines_between(from: Command, to: Command) -> PromptCommand
+fn lines_between(from: Command, to: Command) -> Option<PromptCommand>
     ensures { result ≡ lines_between from to }
 {
     match (from, to) {
         (Command::Break(from), Command::Break(to)) if from <= to => {
-            PromptCommand::LinesBetween(from, to)
+            Some(PromptCommand::LinesBetween(from, to))
         }
-        _ => PromptCommand::Plain(Command::Bad),
+        _ => None,
     }
 }
 
 /// The words after LIST: none, a line as BREAK takes it, two of them, or the name of a section.
-pub(crate) fn list(rest: &[u8]) -> PromptCommand
+pub(crate) fn list(rest: &[u8]) -> Option<PromptCommand>
     ensures { result ≡ list_command (command_words rest.now) }
 {
     let Some((word, more)) = next_word(rest) else {
-        return PromptCommand::Lines(None);
+        return Some(PromptCommand::Lines(None));
     };
     if next_word(more).is_none() {
         return lines_of(word);
@@ -290,50 +260,41 @@ pub(crate) fn list(rest: &[u8]) -> PromptCommand
 }
 
 /// The words after CLEAR: none, or the name of a section.
-pub(crate) fn clear(rest: &[u8]) -> PromptCommand
+pub(crate) fn clear(rest: &[u8]) -> Option<PromptCommand>
     ensures { result ≡ clear_command (command_words rest.now) }
 {
     if next_word(rest).is_none() {
-        return PromptCommand::ClearAll;
+        return Some(PromptCommand::ClearAll);
     }
-    match only_name(rest) {
-        Some(name) => PromptCommand::ClearSection(name),
-        None => PromptCommand::Plain(Command::Bad),
-    }
+    Some(PromptCommand::ClearSection(only_name(rest)?))
 }
 
 /// The words after UNDISPLAY: none, or a question, or else a text.
-pub(crate) fn undisplay(program: &Program, rest: &[u8]) -> PromptCommand
+pub(crate) fn undisplay(program: &Program, rest: &[u8]) -> Option<PromptCommand>
     ensures { result ≡ undisplay_command program.now (command_words rest.now) }
 {
     if next_word(rest).is_none() {
-        return PromptCommand::Undisplay;
+        return Some(PromptCommand::Undisplay);
     }
     on_question(program, Manner::Undisplay, rest)
 }
 
 /// The words after NAMES: none, or a name.
-pub(crate) fn names(rest: &[u8]) -> PromptCommand
+pub(crate) fn names(rest: &[u8]) -> Option<PromptCommand>
     ensures { result ≡ names_command (command_words rest.now) }
 {
     if next_word(rest).is_none() {
-        return PromptCommand::Names(None);
+        return Some(PromptCommand::Names(None));
     }
-    match only_name(rest) {
-        Some(name) => PromptCommand::Names(Some(name)),
-        None => PromptCommand::Plain(Command::Bad),
-    }
+    Some(PromptCommand::Names(Some(only_name(rest)?)))
 }
 
 /// The words after HELP: none, or a word; the words after that one do not count.
-pub(crate) fn help(rest: &[u8]) -> PromptCommand
+pub(crate) fn help(rest: &[u8]) -> Option<PromptCommand>
     ensures { result ≡ help_command (command_words rest.now) }
 {
     let Some((word, _)) = next_word(rest) else {
-        return PromptCommand::Help(None);
+        return Some(PromptCommand::Help(None));
     };
-    match name_of_word(word) {
-        Some(name) => PromptCommand::Help(Some(name)),
-        None => PromptCommand::Plain(Command::Bad),
-    }
+    Some(PromptCommand::Help(Some(name_of_word(word)?)))
 }

@@ -4,7 +4,7 @@ ghost use Rattle.ss_debug.specs.CommandLines.{command_words};
 ghost use Rattle.ss_prompt.specs.Asked.{attribute_asked, count_asked, own_asked, asked_of};
 ghost use Rattle.ss_prompt.specs.Asked.{question_in};
 
-use crate::line::{command_behind, command_of_two, only_name};
+use crate::line::{command_behind, command_of_two_behind, only_name};
 use crate::missing::{Missing, asked_of_program};
 use crate::pieces::next_word;
 use ss_debug::{Command, Question as PlainQuestion};
@@ -15,7 +15,8 @@ use ss_trace::Question;
 fn attribute(what: &[u8], word: &[u8], rest: &[u8]) -> Option<Question>
     ensures { result ≡ attribute_asked what.now word.now (command_words rest.now) }
 {
-    let Command::Show(PlainQuestion::Entity(class, x)) = command_of_two(what, word) else {
+    let Command::Show(PlainQuestion::Entity(class, x)) = command_of_two_behind(b"SHOW", what, word)
+    else {
         return None;
     };
     let name = only_name(rest)?;

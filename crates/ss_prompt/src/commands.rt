@@ -46,7 +46,7 @@ pub enum PromptCommand {
     Ask(Question),
     /// SHOW: another sight of a state.
     See(Sight),
-    /// SHOW CHANGED: the changes of the last step.
+    /// SHOW CHANGED: the changes of the last step, or since the state that a movement left.
     Changed,
     /// WHY: the newest step at which a question changed.
     Why(Question),

@@ -15,7 +15,7 @@ use std::alloc::AllocError;
 const OTHER_WORDS: &[u8] = b"WHEN READ FROM";
 
 /// Appends a word, and the end of its line.
-fn push_word(text: &mut Vec<u8>, word: &[u8]) -> Result<(), AllocError>
+pub(crate) fn push_word(text: &mut Vec<u8>, word: &[u8]) -> Result<(), AllocError>
     ensures { OnOk result (text.new.items ≡ text.old.items ++ word.now ++ 10 ∷ []) }
 {
     text.extend_from_slice(word)?;
@@ -36,7 +36,7 @@ fn push_table(text: &mut Vec<u8>, table: &[u8]) -> Result<(), AllocError>
 }
 
 /// Appends a line for each name.
-fn push_names(text: &mut Vec<u8>, mut names: &[Name]) -> Result<(), AllocError>
+pub(crate) fn push_names(text: &mut Vec<u8>, mut names: &[Name]) -> Result<(), AllocError>
     ensures { OnOk result (text.new.items ≡ text.old.items ++ word_lines names.entry.now) }
 {
     while let [name, rest @ ..] = names {
@@ -47,7 +47,7 @@ fn push_names(text: &mut Vec<u8>, mut names: &[Name]) -> Result<(), AllocError>
 }
 
 /// Appends a line for each attribute of some classes.
-fn push_attributes(text: &mut Vec<u8>, mut classes: &[Class]) -> Result<(), AllocError>
+pub(crate) fn push_attributes(text: &mut Vec<u8>, mut classes: &[Class]) -> Result<(), AllocError>
     ensures { OnOk result (text.new.items ≡ text.old.items ++ attribute_lines classes.entry.now) }
 {
     while let [class, rest @ ..] = classes {
@@ -58,7 +58,7 @@ fn push_attributes(text: &mut Vec<u8>, mut classes: &[Class]) -> Result<(), Allo
 }
 
 /// Appends a line for each set.
-fn push_sets(text: &mut Vec<u8>, mut sets: &[Set]) -> Result<(), AllocError>
+pub(crate) fn push_sets(text: &mut Vec<u8>, mut sets: &[Set]) -> Result<(), AllocError>
     ensures { OnOk result (text.new.items ≡ text.old.items ++ set_lines sets.entry.now) }
 {
     while let [set, rest @ ..] = sets {

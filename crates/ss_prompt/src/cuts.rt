@@ -4,7 +4,7 @@ ghost use Rattle.std.specs.List.{filter};
 ghost use Rattle.ss_debug.specs.CommandLines.{command_words};
 ghost use Rattle.ss_prompt.specs.Words.{after_words};
 ghost use Rattle.ss_prompt.specs.Table.{forms, form_of, forms_of, is_end, is_asked_after, only_after};
-ghost use Rattle.ss_prompt.specs.Table.{word_in, words_at};
+ghost use Rattle.ss_prompt.specs.Table.{word_in, words_at, letters_of};
 ghost use Rattle.ss_prompt.specs.Cuts.{begins, whole, word_of_letter, first_whole, further_whole, is_first};
 ghost use Rattle.ss_prompt.specs.Cuts.{made_whole, whole_line, first_whole_line};
 
@@ -12,7 +12,7 @@ use crate::line::Line;
 use crate::makes::Makes;
 use crate::missing::is_declared;
 use crate::pieces::{after_words, next_word};
-use crate::table::{Form, forms};
+use crate::table::{Form, Letter, forms, letters};
 use ss_program::Program;
 
 /// The fewest letters of a word that is cut.
@@ -117,24 +117,15 @@ fn whole<'a>(is_asked: bool, before: &[u8], word: &'a [u8]) -> &'a [u8]
     other
 }
 
-/// The word that a letter means at the beginning of a line; another word as it is.
-fn word_of_letter(word: &[u8]) -> &[u8]
-    ensures { result.now ≡ word_of_letter word.now }
+/// The word that a letter means at the beginning of a line, by some rows; another word as it is.
+fn word_of_letter<'a>(word: &'a [u8], mut rows: &'static [Letter]) -> &'a [u8]
+    ensures { result.now ≡ word_of_letter word.now (letters_of rows.entry.now) }
 {
-    if word == b"S".as_slice() {
-        return b"STEP";
-    }
-    if word == b"N".as_slice() {
-        return b"NEXT";
-    }
-    if word == b"C".as_slice() {
-        return b"RUN";
-    }
-    if word == b"B".as_slice() {
-        return b"BREAK";
-    }
-    if word == b"Q".as_slice() {
-        return b"QUIT";
+    while let [row, rest @ ..] = rows {
+        if row.0 == word {
+            return row.1;
+        }
+        rows = rest;
     }
     word
 }
@@ -143,7 +134,7 @@ fn word_of_letter(word: &[u8]) -> &[u8]
 fn first_whole(word: &[u8]) -> &[u8]
     ensures { result.now ≡ first_whole word.now }
 {
-    whole(false, b"", word_of_letter(word))
+    whole(false, b"", word_of_letter(word, letters()))
 }
 
 /// Another word made whole by the text before it. A name of the program stays as it is in a

@@ -8,7 +8,6 @@ ghost use Rattle.ss_debug.specs.Turn.{is_quit as is_plain_quit};
 ghost use Rattle.ss_prompt.specs.PromptState.{state_at, with_questions, fault_told, source_line};
 ghost use Rattle.ss_prompt.specs.PromptState.{place_text, greeting};
 ghost use Rattle.ss_prompt.specs.Plain.{plain_next, plain_said, IsPlainRefused};
-ghost use Rattle.ss_prompt.specs.Names.{warnings_told};
 ghost use Rattle.ss_prompt.specs.Valued.{Suits};
 ghost use Rattle.ss_prompt.specs.Prompting.{prompt_answer, state_led, prompt_state_after, IsRefused, is_quit};
 
@@ -17,13 +16,14 @@ mod causes;
 mod changes;
 mod cleared;
 mod displays;
+mod left;
 mod listed;
 mod meant;
 mod model;
 mod movements;
+mod names;
 mod once;
 mod past;
-mod reads;
 mod resume;
 mod stops;
 mod taken;
@@ -36,9 +36,9 @@ use crate::commands::PromptCommand;
 use crate::displays::push_answers;
 use crate::help::push_help;
 use crate::missing::push_missing;
-use crate::names::push_all_warnings;
 use crate::places::push_no_place;
 use crate::sections::present_line;
+use crate::seeing::push_sight;
 use crate::shown::Shown;
 use crate::source::push_marked_line;
 use ss_check::SymbolTable;
@@ -53,13 +53,15 @@ use std::mem::swap;
 
 /// The parts of the prompt that are not the debugger's: the model, its lines, the questions that
 /// are answered at each stop, the last line that LIST printed, if no movement came after it, the
-/// text of the data, if it is known, and the symbol table of the model, if it is kept.
+/// position that the last movement left, if all that it changed is shown, the text of the data, if
+/// it is known, and the symbol table of the model, if it is kept.
 #[derive(Drop)]
 pub(crate) struct PromptDesk<'a> {
     model: &'a [u8],
     lines: Vec<&'a [u8]>,
     displays: Vec<Shown>,
     listed: Option<usize>,
+    left: Option<u64>,
     data_text: Option<&'a [u8]>,
     symbols: Option<&'a SymbolTable>,
     alloc: Global,
@@ -77,6 +79,7 @@ impl<'a> Model for PromptDesk<'a> {
       lines = map (λ l. l.now) k.lines.items;
       displays = k.displays.items;
       listed = k.listed;
+      left = k.left;
       data_text = option_copied k.data_text;
       symbols = option_map (λ s. s.now) k.symbols;
     } };
@@ -93,8 +96,8 @@ fn push_place<S: SetBoard>(debugger: &Debugger<S>, text: &mut Vec<u8>) -> Result
 
 impl<'a> PromptDesk<'a> {
     /// The desk for a model with these lines and, if it is known, this text of its data; no
-    /// question is answered at stops, and no line is listed. The symbol table, if one is kept, is that of
-    /// the model.
+    /// question is answered at stops, no line is listed, and no position was left. The symbol table,
+    /// if one is kept, is that of the model.
     pub fn new(
         alloc: Global,
         model: &'a [u8],
@@ -107,6 +110,7 @@ impl<'a> PromptDesk<'a> {
           lines = map (λ l. l.now) lines.entry.items;
           displays = [];
           listed = None;
+          left = None;
           data_text = option_copied data_text.entry;
           symbols = option_map (λ s. s.now) symbols.entry;
         } }
@@ -116,6 +120,7 @@ impl<'a> PromptDesk<'a> {
             lines,
             displays: Vec::new(alloc),
             listed: None,
+            left: None,
             data_text,
             symbols,
             alloc,
@@ -178,18 +183,6 @@ impl<'a> PromptDesk<'a> {
         push_answers(debugger, self.symbols, &self.displays, text)
     }
 
-    /// Appends the warnings on the model.
-    fn push_warnings<S: SetBoard>(
-        &self,
-        debugger: &Debugger<S>,
-        text: &mut Vec<u8>,
-    ) -> Result<(), AllocError>
-        ensures { OnOk result (text.new.items ≡ text.old.items
-            ++ warnings_told debugger.now.machine.input.program self.now.model) }
-    {
-        push_all_warnings(self.alloc, self.model, debugger.machine().program(), text)
-    }
-
     /// Appends the text at a terminal before the first line is read: that HELP lists the commands,
     /// the warnings on the model, and the state of the debugger. After `AllocError` a part of it
     /// may be there.
@@ -246,7 +239,8 @@ impl<'a> PromptDesk<'a> {
         }
     }
 
-    /// Does the work of a command, and appends its whole answer. Where LIST goes on stays as it is.
+    /// Does the work of a command, and appends its whole answer. Where LIST goes on and the position
+    /// that was left stay as they are.
     #[tactic(auto, unfolding(crate::proofs::Unfoldings::commands))]
     fn follow<S: SetBoard>(
         &mut self,
@@ -267,45 +261,35 @@ impl<'a> PromptDesk<'a> {
         let done = match command {
             PromptCommand::Plain(command) => return self.obey_plain(debugger, command, answer),
             PromptCommand::Value(text, is_numbered) => {
-                let asked = AskedText { text, is_numbered };
-                self.show_value(debugger, &asked, answer)?;
-                return Ok(Go::On);
+                self.show_value(debugger, &AskedText { text, is_numbered }, answer)
             }
             PromptCommand::Until(way, text, is_numbered) => {
-                let asked = AskedText { text, is_numbered };
-                self.go_until(debugger, way, &asked, answer)?;
-                return Ok(Go::On);
+                self.go_until(debugger, way, &AskedText { text, is_numbered }, answer)
             }
             PromptCommand::Meant(manner, text, is_numbered) => {
-                let asked = AskedText { text, is_numbered };
-                self.follow_text(debugger, manner, asked, answer)?;
-                return Ok(Go::On);
+                self.follow_text(debugger, manner, AskedText { text, is_numbered }, answer)
             }
             PromptCommand::BreakWhen(place, text, is_numbered) => {
-                let asked = AskedText { text, is_numbered };
-                self.break_when(debugger, &place, &asked, answer)?;
-                return Ok(Go::On);
+                self.break_when(debugger, &place, &AskedText { text, is_numbered }, answer)
             }
-            PromptCommand::Cause(command) => {
-                self.cause(debugger, command, answer)?;
-                return Ok(Go::On);
-            }
-            PromptCommand::Reads => {
-                self.reads(debugger, answer)?;
-                return Ok(Go::On);
-            }
+            PromptCommand::Cause(command) => self.cause(debugger, command, answer),
+            PromptCommand::Reads => self.reads(debugger, answer),
             PromptCommand::Travel(movement) => self.travel(debugger, movement, answer),
             PromptCommand::Once(line) => self.run_once(debugger, line, answer),
             PromptCommand::Lines(line) => self.list(debugger, line, answer),
             PromptCommand::LinesBetween(from, to) => self.list_between(debugger, from, to, answer),
             PromptCommand::SectionLines(name) => self.list_section(debugger, &name, answer),
-            PromptCommand::BreakSection(name) => self.break_section(debugger, &name, answer),
+            PromptCommand::BreakSection(name) => {
+                self.obey_on_section(debugger, true, &name, answer)
+            }
             PromptCommand::NoPlace(line, next) => push_no_place(answer, line, next),
-            PromptCommand::ClearSection(name) => self.clear_section(debugger, &name, answer),
+            PromptCommand::ClearSection(name) => {
+                self.obey_on_section(debugger, false, &name, answer)
+            }
             PromptCommand::ClearAll => self.clear_all(debugger, answer),
             PromptCommand::Breaks => self.breaks(debugger, answer),
             PromptCommand::Ask(question) => push_answer(debugger, &question, answer),
-            PromptCommand::See(sight) => self.see(debugger, sight, answer),
+            PromptCommand::See(sight) => push_sight(self.alloc, answer, debugger, sight),
             PromptCommand::Changed => self.changed(debugger, answer),
             PromptCommand::Why(question) => self.why(debugger, &question, answer),
             PromptCommand::History(question, rows) => {
@@ -325,7 +309,7 @@ impl<'a> PromptDesk<'a> {
     }
 
     /// Does the work of a command, appends its whole answer, and notes the line after which LIST
-    /// goes on.
+    /// goes on and the position that was left.
     #[tactic(auto, unfolding(crate::specs::Prompting::prompt_state_after), using(crate::proofs::Listed::noted))]
     fn advance<S: SetBoard>(
         &mut self,
@@ -344,8 +328,10 @@ impl<'a> PromptDesk<'a> {
             (state_at debugger.new self.new)) }
     {
         let listed = self.listed_after(debugger, &command);
+        let left = self.left_after(debugger, &command);
         let go = self.follow(debugger, command, answer)?;
         self.note_listed(listed);
+        self.note_left(left);
         Ok(go)
     }
 
@@ -373,6 +359,7 @@ impl<'a> PromptDesk<'a> {
         ensures memory { OnErr result (IsRefused (state_at debugger.old self.old) command
             (state_at debugger.new self.new)) }
         ensures listed { OnErr result (self.new.listed ≡ self.old.listed) }
+        ensures left { OnErr result (self.new.left ≡ self.old.left) }
     {
         self.advance(debugger, command, answer)
     }

@@ -2,6 +2,7 @@
 ghost use Rattle.ss_prompt.specs.Laws.{PlainLinesStay, FewAreMeantOtherwise, PlainAnswersComeFirst};
 ghost use Rattle.ss_prompt.specs.Laws.{PlainLinesAnswerTheBatch, PlainLinesLeadAsTheBatch};
 ghost use Rattle.ss_prompt.specs.Laws.{OthersLeaveTheBreakLines, OthersStandStill, ClearLeavesNoBreakLine};
+ghost use Rattle.ss_prompt.specs.Laws.{LeftStatesAreFound};
 ghost use Rattle.ss_prompt.specs.Laws.{LinesAreThoseOfTheBatch, KeptLinesSayTheSame, PlainTextsAnswerTheBatch};
 ghost use Rattle.ss_prompt.specs.Laws.{MissingVariablesAreAnsweredSo, MissingListsAreAnsweredSo};
 ghost use Rattle.ss_prompt.specs.Laws.{MissingClassesAreAnsweredSo, MissingAttributesAreAnsweredSo};
@@ -39,6 +40,11 @@ pub fn other_commands_leave_the_debugger()
     ensures breaks { OthersLeaveTheBreakLines }
     ensures position { OthersStandStill }
     ensures none { ClearLeavesNoBreakLine }
+{}
+
+/// The state with which SHOW CHANGED compares is the one that was left, if it is kept.
+pub fn states_left_are_found()
+    ensures { LeftStatesAreFound }
 {}
 
 /// A name in a question that a program hasn't is reported as SHOW answers it in every state; for an

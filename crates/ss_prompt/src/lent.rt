@@ -2,7 +2,7 @@
 ghost use Rattle.std.specs.Prelude.{◌≡◌, ◌⊎◌, ◌++◌, OnOk, OnErr, IfOk};
 ghost use Rattle.ss_check.specs.Asked.{IsSymbolsOf};
 ghost use Rattle.ss_console.specs.Going.{go_of};
-ghost use Rattle.ss_prompt.specs.PromptState.{lent_state, unlisted};
+ghost use Rattle.ss_prompt.specs.PromptState.{lent_state, as_lent};
 ghost use Rattle.ss_prompt.specs.Prompting.{prompt_answer, prompt_state_after, IsRefused, is_quit};
 
 use crate::commands::PromptCommand;
@@ -26,8 +26,8 @@ pub struct LentModel<'a> {
 
 /// Does the work of a command of docs/PROMPT.md with a debugger that is lent, in the run of a
 /// model, and appends its whole answer. The questions are those that are answered at each stop.
-/// LIST does not go on after it. The text of the data is not known here, so no piece of it is
-/// shown.
+/// LIST does not go on after it, and SHOW CHANGED after it is about one step. The text of the data is
+/// not known here, so no piece of it is shown.
 ///
 /// `AllocError` if memory was refused: then nothing of the answer counts, and the debugger is in a
 /// state in which a prompt leaves it, in the same run.
@@ -42,7 +42,7 @@ pub fn answer_command<S: SetBoard>(
     ensures input { debugger.new.machine.input ≡ debugger.old.machine.input }
     ensures place { OnOk result (lent_state debugger.new model.entry.text.now
         model.entry.symbols.now displays.new.items
-        ≡ unlisted (prompt_state_after (lent_state debugger.old model.entry.text.now
+        ≡ as_lent (prompt_state_after (lent_state debugger.old model.entry.text.now
         model.entry.symbols.now displays.old.items) command)) }
     ensures said { OnOk result (answer.new.items ≡ answer.old.items
         ++ prompt_answer (lent_state debugger.old model.entry.text.now

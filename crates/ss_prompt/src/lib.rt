@@ -11,6 +11,7 @@ mod break_words;
 mod causes;
 mod commands;
 mod completions;
+mod console_words;
 mod cuts;
 mod desk;
 mod displays;
@@ -18,6 +19,7 @@ mod explained;
 mod help;
 mod histories;
 mod laws;
+mod left;
 mod lent;
 mod line;
 mod listing;
@@ -26,14 +28,12 @@ mod makes;
 mod manner;
 mod misread;
 mod missing;
-mod names;
 mod notice_rows;
 mod pieces;
 mod places;
 mod prompt;
 mod read;
 mod refusal;
-mod resume;
 mod rows;
 mod rows_asked;
 mod sections;
@@ -43,17 +43,18 @@ mod sight;
 mod source;
 mod stops;
 mod table;
-mod taken;
 mod until;
 
 pub use break_place::{BreakPlace, section_on};
 pub use causes::CauseCommand;
 pub use commands::PromptCommand;
 pub use completions::push_completions;
+pub use console_words::push_console_words;
 pub use explained::{CheckRefusal, push_check_explanation};
 pub use laws::{
     other_commands_leave_the_debugger, plain_answers_come_first, plain_lines_answer_the_batch,
-    plain_lines_stay, plain_texts_answer_the_batch, what_is_missing_is_answered_so,
+    plain_lines_stay, plain_texts_answer_the_batch, states_left_are_found,
+    what_is_missing_is_answered_so,
 };
 pub use lent::{LentModel, answer_command};
 pub use line::Line;

@@ -1,8 +1,8 @@
 //! Lines that are made of words, and the debugger's commands in them.
-ghost use Rattle.std.specs.Prelude.{◌≡◌, ◌<◌, ◌≤◌, ◌∷◌, [], length, fold, codes, None, Some};
+ghost use Rattle.std.specs.Prelude.{◌≡◌, ◌<◌, ◌≤◌, ◌∷◌, [], length, fold, None, Some};
 ghost use Rattle.ss_console.specs.declared.lines.TheConstants.{LONGEST_LINE};
 ghost use Rattle.ss_debug.specs.CommandLines.{command_words};
-ghost use Rattle.ss_prompt.specs.Words.{with_word, line_behind, command_behind, only_name_of};
+ghost use Rattle.ss_prompt.specs.Words.{with_word, line_behind, command_or_bad, command_behind, only_name_of};
 
 use crate::pieces::next_word;
 use arrayvec::ArrayVec;
@@ -84,13 +84,14 @@ impl Line {
     }
 }
 
-/// A line of a beginning and the words of another, if it is no longer than a line may be.
-fn line_behind(head: &[u8], rest: &[u8]) -> Option<Line>
-    requires { length head.now ≤ LONGEST_LINE }
-    ensures { result ≡ line_behind head.now (command_words rest.now) }
+/// The debugger's command in a line, if it is no longer than a line may be.
+pub(crate) fn command_in(line: Option<Line>) -> Command
+    ensures { result ≡ command_or_bad line }
 {
-    let line = Line::new(head)?;
-    line.with_words(rest)
+    match line {
+        None => Command::Bad,
+        Some(line) => command(line.as_slice()),
+    }
 }
 
 /// The debugger's command in the words of a line after a beginning.
@@ -98,10 +99,10 @@ pub(crate) fn command_behind(head: &[u8], rest: &[u8]) -> Command
     requires { length head.now ≤ LONGEST_LINE }
     ensures { result ≡ command_behind head.now (command_words rest.now) }
 {
-    match line_behind(head, rest) {
-        None => Command::Bad,
-        Some(line) => command(line.as_slice()),
-    }
+    let Some(line) = Line::new(head) else {
+        return Command::Bad;
+    };
+    command_in(line.with_words(rest))
 }
 
 /// The debugger's command in one word after a beginning.
@@ -112,10 +113,7 @@ pub(crate) fn command_of_word(head: &[u8], word: &[u8]) -> Command
     let Some(line) = Line::new(head) else {
         return Command::Bad;
     };
-    match line.with_word(word) {
-        None => Command::Bad,
-        Some(line) => command(line.as_slice()),
-    }
+    command_in(line.with_word(word))
 }
 
 /// The name that a word is.
@@ -140,17 +138,7 @@ pub(crate) fn command_of_two_behind(head: &[u8], what: &[u8], word: &[u8]) -> Co
     let Some(first) = head.with_word(what) else {
         return Command::Bad;
     };
-    match first.with_word(word) {
-        None => Command::Bad,
-        Some(line) => command(line.as_slice()),
-    }
-}
-
-/// The debugger's command in two words after SHOW.
-pub(crate) fn command_of_two(what: &[u8], word: &[u8]) -> Command
-    ensures { result ≡ command_behind (codes "SHOW") (what.now ∷ word.now ∷ []) }
-{
-    command_of_two_behind(b"SHOW", what, word)
+    command_in(first.with_word(word))
 }
 
 /// The name that is the only word of a line.

@@ -1,15 +1,15 @@
 //! What is made of the words of a line by the table of the commands.
-ghost use Rattle.std.specs.Prelude.{◌≡◌, codes};
+ghost use Rattle.std.specs.Prelude.{◌≡◌, codes, None};
 ghost use Rattle.ss_debug.specs.CommandLines.{command_words};
-ghost use Rattle.ss_prompt.specs.Reading.{single, made_of, made_after, made_or};
-ghost use Rattle.ss_prompt.specs.Reading.{own_by, own_in_words, once_in, once_of, bad};
+ghost use Rattle.ss_prompt.specs.Reading.{single, made_of, made_after};
+ghost use Rattle.ss_prompt.specs.Reading.{own_by, own_in_words, once_in, once_of};
 ghost use Rattle.ss_prompt.specs.Table.{form_of, forms_of, form_words};
 ghost use Rattle.ss_prompt.specs.Words.{after_words, command_behind, only_name_of};
 ghost use Rattle.ss_prompt.specs.Sections.{line_of_section, taken_line};
 
 use crate::arguments::{
-    alone, back_over, back_to, clear, go, help, history, list, names, on_question, over, places,
-    show, undisplay, until,
+    alone, clear, help, history, list, names, on_question, places, show, steps, time, undisplay,
+    until,
 };
 use crate::break_words::break_words;
 use crate::causes::CauseCommand;
@@ -37,16 +37,13 @@ fn once_in(program: &Program, name: Name) -> PromptCommand
 }
 
 /// TBREAK: a line as BREAK takes it, or the name of a section.
-fn once(program: &Program, rest: &[u8]) -> PromptCommand
+fn once(program: &Program, rest: &[u8]) -> Option<PromptCommand>
     ensures { result ≡ once_of program.now (command_behind (codes "BREAK") (command_words rest.now))
         (only_name_of (command_words rest.now)) }
 {
     match command_behind(b"BREAK", rest) {
-        Command::Break(line) => placed(program, line, PromptCommand::Once(line)),
-        _ => match only_name(rest) {
-            Some(name) => once_in(program, name),
-            None => PromptCommand::Plain(Command::Bad),
-        },
+        Command::Break(line) => Some(placed(program, line, PromptCommand::Once(line))),
+        _ => Some(once_in(program, only_name(rest)?)),
     }
 }
 
@@ -74,16 +71,16 @@ fn single(command: Single) -> PromptCommand
 }
 
 /// What a row makes of the words after its own.
-fn made_of(program: &Program, makes: Makes, rest: &[u8]) -> PromptCommand
+fn made_of(program: &Program, makes: Makes, rest: &[u8]) -> Option<PromptCommand>
     ensures { result ≡ made_of program.now makes (command_words rest.now) }
 {
     match makes {
-        Makes::Elsewhere | Makes::Asked | Makes::Also => PromptCommand::Plain(Command::Bad),
+        Makes::Elsewhere | Makes::Asked | Makes::Also => None,
         Makes::Alone(command) => alone(single(command), rest),
-        Makes::Over => over(rest),
-        Makes::BackOver => back_over(rest),
-        Makes::BackTo => back_to(rest),
-        Makes::Go => go(rest),
+        Makes::Over => Some(PromptCommand::Travel(Movement::Over(steps(rest)?))),
+        Makes::BackOver => Some(PromptCommand::Travel(Movement::BackOver(steps(rest)?))),
+        Makes::BackTo => Some(PromptCommand::Travel(Movement::BackTo(time(rest)?))),
+        Makes::Go => Some(PromptCommand::Travel(Movement::Go(time(rest)?))),
         Makes::Until(way) => until(way, rest),
         Makes::Question(manner) => on_question(program, manner, rest),
         Makes::History => history(program, rest),
@@ -100,33 +97,22 @@ fn made_of(program: &Program, makes: Makes, rest: &[u8]) -> PromptCommand
 }
 
 /// That, if a line begins with the words of the row.
-fn made_after(program: &Program, line: &[u8], form: &Form) -> PromptCommand
+fn made_after(program: &Program, line: &[u8], form: &Form) -> Option<PromptCommand>
     ensures { result ≡ made_after program.now form.now.1
         (after_words (form_words (form_of form.now)) (command_words line.now)) }
 {
-    match after_words(form.0, line) {
-        None => PromptCommand::Plain(Command::Bad),
-        Some(rest) => made_of(program, form.1, rest),
-    }
-}
-
-/// A command, or if it is none, another one.
-fn made_or(command: PromptCommand, other: PromptCommand) -> PromptCommand
-    ensures { result ≡ made_or command other }
-{
-    match command {
-        PromptCommand::Plain(Command::Bad) => other,
-        command => command,
-    }
+    made_of(program, form.1, after_words(form.0, line)?)
 }
 
 /// The command that the last of some rows makes that makes one of the words of a line.
-fn own_by(program: &Program, line: &[u8], mut rows: &'static [Form]) -> PromptCommand
-    ensures { result ≡ own_by program.now (command_words line.now) (forms_of rows.entry.now) bad }
+fn own_by(program: &Program, line: &[u8], mut rows: &'static [Form]) -> Option<PromptCommand>
+    ensures { result ≡ own_by program.now (command_words line.now) (forms_of rows.entry.now) None }
 {
-    let mut made = PromptCommand::Plain(Command::Bad);
+    let mut made = None;
     while let [form, rest @ ..] = rows {
-        made = made_or(made_after(program, line, form), made);
+        if let Some(command) = made_after(program, line, form) {
+            made = Some(command);
+        }
         rows = rest;
     }
     made
@@ -134,7 +120,7 @@ fn own_by(program: &Program, line: &[u8], mut rows: &'static [Form]) -> PromptCo
 
 /// The command in the words of a line that is none of docs/DEBUGGER.md.
 #[tactic(auto, unfolding(crate::specs::Reading::own_in_words))]
-pub(crate) fn own_in_words(program: &Program, line: &[u8]) -> PromptCommand
+pub(crate) fn own_in_words(program: &Program, line: &[u8]) -> Option<PromptCommand>
     ensures { result ≡ own_in_words program.now (command_words line.now) }
 {
     own_by(program, line, forms())

@@ -24,7 +24,7 @@ pub enum Single {
     Reads,
     /// WARNINGS: the warnings on the model.
     Warnings,
-    /// SHOW CHANGED: the changes of the last step.
+    /// SHOW CHANGED: the changes of the last step, or since the state that a movement left.
     Changed,
     /// SHOW CALLS: the frames.
     Calls,

@@ -8,7 +8,6 @@ ghost use Rattle.ss_debug.specs.CommandLines.{command_words};
 ghost use Rattle.ss_debug.specs.Entities.{class_named, set_named, no_entity_text};
 ghost use Rattle.ss_inspect.specs.Texts.{no_such_text};
 ghost use Rattle.ss_debug.specs.declared.commands.Question.TheVariants as plain;
-ghost use Rattle.ss_trace.specs.declared.question.Question.TheVariants as trace;
 ghost use Rattle.ss_prompt.specs.Missing as spec;
 ghost use Rattle.ss_prompt.specs.Words.{only_name_of};
 
@@ -40,18 +39,13 @@ fn is_among(names: &[DeclaredName], name: &[u8]) -> bool
     names.iter().any(|other| name == other.bytes.as_slice())
 }
 
-/// Whether a name is that of a local variable of a section.
-fn is_local(section: &Section, name: &[u8]) -> bool
-    ensures { result ≡ list_any (bytes_eq name.now) section.now.locals }
-{
-    is_among(&section.locals, name)
-}
-
 /// Whether a name is that of a local variable of some section.
 fn is_local_of_some(sections: &[Section], name: &[u8]) -> bool
     ensures { result ≡ list_any (λ s. list_any (bytes_eq name.now) s.locals) sections.now }
 {
-    sections.iter().any(|section| is_local(section, name))
+    sections
+        .iter()
+        .any(|section| is_among(&section.locals, name))
 }
 
 /// Whether a name is that of a variable: the clock, a global one, or a local one of a section.
@@ -146,23 +140,6 @@ pub(crate) fn listed(program: &Program, name: Name, owner: Option<i64>) -> Resul
     }
 }
 
-/// `SET s [k]`.
-fn members(program: &Program, name: Name, owner: Option<i64>) -> Result<Question, Missing>
-    ensures { result ≡ spec.members_asked program.now name owner }
-{
-    let name = listed(program, name, owner)?;
-    Ok(Question::Shown(PlainQuestion::Set(name, owner)))
-}
-
-/// `COUNT s [k]`.
-fn count(program: &Program, name: Name, owner: Option<i64>) -> Result<Question, Missing>
-    ensures { result ≡ spec.on_list (λ s. trace.Count s owner)
-        (spec.listed program.now name owner) }
-{
-    let name = listed(program, name, owner)?;
-    Ok(Question::Count(name, owner))
-}
-
 /// `c k`.
 fn entity(program: &Program, name: Name, x: i64) -> Result<Question, Missing>
     ensures { result ≡ spec.entity_asked program.now name x }
@@ -199,7 +176,10 @@ fn shown(program: &Program, question: PlainQuestion) -> Result<Question, Missing
             Err(Missing::Variable(name))
         }
         PlainQuestion::Entity(name, x) => entity(program, name, x),
-        PlainQuestion::Set(name, owner) => members(program, name, owner),
+        PlainQuestion::Set(name, owner) => {
+            let name = listed(program, name, owner)?;
+            Ok(Question::Shown(PlainQuestion::Set(name, owner)))
+        }
         other => Ok(Question::Shown(other)),
     }
 }
@@ -214,7 +194,9 @@ pub fn asked_of_program(program: &Program, question: Question) -> Result<Questio
     match question {
         Question::Shown(question) => shown(program, question),
         Question::Attribute(class, x, name) => attribute(program, class, x, name),
-        Question::Count(name, owner) => count(program, name, owner),
+        Question::Count(name, owner) => {
+            Ok(Question::Count(listed(program, name, owner)?, owner))
+        }
     }
 }
 

@@ -12,7 +12,7 @@ ghost use Rattle.ss_prompt.specs.Words.{line_behind};
 use crate::advice::{has_number, verb_of};
 use crate::commands::PromptCommand;
 use crate::cuts::{first_whole_line, whole_line};
-use crate::line::Line;
+use crate::line::{Line, command_in};
 use crate::made::own_in_words;
 use crate::manner::Manner;
 use crate::pieces::next_word;
@@ -46,14 +46,12 @@ fn plain_meant(program: &Program, command: Command) -> PromptCommand
 }
 
 /// A command, or the advice on a line that is none.
-fn advised(line: &[u8], command: PromptCommand) -> PromptCommand
+fn advised(line: &[u8], command: Option<PromptCommand>) -> PromptCommand
     ensures { result ≡ advised (command_words line.now) command }
 {
     match command {
-        PromptCommand::Plain(Command::Bad) => {
-            PromptCommand::Unread(verb_of(line), has_number(line))
-        }
-        other => other,
+        Some(command) => command,
+        None => PromptCommand::Unread(verb_of(line), has_number(line)),
     }
 }
 
@@ -175,10 +173,7 @@ fn first_whole_command(line: &[u8]) -> Command
     let mut upper = [0u8; LONGEST_LINE];
     upper[..line.len()].copy_from_slice(line);
     upper[..line.len()].make_ascii_uppercase();
-    match first_whole_line(&upper[..line.len()]) {
-        None => Command::Bad,
-        Some(line) => command(line.as_slice()),
-    }
+    command_in(first_whole_line(&upper[..line.len()]))
 }
 
 /// The command of docs/DEBUGGER.md in a line as written, or else with its first word made whole.

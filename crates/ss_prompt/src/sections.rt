@@ -21,14 +21,6 @@ fn line_of(places: &[Spot], place: usize) -> usize
     }
 }
 
-/// The line of the head of the section with this number.
-pub(crate) fn head_line(program: &Program, section: usize) -> usize
-    requires { section < length program.now.sections }
-    ensures { result ≡ (section_of program.now section).line }
-{
-    program.section(section).line
-}
-
 /// The line of the first place of the section with this number.
 pub(crate) fn first_line(program: &Program, section: usize) -> usize
     requires { section < length program.now.sections }
@@ -63,6 +55,13 @@ pub(crate) fn last_line(program: &Program, section: usize) -> usize
 {
     let places = &program.section(section).places;
     line_of(places, places.len().saturating_sub(1))
+}
+
+/// The number of the section of the last frame of a machine.
+pub(crate) fn present_section<S: SetBoard>(machine: &Machine<S>) -> usize
+    ensures { result ≡ machine.now.state.frame.section }
+{
+    machine.place().0
 }
 
 /// The line of the present place of a machine.

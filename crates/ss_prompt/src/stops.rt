@@ -1,8 +1,10 @@
 //! Which movements go back, and of which all that they changed is shown.
 ghost use Rattle.std.specs.Prelude.{◌≡◌};
+ghost use Rattle.ss_prompt.specs.Left.{moves_whole};
 ghost use Rattle.ss_prompt.specs.Stops.{goes_back, travels_back, is_whole, travels_whole};
 
-use ss_debug::Movement as PlainMovement;
+use crate::commands::PromptCommand;
+use ss_debug::{Command, Movement as PlainMovement};
 use ss_trace::Movement;
 
 /// Whether a movement of docs/DEBUGGER.md goes back.
@@ -49,4 +51,15 @@ pub(crate) fn travels_whole(movement: &Movement) -> bool
             | Movement::BackOut
             | Movement::BackTo(_)
     )
+}
+
+/// Whether a command is a movement of which all that it changed is shown.
+pub(crate) fn moves_whole(command: &PromptCommand) -> bool
+    ensures { result ≡ moves_whole command.now }
+{
+    match command {
+        PromptCommand::Plain(Command::Move(movement)) => is_whole(*movement),
+        PromptCommand::Travel(movement) => travels_whole(movement),
+        _ => false,
+    }
 }

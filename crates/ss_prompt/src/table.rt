@@ -2,8 +2,14 @@
 //! The definitions read it too (specs/Table.antt).
 ghost use Rattle.std.specs.Prelude.{◌≡◌};
 ghost use Rattle.ss_prompt.specs.Table.{forms, form_of, forms_of, begins_with, last_word};
+ghost use Rattle.ss_prompt.specs.Table.{letters, letters_of};
 
-use crate::makes::{Makes, Single};
+use crate::makes::Makes;
+use crate::makes::Makes::{Alone, Also, Asked, Elsewhere};
+use crate::makes::Single::{
+    BackCause, BackOut, Breaks, Calls, Changed, Classes, Globals, GoEnd, Locals, Out, Reads,
+    Sections, Sets, Warnings, WhyCause,
+};
 use crate::manner::Manner;
 use crate::pieces::next_word;
 use crate::until::Until;
@@ -12,21 +18,24 @@ use crate::until::Until;
 /// row begins, one or two of them; what it makes of the words after these; the lines of HELP on it.
 pub type Form = (&'static [u8], Makes, &'static [u8]);
 
+/// A letter and the word that it means.
+pub type Letter = (&'static [u8], &'static [u8]);
+
 /// The rows. If several make a command of a line, the last one counts.
 pub const FORMS: [Form; 59] = [
     (
         b"STEP",
-        Makes::Elsewhere,
+        Elsewhere,
         b"STEP [n]: n steps forward, 1 if not said",
     ),
     (
         b"RUN",
-        Makes::Elsewhere,
+        Elsewhere,
         b"RUN [n]: forward to a break line or the end, at most n steps, 1000000 if not said",
     ),
     (
         b"RUN TO",
-        Makes::Elsewhere,
+        Elsewhere,
         b"RUN TO t: forward to time t or a break line",
     ),
     (
@@ -40,34 +49,22 @@ pub const FORMS: [Form; 59] = [
         Makes::Until(Until::Run),
         b"RUN UNTIL c: forward to a state in which condition c holds",
     ),
-    (
-        b"NEXT",
-        Makes::Elsewhere,
-        b"NEXT: forward to the next event start",
-    ),
+    (b"NEXT", Elsewhere, b"NEXT: forward to the next event start"),
     (
         b"OVER",
         Makes::Over,
         b"OVER [n]: n statements of this section, with all that they call",
     ),
-    (
-        b"OUT",
-        Makes::Alone(Single::Out),
-        b"OUT: forward out of this section",
-    ),
-    (
-        b"BACK",
-        Makes::Elsewhere,
-        b"BACK [n]: n steps back, 1 if not said",
-    ),
+    (b"OUT", Alone(Out), b"OUT: forward out of this section"),
+    (b"BACK", Elsewhere, b"BACK [n]: n steps back, 1 if not said"),
     (
         b"BACK EVENT",
-        Makes::Elsewhere,
+        Elsewhere,
         b"BACK EVENT: back to the last event start",
     ),
     (
         b"BACK BREAK",
-        Makes::Elsewhere,
+        Elsewhere,
         b"BACK BREAK: back to a break line",
     ),
     (
@@ -83,7 +80,7 @@ pub const FORMS: [Form; 59] = [
     ),
     (
         b"BACK CAUSE",
-        Makes::Alone(Single::BackCause),
+        Alone(BackCause),
         b"BACK CAUSE: back to the step that brought this section about",
     ),
     (
@@ -93,7 +90,7 @@ pub const FORMS: [Form; 59] = [
     ),
     (
         b"BACK OUT",
-        Makes::Alone(Single::BackOut),
+        Alone(BackOut),
         b"BACK OUT: back to the statement that called this section",
     ),
     (
@@ -104,7 +101,7 @@ pub const FORMS: [Form; 59] = [
     (b"GO", Makes::Go, b"GO p: to state p, forward or back"),
     (
         b"GO END",
-        Makes::Alone(Single::GoEnd),
+        Alone(GoEnd),
         b"GO END: forward to the end, 100000000 steps at most",
     ),
     (
@@ -132,11 +129,7 @@ pub const FORMS: [Form; 59] = [
         b"TBREAK l: forward as RUN, with a stop at line l this once\n\
             TBREAK r: forward as RUN, with a stop at the first place of section r this once",
     ),
-    (
-        b"BREAKS",
-        Makes::Alone(Single::Breaks),
-        b"BREAKS: the break lines",
-    ),
+    (b"BREAKS", Alone(Breaks), b"BREAKS: the break lines"),
     (
         b"LIST",
         Makes::List,
@@ -145,9 +138,9 @@ pub const FORMS: [Form; 59] = [
             LIST l m: the lines from l to m\n\
             LIST r: the lines of section r",
     ),
-    (b"SHOW CLOCK", Makes::Asked, b"SHOW CLOCK: the time"),
-    (b"SHOW WHERE", Makes::Asked, b"SHOW WHERE: the state line"),
-    (b"SHOW VAR", Makes::Asked, b"SHOW VAR v, SHOW v: variable v"),
+    (b"SHOW CLOCK", Asked, b"SHOW CLOCK: the time"),
+    (b"SHOW WHERE", Asked, b"SHOW WHERE: the state line"),
+    (b"SHOW VAR", Asked, b"SHOW VAR v, SHOW v: variable v"),
     (
         b"SHOW",
         Makes::Show,
@@ -165,75 +158,63 @@ pub const FORMS: [Form; 59] = [
     ),
     (
         b"SHOW CALLS",
-        Makes::Alone(Single::Calls),
+        Alone(Calls),
         b"SHOW CALLS: the sections that are running, the last first",
     ),
     (
         b"SHOW CHANGED",
-        Makes::Alone(Single::Changed),
-        b"SHOW CHANGED: what the last step changed",
+        Alone(Changed),
+        b"SHOW CHANGED: what the last step changed; after OVER and the like, all since",
     ),
     (
         b"SHOW LOCALS",
-        Makes::Alone(Single::Locals),
+        Alone(Locals),
         b"SHOW LOCALS: the local variables of this section",
     ),
     (
         b"SHOW GLOBALS",
-        Makes::Alone(Single::Globals),
+        Alone(Globals),
         b"SHOW GLOBALS: the global variables",
     ),
     (
         b"SHOW CLASSES",
-        Makes::Alone(Single::Classes),
+        Alone(Classes),
         b"SHOW CLASSES: the classes, and how many entities each has",
     ),
-    (
-        b"SHOW SETS",
-        Makes::Alone(Single::Sets),
-        b"SHOW SETS: the sets",
-    ),
+    (b"SHOW SETS", Alone(Sets), b"SHOW SETS: the sets"),
     (
         b"SHOW SECTIONS",
-        Makes::Alone(Single::Sections),
+        Alone(Sections),
         b"SHOW SECTIONS: the sections, with the lines of their heads",
     ),
     (
         b"SHOW SET",
-        Makes::Asked,
+        Asked,
         b"SHOW SET s [k]: the members of set s, of owner k\n\
             SHOW SET s [k] a [b ..]: these attributes of each of them, a row each",
     ),
     (
         b"SHOW",
-        Makes::Also,
+        Also,
         b"SHOW s, SHOW s(e): the members of set s, of the owner with number e",
     ),
-    (
-        b"SHOW COUNT",
-        Makes::Asked,
-        b"SHOW COUNT s [k]: how many they are",
-    ),
+    (b"SHOW COUNT", Asked, b"SHOW COUNT s [k]: how many they are"),
     (
         b"SHOW EVENTS",
-        Makes::Asked,
+        Asked,
         b"SHOW EVENTS: the pending notices, the next first, and their attributes",
     ),
     (
         b"SHOW TAKEN",
-        Makes::Asked,
+        Asked,
         b"SHOW TAKEN: how many values of the data are taken, and the next three",
     ),
     (
         b"SHOW ENTRY",
-        Makes::Asked,
+        Asked,
         b"SHOW ENTRY: the entry of an external event",
     ),
-    (
-        b"SHOW REPORT",
-        Makes::Asked,
-        b"SHOW REPORT: the report so far",
-    ),
+    (b"SHOW REPORT", Asked, b"SHOW REPORT: the report so far"),
     (
         b"WHY",
         Makes::Question(Manner::Why),
@@ -242,7 +223,7 @@ pub const FORMS: [Form; 59] = [
     ),
     (
         b"WHY CAUSE",
-        Makes::Alone(Single::WhyCause),
+        Alone(WhyCause),
         b"WHY CAUSE: the step that brought this section about",
     ),
     (
@@ -253,7 +234,7 @@ pub const FORMS: [Form; 59] = [
     ),
     (
         b"READS",
-        Makes::Alone(Single::Reads),
+        Alone(Reads),
         b"READS: what the next statement looks at, and the steps that changed it last",
     ),
     (
@@ -276,28 +257,28 @@ pub const FORMS: [Form; 59] = [
     ),
     (
         b"WARNINGS",
-        Makes::Alone(Single::Warnings),
+        Alone(Warnings),
         b"WARNINGS: what is suspicious in the model",
     ),
     (
         b"FORGET",
-        Makes::Elsewhere,
+        Elsewhere,
         b"FORGET n: let go of all steps but the newest n",
     ),
     (
         b"READS",
-        Makes::Also,
+        Also,
         b"READ FROM f: in ssdb, read the lines of file f, as if they were typed",
     ),
     (
         b"LOG",
-        Makes::Elsewhere,
+        Elsewhere,
         b"LOG TO f: in ssdb, write to file f too what is typed and printed\n\
             LOG: in ssdb, write to no file any more",
     ),
     (
         b"RELOAD",
-        Makes::Elsewhere,
+        Elsewhere,
         b"RELOAD: in ssdb, read model and data again, and go to the same place",
     ),
     (
@@ -305,12 +286,21 @@ pub const FORMS: [Form; 59] = [
         Makes::Help,
         b"HELP [word]: the commands, or those that begin with a word",
     ),
-    (b"QUIT", Makes::Elsewhere, b"QUIT: the end"),
+    (b"QUIT", Elsewhere, b"QUIT: the end"),
     (
         b"HELP",
-        Makes::Also,
+        Also,
         b"S, N, C, B, Q: STEP, NEXT, RUN, BREAK, QUIT",
     ),
+];
+
+/// The letters that mean a word at the beginning of a line.
+pub const LETTERS: [Letter; 5] = [
+    (b"S", b"STEP"),
+    (b"N", b"NEXT"),
+    (b"C", b"RUN"),
+    (b"B", b"BREAK"),
+    (b"Q", b"QUIT"),
 ];
 
 /// The rows of the table.
@@ -319,6 +309,14 @@ pub(crate) fn forms() -> &'static [Form]
     ensures { forms_of result.now ≡ forms }
 {
     &FORMS
+}
+
+/// Those letters.
+#[tactic(auto, unfolding(crate::specs::Table::letters))]
+pub(crate) fn letters() -> &'static [Letter]
+    ensures { letters_of result.now ≡ letters }
+{
+    &LETTERS
 }
 
 /// Whether this is the first word of a row.

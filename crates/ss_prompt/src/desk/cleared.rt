@@ -7,7 +7,7 @@ ghost use Rattle.ss_prompt.specs.PromptState.{state_at};
 
 use crate::break_list::push_cleared;
 use crate::desk::PromptDesk;
-use crate::desk::model::clear_line;
+use crate::desk::model::obey_on_line;
 use ss_debug::Debugger;
 use ss_links::SetBoard;
 use std::alloc::AllocError;
@@ -28,7 +28,7 @@ fn clear_lines<S: SetBoard>(
     let Some((line, behind)) = lines.split_first() else {
         return Ok(());
     };
-    clear_line(debugger, *line, said)?;
+    obey_on_line(debugger, false, *line, said)?;
     clear_lines(debugger, behind, said)
 }
 

@@ -2,66 +2,41 @@
 ghost use Rattle.std.specs.Prelude.{◌≡◌, ◌++◌, OnOk, OnErr};
 ghost use Rattle.ss_debug.specs.Turn.{answer as plain_answer, debugger_state_after};
 ghost use Rattle.ss_debug.specs.View.{debugger_state_of};
-ghost use Rattle.ss_debug.specs.declared.commands.Command.TheVariants as plain;
 ghost use Rattle.ss_prompt.specs.Breaks.{breaks_said};
 ghost use Rattle.ss_prompt.specs.Listing.{lines_said, lines_between_said, section_lines_said};
-ghost use Rattle.ss_prompt.specs.Names.{names_said, warnings_said};
 ghost use Rattle.ss_prompt.specs.PromptState.{state_at};
-ghost use Rattle.ss_prompt.specs.Sections.{command_on, on_section_said, on_section_next};
+ghost use Rattle.ss_prompt.specs.Sections.{break_or_clear, command_on, on_section_said, on_section_next};
 
 use crate::break_list::push_break_lines;
 use crate::desk::PromptDesk;
 use crate::listing::{push_lines_about, push_lines_between, push_lines_on, push_lines_to};
-use crate::names::{push_names_said, push_warnings_said};
-use crate::sections::{head_line, last_line, line_of_section, present_line, push_no_section};
+use crate::sections::{last_line, line_of_section, present_line, push_no_section};
 use ss_debug::{Command, Debugger, GREATEST_LINE, Name, obey};
 use ss_links::SetBoard;
 use std::alloc::AllocError;
 
-/// BREAK of a line, if BREAK takes it.
+/// BREAK of a line, or else CLEAR of it, if they take the line.
 #[tactic(auto, unfolding(ss_debug::specs::AfterRefusal::IsStateAfterRefusal))]
-fn break_line<S: SetBoard>(
+pub(super) fn obey_on_line<S: SetBoard>(
     debugger: &mut Debugger<S>,
+    is_set: bool,
     line: usize,
     answer: &mut Vec<u8>,
 ) -> Result<(), AllocError>
     ensures input { debugger.new.machine.input ≡ debugger.old.machine.input }
     ensures place { OnOk result (debugger_state_of debugger.new
         ≡ debugger_state_after debugger.old.machine.input (debugger_state_of debugger.old)
-        (command_on plain.Break line)) }
+        (command_on (break_or_clear is_set) line)) }
     ensures said { OnOk result (answer.new.items
         ≡ answer.old.items ++ plain_answer debugger.old.machine.input
-        (debugger_state_of debugger.old) (command_on plain.Break line)) }
+        (debugger_state_of debugger.old) (command_on (break_or_clear is_set) line)) }
     ensures memory { OnErr result (debugger_state_of debugger.new
         ≡ debugger_state_of debugger.old) }
 {
     if line > GREATEST_LINE as usize {
         obey(debugger, Command::Bad, answer)?;
-    } else {
+    } else if is_set {
         obey(debugger, Command::Break(line as u32), answer)?;
-    }
-    Ok(())
-}
-
-/// CLEAR of a line, if CLEAR takes it.
-#[tactic(auto, unfolding(ss_debug::specs::AfterRefusal::IsStateAfterRefusal))]
-pub(super) fn clear_line<S: SetBoard>(
-    debugger: &mut Debugger<S>,
-    line: usize,
-    answer: &mut Vec<u8>,
-) -> Result<(), AllocError>
-    ensures input { debugger.new.machine.input ≡ debugger.old.machine.input }
-    ensures place { OnOk result (debugger_state_of debugger.new
-        ≡ debugger_state_after debugger.old.machine.input (debugger_state_of debugger.old)
-        (command_on plain.Clear line)) }
-    ensures said { OnOk result (answer.new.items
-        ≡ answer.old.items ++ plain_answer debugger.old.machine.input
-        (debugger_state_of debugger.old) (command_on plain.Clear line)) }
-    ensures memory { OnErr result (debugger_state_of debugger.new
-        ≡ debugger_state_of debugger.old) }
-{
-    if line > GREATEST_LINE as usize {
-        obey(debugger, Command::Bad, answer)?;
     } else {
         obey(debugger, Command::Clear(line as u32), answer)?;
     }
@@ -116,47 +91,28 @@ impl<'a> PromptDesk<'a> {
         let Some(section) = program.find_section(name.as_slice()) else {
             return push_no_section(answer, name.as_slice());
         };
-        let from = head_line(program, section);
+        let from = program.section(section).line;
         let to = last_line(program, section);
         push_lines_to(answer, &self.lines, present_line(machine), from, to)
     }
 
-    /// BREAK of the section of this name.
-    pub(super) fn break_section<S: SetBoard>(
+    /// BREAK of the section of this name, or else CLEAR of it.
+    pub(super) fn obey_on_section<S: SetBoard>(
         &self,
         debugger: &mut Debugger<S>,
+        is_set: bool,
         name: &Name,
         answer: &mut Vec<u8>,
     ) -> Result<(), AllocError>
         ensures place { OnOk result (state_at debugger.new self.now
-            ≡ on_section_next (state_at debugger.old self.now) plain.Break name.now) }
+            ≡ on_section_next (state_at debugger.old self.now) (break_or_clear is_set) name.now) }
         ensures said { OnOk result (answer.new.items ≡ answer.old.items
-            ++ on_section_said (state_at debugger.old self.now) plain.Break name.now) }
+            ++ on_section_said (state_at debugger.old self.now) (break_or_clear is_set) name.now) }
         ensures memory { OnErr result (state_at debugger.new self.now
             ≡ state_at debugger.old self.now) }
     {
         match line_of_section(debugger.machine().program(), name.as_slice()) {
-            Some(line) => break_line(debugger, line, answer),
-            None => push_no_section(answer, name.as_slice()),
-        }
-    }
-
-    /// CLEAR of the section of this name.
-    pub(super) fn clear_section<S: SetBoard>(
-        &self,
-        debugger: &mut Debugger<S>,
-        name: &Name,
-        answer: &mut Vec<u8>,
-    ) -> Result<(), AllocError>
-        ensures place { OnOk result (state_at debugger.new self.now
-            ≡ on_section_next (state_at debugger.old self.now) plain.Clear name.now) }
-        ensures said { OnOk result (answer.new.items ≡ answer.old.items
-            ++ on_section_said (state_at debugger.old self.now) plain.Clear name.now) }
-        ensures memory { OnErr result (state_at debugger.new self.now
-            ≡ state_at debugger.old self.now) }
-    {
-        match line_of_section(debugger.machine().program(), name.as_slice()) {
-            Some(line) => clear_line(debugger, line, answer),
+            Some(line) => obey_on_line(debugger, is_set, line, answer),
             None => push_no_section(answer, name.as_slice()),
         }
     }
@@ -172,25 +128,5 @@ impl<'a> PromptDesk<'a> {
     {
         let breaks = debugger.shown_breaks(self.alloc)?;
         push_break_lines(self.alloc, answer, &self.lines, &breaks)
-    }
-
-    /// NAMES, with a name or without.
-    pub(super) fn names(&self, name: Option<Name>, answer: &mut Vec<u8>) -> Result<(), AllocError>
-        ensures { OnOk result (answer.new.items
-            ≡ answer.old.items ++ names_said self.now.model name) }
-    {
-        push_names_said(self.alloc, self.model, name, answer)
-    }
-
-    /// WARNINGS.
-    pub(super) fn warnings<S: SetBoard>(
-        &self,
-        debugger: &Debugger<S>,
-        answer: &mut Vec<u8>,
-    ) -> Result<(), AllocError>
-        ensures { OnOk result (answer.new.items ≡ answer.old.items
-            ++ warnings_said debugger.now.machine.input.program self.now.model) }
-    {
-        push_warnings_said(self.alloc, self.model, debugger.machine().program(), answer)
     }
 }

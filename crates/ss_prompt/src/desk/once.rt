@@ -1,7 +1,8 @@
 //! TBREAK, by the debugger's BREAK, RUN and CLEAR.
 ghost use Rattle.std.specs.Prelude.{◌≡◌, ◌++◌, OnOk, OnErr};
+ghost use Rattle.ss_debug.specs.AfterRefusal.{IsStateAfterRefusal};
 ghost use Rattle.ss_debug.specs.View.{debugger_state_of};
-ghost use Rattle.ss_prompt.specs.Once.{set_back, set_unless, set_said_unless, once_stop, once_stop_said, IsRunRefused};
+ghost use Rattle.ss_prompt.specs.Once.{after_unless, said_unless, once_stop, once_stop_said, IsRunRefused};
 ghost use Rattle.ss_prompt.specs.Once.{once_next, once_said, IsOnceRefused};
 ghost use Rattle.ss_prompt.specs.PromptState.{state_at};
 ghost use Rattle.ss_prompt.specs.Valued.{Suits};
@@ -9,55 +10,32 @@ ghost use Rattle.ss_prompt.specs.Valued.{Suits};
 use crate::desk::PromptDesk;
 use ss_debug::{Command, Debugger, GREATEST_BOUND, Movement, obey};
 use ss_links::SetBoard;
-use std::alloc::{AllocError, Global};
+use std::alloc::AllocError;
 
-/// BREAK of a line, if it is no break line; one that is stays as it is.
-#[tactic(auto, unfolding(ss_debug::specs::AfterRefusal::IsStateAfterRefusal))]
-fn set_once<S: SetBoard>(
+/// A command on a line, unless that was a break line before.
+fn obey_unless<S: SetBoard>(
     debugger: &mut Debugger<S>,
-    line: u32,
     was: bool,
+    command: Command,
     said: &mut Vec<u8>,
 ) -> Result<(), AllocError>
     ensures input { debugger.new.machine.input ≡ debugger.old.machine.input }
-    ensures place { OnOk result (debugger_state_of debugger.new
-        ≡ set_unless debugger.old.machine.input (debugger_state_of debugger.old) line was) }
-    ensures said { OnOk result (said.new.items ≡ said.old.items
-        ++ set_said_unless debugger.old.machine.input (debugger_state_of debugger.old) line was) }
-    ensures memory { OnErr result (debugger_state_of debugger.new
-        ≡ debugger_state_of debugger.old) }
+    ensures place { OnOk result (debugger_state_of debugger.new ≡ after_unless
+        debugger.old.machine.input (debugger_state_of debugger.old) command was) }
+    ensures said { OnOk result (said.new.items ≡ said.old.items ++ said_unless
+        debugger.old.machine.input (debugger_state_of debugger.old) command was) }
+    ensures memory { OnErr result (IsStateAfterRefusal debugger.old.machine.input
+        (debugger_state_of debugger.old) command (debugger_state_of debugger.new)) }
 {
     if !was {
-        obey(debugger, Command::Break(line), said)?;
+        obey(debugger, command, said)?;
     }
-    Ok(())
-}
-
-/// CLEAR of a line that was no break line before; a line that was one stays one.
-#[tactic(auto, unfolding(ss_debug::specs::AfterRefusal::IsStateAfterRefusal))]
-fn clear_once<S: SetBoard>(
-    alloc: Global,
-    debugger: &mut Debugger<S>,
-    line: u32,
-    was: bool,
-) -> Result<(), AllocError>
-    ensures input { debugger.new.machine.input ≡ debugger.old.machine.input }
-    ensures place { OnOk result (debugger_state_of debugger.new
-        ≡ set_back debugger.old.machine.input (debugger_state_of debugger.old) line was) }
-    ensures memory { OnErr result (debugger_state_of debugger.new
-        ≡ debugger_state_of debugger.old) }
-{
-    if was {
-        return Ok(());
-    }
-    let mut said = Vec::new(alloc);
-    obey(debugger, Command::Clear(line), &mut said)?;
     Ok(())
 }
 
 impl<'a> PromptDesk<'a> {
     /// RUN after BREAK of a line, and CLEAR of the line, if it was no break line before.
-    #[tactic(auto, using(crate::proofs::Once::runs))]
+    #[tactic(auto, using(crate::proofs::Once::runs), unfolding(ss_debug::specs::AfterRefusal::IsStateAfterRefusal))]
     fn run_to_once<S: SetBoard>(
         &self,
         debugger: &mut Debugger<S>,
@@ -75,13 +53,14 @@ impl<'a> PromptDesk<'a> {
     {
         let run = Command::Move(Movement::Run(GREATEST_BOUND));
         obey(debugger, run, answer)?;
-        clear_once(self.alloc, debugger, line, was)?;
+        let mut said = Vec::new(self.alloc);
+        obey_unless(debugger, was, Command::Clear(line), &mut said)?;
         self.push_stop(debugger, false, answer)
     }
 
     /// TBREAK: forward to a line, which is a break line for that once. If BREAK does not take the
     /// line, the answer is that of BREAK.
-    #[tactic(auto, using(crate::proofs::Once::refusals))]
+    #[tactic(auto, using(crate::proofs::Once::refusals), unfolding(ss_debug::specs::AfterRefusal::IsStateAfterRefusal))]
     pub(super) fn run_once<S: SetBoard>(
         &self,
         debugger: &mut Debugger<S>,
@@ -98,7 +77,7 @@ impl<'a> PromptDesk<'a> {
     {
         let mut said = Vec::new(self.alloc);
         let was = debugger.is_break_line(line as usize);
-        set_once(debugger, line, was, &mut said)?;
+        obey_unless(debugger, was, Command::Break(line), &mut said)?;
         if !debugger.is_break_line(line as usize) {
             return answer.extend_from_slice(&said);
         }

@@ -34,32 +34,42 @@ fn push_phrase(text: &mut Vec<u8>, head: &[u8], n: u64, tail: &[u8]) -> Result<(
     text.extend_from_slice(tail)
 }
 
-/// Appends that an entity was in no state that is kept.
-fn push_no_life(text: &mut Vec<u8>, earliest: u64) -> Result<(), AllocError>
-    ensures { OnOk result (text.new.items ≡ text.old.items ++ spec.no_life_text earliest) }
+/// Whether a question is on a list; `None` if it is neither on one nor on an entity.
+fn asks_list(question: &Question) -> Option<bool>
+    ensures { result ≡ spec.asks_list question.now }
 {
-    push_phrase(text, b" has not lived since STATE ", earliest, b".\n")
+    match question {
+        Question::Shown(PlainQuestion::Entity(..)) => Some(false),
+        Question::Shown(PlainQuestion::Set(..)) => Some(true),
+        _ => None,
+    }
 }
 
-/// Appends that an entity was in no state that is kept; if all steps are kept, that it never was.
-#[tactic(auto, unfolding(crate::specs::Past::no_end_text))]
-fn push_no_end(text: &mut Vec<u8>, earliest: u64) -> Result<(), AllocError>
-    ensures { OnOk result (text.new.items ≡ text.old.items ++ spec.no_end_text earliest) }
+/// What is told of the last change: of a list, or of an entity that is missing.
+fn change_words(is_list: bool) -> &'static [u8]
+    ensures { result.now ≡ spec.change_words is_list }
 {
+    if is_list {
+        b" changed last in "
+    } else {
+        b" ended in "
+    }
+}
+
+/// Appends that no step that is kept changed a list, or that an entity was in no state that is kept;
+/// if all steps are kept, that it never was.
+#[tactic(auto, unfolding(crate::specs::Past::no_change_text))]
+fn push_no_change(text: &mut Vec<u8>, is_list: bool, earliest: u64) -> Result<(), AllocError>
+    ensures { OnOk result (text.new.items
+        ≡ text.old.items ++ spec.no_change_text is_list earliest) }
+{
+    if is_list {
+        return push_phrase(text, b" has not changed since STATE ", earliest, b".\n");
+    }
     if earliest > 0 {
-        return push_no_life(text, earliest);
+        return push_phrase(text, b" has not lived since STATE ", earliest, b".\n");
     }
     text.extend_from_slice(b" was never made.\n")
-}
-
-/// Appends that a list did not change in a step that is kept.
-#[tactic(auto, unfolding(crate::specs::Past::no_list_change_text))]
-fn push_no_list_change(text: &mut Vec<u8>, earliest: u64) -> Result<(), AllocError>
-    ensures { OnOk result (text.new.items ≡ text.old.items ++ spec.no_list_change_text earliest) }
-{
-    text.extend_from_slice(b" has not changed since STATE ")?;
-    push_number(text, earliest)?;
-    text.extend_from_slice(b".\n")
 }
 
 impl<'a> PromptDesk<'a> {
@@ -89,66 +99,9 @@ impl<'a> PromptDesk<'a> {
         Ok(line.is_some())
     }
 
-    /// Appends the state in which a missing entity ended.
-    #[tactic(auto, using(crate::proofs::Searches::ends), unfolding(crate::specs::Histories::HasLookedBack))]
-    fn push_end<S: SetBoard>(
-        &self,
-        debugger: &mut Debugger<S>,
-        words: &[u8],
-        question: &Question,
-        text: &mut Vec<u8>,
-    ) -> Result<(), AllocError>
-        ensures place { OnOk result (state_at debugger.new self.now ≡ state_at debugger.old self.now) }
-        ensures said { OnOk result (text.new.items ≡ text.old.items
-            ++ spec.end_text debugger.old.machine.input words.now debugger.old.machine.forgotten
-            (newest_change debugger.old.machine.input question.now
-            debugger.old.machine.forgotten (position debugger.old.machine))) }
-        ensures memory { OnErr result
-            (HasLookedBack (state_at debugger.old self.now) (state_at debugger.new self.now)) }
-    {
-        debugger.machine().known();
-        let first = earliest(debugger);
-        let mut head = Vec::new(self.alloc);
-        let found = self.search(debugger, question, &mut head)?;
-        text.extend_from_slice(words)?;
-        if found {
-            text.extend_from_slice(b" ended in ")?;
-            return text.extend_from_slice(&head);
-        }
-        push_no_end(text, first)
-    }
-
-    /// Appends when a list changed last.
-    #[tactic(auto, using(crate::proofs::Searches::list_changes), unfolding(crate::specs::Histories::HasLookedBack))]
-    fn push_list_change<S: SetBoard>(
-        &self,
-        debugger: &mut Debugger<S>,
-        words: &[u8],
-        question: &Question,
-        text: &mut Vec<u8>,
-    ) -> Result<(), AllocError>
-        ensures place { OnOk result (state_at debugger.new self.now ≡ state_at debugger.old self.now) }
-        ensures said { OnOk result (text.new.items ≡ text.old.items
-            ++ spec.list_change_text debugger.old.machine.input words.now
-            debugger.old.machine.forgotten
-            (newest_change debugger.old.machine.input question.now
-            debugger.old.machine.forgotten (position debugger.old.machine))) }
-        ensures memory { OnErr result
-            (HasLookedBack (state_at debugger.old self.now) (state_at debugger.new self.now)) }
-    {
-        debugger.machine().known();
-        let first = earliest(debugger);
-        let mut head = Vec::new(self.alloc);
-        let found = self.search(debugger, question, &mut head)?;
-        text.extend_from_slice(words)?;
-        if found {
-            text.extend_from_slice(b" changed last in ")?;
-            return text.extend_from_slice(&head);
-        }
-        push_no_list_change(text, first)
-    }
-
-    /// Appends the text of the history on a question that is asked with these words.
+    /// Appends the text of the history on a question that is asked with these words: the state in
+    /// which a missing entity ended, or in which a list changed last.
+    #[tactic(auto, using(crate::proofs::Searches::told), unfolding(crate::specs::Histories::HasLookedBack))]
     fn push_change<S: SetBoard>(
         &self,
         debugger: &mut Debugger<S>,
@@ -165,15 +118,19 @@ impl<'a> PromptDesk<'a> {
         ensures memory { OnErr result
             (HasLookedBack (state_at debugger.old self.now) (state_at debugger.new self.now)) }
     {
-        match question {
-            Question::Shown(PlainQuestion::Entity(..)) => {
-                self.push_end(debugger, words, question, text)
-            }
-            Question::Shown(PlainQuestion::Set(..)) => {
-                self.push_list_change(debugger, words, question, text)
-            }
-            _ => Ok(()),
+        let Some(is_list) = asks_list(question) else {
+            return Ok(());
+        };
+        debugger.machine().known();
+        let first = earliest(debugger);
+        let mut head = Vec::new(self.alloc);
+        let found = self.search(debugger, question, &mut head)?;
+        text.extend_from_slice(words)?;
+        if found {
+            text.extend_from_slice(change_words(is_list))?;
+            return text.extend_from_slice(&head);
         }
+        push_no_change(text, is_list, first)
     }
 
     /// Appends the text of the history on the state's fault: the state in which the missing entity

@@ -4,9 +4,7 @@ ghost use Rattle.ss_words.specs.Reading.{option_view};
 ghost use Rattle.ss_debug.specs.View.{debugger_state_of};
 ghost use Rattle.ss_expressions.specs.Aims.{IsSoundAim, IsAimOf};
 ghost use Rattle.ss_expressions.specs.AimsView.{aimed_view};
-ghost use Rattle.ss_prompt.specs.Advice.{unread_text};
 ghost use Rattle.ss_prompt.specs.PromptState.{state_at};
-ghost use Rattle.ss_prompt.specs.Points.{until_word};
 ghost use Rattle.ss_prompt.specs.Until.{holds_at, seek_left, seek_answer, IsSeekCut};
 ghost use Rattle.ss_prompt.specs.Until.{seek_next, seek_said, IsSeekRefused, aim_by};
 ghost use Rattle.ss_prompt.specs.Until.{until_next, until_said, IsUntilRefused};
@@ -46,14 +44,6 @@ fn seek<S: SetBoard>(
         Until::Back => back_until(debugger, aim, answer),
         Until::First => go_first(debugger, aim, answer),
     }
-}
-
-/// Appends that such a line is no command.
-fn push_no_aim(answer: &mut Vec<u8>, way: Until, is_numbered: bool) -> Result<(), AllocError>
-    ensures { OnOk result (answer.new.items
-        ≡ answer.old.items ++ unread_text (until_word way) is_numbered) }
-{
-    push_unread(answer, way.word(), is_numbered)
 }
 
 impl<'a> PromptDesk<'a> {
@@ -120,7 +110,7 @@ impl<'a> PromptDesk<'a> {
             asked.now.text (state_at debugger.new self.now)) }
     {
         match self.aim_by(debugger, asked.text.as_slice())? {
-            None => push_no_aim(answer, way, asked.is_numbered),
+            None => push_unread(answer, way.word(), asked.is_numbered),
             Some(Aimed::Refused(text)) => answer.extend_from_slice(&text),
             Some(Aimed::At(aim)) => self.seek(debugger, way, &aim, answer),
         }

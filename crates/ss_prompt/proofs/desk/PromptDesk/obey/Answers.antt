@@ -1,5 +1,5 @@
 use Rattle.ss_prompt.specs.PromptState.{state_at}
-use Rattle.ss_prompt.proofs.SameRuns.{stays, listed_stays}
+use Rattle.ss_prompt.proofs.SameRuns.{stays, listed_stays, left_stays}
 use Rattle.ss_prompt.proofs.desk.PromptDesk.obey.Goals as goal
 
 pub returns-clause-input : goal.returns-clause-input
@@ -35,4 +35,9 @@ returns-clause-symbols g c =
 pub returns-clause-listed : goal.returns-clause-listed
 returns-clause-listed g c =
     listed_stays c.advance.result (state_at c.args.debugger.now c.args.self.now)
+    (state_at c.advance.new.debugger c.advance.new.self) c.args.command c.advance.ensures.memory
+
+pub returns-clause-left : goal.returns-clause-left
+returns-clause-left g c =
+    left_stays c.advance.result (state_at c.args.debugger.now c.args.self.now)
     (state_at c.advance.new.debugger c.advance.new.self) c.args.command c.advance.ensures.memory

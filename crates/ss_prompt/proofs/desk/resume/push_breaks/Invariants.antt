@@ -1,6 +1,6 @@
 use Rattle.std.proofs.Common.{◌≡◌, ◌++◌, length}
 use Rattle.ss_prompt.specs.Resume.{break_commands}
-use Rattle.ss_prompt.proofs.resume.push_breaks.Given as goal
+use Rattle.ss_prompt.proofs.desk.resume.push_breaks.Given as goal
 
 abbrev pub invariant-loop-breaks : goal.invariant-loop-breaks
 invariant-loop-breaks l =
