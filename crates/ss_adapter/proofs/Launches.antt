@@ -11,7 +11,7 @@ use Rattle.ss_messages.specs.declared.request.Request.{Request}
 use Rattle.ss_messages.specs.Messages.{PostView, posted_with, posted_all, reply, event}
 use Rattle.ss_messages.proofs.Posts.{posted_both}
 use Rattle.ss_adapter.specs.Before.{warning_events, answer_to_launch, IsLaunched}
-use Rattle.ss_adapter.specs.Desk.{DeskView}
+use Rattle.ss_adapter.specs.Desk.{new_desk}
 use Rattle.ss_adapter.specs.Turn.{AdapterState, adapter_state_of}
 
 -- the event after the reply and the warnings of the model: that the adapter is ready
@@ -24,21 +24,11 @@ accepted r p replied warned warnings e f =
     (event (codes "initialized") (codes "{}") ∷ [])))
 
 -- a debugger at the start of the run, and a desk on which nothing is set
-pub launched : (model text path p m : List ℕ) (counting : Counting) (stops : Stops) (symbols : Symbols)
-    (debugger : DebuggerView) (desk : DeskView) (run : AdapterState) → run ≡ adapter_state_of debugger desk →
-    desk ≡ record {
-      path = p;
-      model = m;
-      symbols = symbols;
-      displays = [];
-      set = [];
-      sections = [];
-      watched = [];
-      told = 0;
-      counting = counting;
-      stops = stops;
-    } → p ≡ path → m ≡ model → IsOfModel model debugger.machine.input.program symbols →
+pub launched : (model text path : List ℕ) (counting : Counting) (stops : Stops) (symbols : Symbols)
+    (debugger : DebuggerView) (run : AdapterState) →
+    run ≡ adapter_state_of debugger (new_desk path model symbols counting stops) →
+    IsOfModel model debugger.machine.input.program symbols →
     debugger.machine.input ≡ input_with debugger.machine.input.program text →
     debugger_state_of debugger ≡ initial_debugger_state → IsLaunched model text path counting stops run
-launched model text path p m counting stops symbols debugger desk run e d h k o i s =
-    rw (e, d, h, k) (record { program = o; input = i; start = s; desk = refl })
+launched model text path counting stops symbols debugger run e o i s =
+    rw e (record { program = o; input = i; start = s; desk = refl })

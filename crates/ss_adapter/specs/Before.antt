@@ -17,6 +17,7 @@ use Rattle.ss_messages.specs.declared.request.Request.{Request}
 use Rattle.ss_messages.specs.Messages.{Sent, PostView, posted_all, reply, failure, event}
 use Rattle.ss_messages.specs.Bodies.{output_body, without_last}
 use Rattle.ss_adapter.specs.declared.fixed.TheConstants.{CAPABILITIES}
+use Rattle.ss_adapter.specs.Desk.{new_desk}
 use Rattle.ss_adapter.specs.Refused.{IsExplained}
 use Rattle.ss_adapter.specs.Turn.{AdapterState, answer_to_terminate}
 
@@ -54,18 +55,7 @@ pub record IsLaunched (model text path : List ℕ) (counting : Counting) (stops 
   -- the debugger is at its start
   pub start : state.debugger ≡ initial_debugger_state
   -- nothing is set, and nothing of the report is sent
-  pub desk : state.desk ≡ record {
-    path = path;
-    model = model;
-    symbols = state.desk.symbols;
-    displays = [];
-    set = [];
-    sections = [];
-    watched = [];
-    told = 0;
-    counting = counting;
-    stops = stops;
-  }
+  pub desk : state.desk ≡ new_desk path model state.desk.symbols counting stops
 
 -- the line of a refused model
 abbrev pub fault_line : LoadFault → List ℕ

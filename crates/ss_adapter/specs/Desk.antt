@@ -1,5 +1,5 @@
 -- The data that the adapter keeps in addition to the debugger.
-use Rattle.std.specs.Prelude.{ℕ, List}
+use Rattle.std.specs.Prelude.{ℕ, List, []}
 use Rattle.ss_check.specs.Symbols.{Symbols}
 use Rattle.ss_prompt.specs.declared.shown.Shown.{Shown}
 use Rattle.ss_messages.specs.declared.counting.Counting.{Counting}
@@ -27,3 +27,18 @@ pub record DeskView : Type 0 where
   pub counting : Counting
   -- whether configurationDone stops at the run's position, and whether the run stops at its end
   pub stops : Stops
+
+-- the desk of a run of a model, on which nothing is set, and no part of the report is sent
+abbrev pub new_desk : List ℕ → List ℕ → Symbols → Counting → Stops → DeskView
+new_desk path model symbols counting stops = record {
+  path = path;
+  model = model;
+  symbols = symbols;
+  displays = [];
+  set = [];
+  sections = [];
+  watched = [];
+  told = 0;
+  counting = counting;
+  stops = stops;
+}

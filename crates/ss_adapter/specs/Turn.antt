@@ -165,8 +165,8 @@ going_to_stop state =
 abbrev pub reply_with_stop : Input → ℕ → List ℕ → List Sent
 reply_with_stop input p reason = reply (codes "{}") ∷ stopped_event reason (without_last (state_line input p)) None ∷ []
 
--- the console is a prompt over the debugger, in which LIST does not go on; it does not know the
--- text of the data
+-- the console is a prompt over the debugger, in which LIST does not go on, and SHOW CHANGED is about
+-- one step; it does not know the text of the data
 abbrev pub at_console : AdapterState → PromptState
 at_console state = record {
   model = state.desk.model;
@@ -175,6 +175,7 @@ at_console state = record {
   debugger = state.debugger;
   displays = state.desk.displays;
   listed = None;
+  left = None;
   data_text = None;
   symbols = Some state.desk.symbols;
 }

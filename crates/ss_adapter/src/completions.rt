@@ -1,23 +1,14 @@
-//! The words that may be typed at a place in a line of the debugger.
-ghost use Rattle.std.specs.Prelude.{◌≡◌, ◌++◌, OnOk, IfOk, map, false};
-ghost use Rattle.ss_adapter.specs.Completions.{target, targets, attribute_targets, set_targets, name_targets};
-ghost use Rattle.ss_adapter.specs.Completions.{targets_by, is_first, completions};
+//! The words that may be typed at a place in a line of the console.
+ghost use Rattle.std.specs.Prelude.{◌≡◌, ◌++◌, OnOk, IfOk, map};
+ghost use Rattle.ss_prompt.specs.ConsoleWords.{console_words};
+ghost use Rattle.ss_prompt.specs.Source.{source_lines};
+ghost use Rattle.ss_adapter.specs.Completions.{target, targets, is_first, completions};
 
 use crate::words::{before_word, last_word};
 use ss_messages::target_item;
-use ss_program::{Class, Name, Program, Set};
+use ss_program::Program;
+use ss_prompt::{push_console_words, source_lines};
 use std::alloc::{AllocError, Global};
-
-/// The words with which a line may begin.
-pub const FIRST_WORDS: [&[u8]; 9] = [
-    b"STEP", b"RUN", b"NEXT", b"BACK", b"BREAK", b"CLEAR", b"FORGET", b"SHOW", b"QUIT",
-];
-
-/// The words that may be after another.
-pub const FURTHER_WORDS: [&[u8]; 11] = [
-    b"CLOCK", b"WHERE", b"VAR", b"SET", b"EVENTS", b"TAKEN", b"ENTRY", b"REPORT", b"TO", b"EVENT",
-    b"BREAK",
-];
 
 /// Appends a word as an item, if it begins with the text that is typed before a column.
 fn push_target(out: &mut Vec<u8>, typed: &[u8], column: u64, word: &[u8]) -> Result<(), AllocError>
@@ -31,89 +22,21 @@ fn push_target(out: &mut Vec<u8>, typed: &[u8], column: u64, word: &[u8]) -> Res
     out.extend_from_slice(&item)
 }
 
-/// Appends the items of a table of words.
-fn push_table(
+/// Appends the items of some words.
+fn push_targets(
     out: &mut Vec<u8>,
     typed: &[u8],
     column: u64,
-    mut table: &[&[u8]],
+    mut words: &[&[u8]],
 ) -> Result<(), AllocError>
     ensures { OnOk result (out.new.items ≡ out.old.items
-        ++ targets typed.now column (map (λ word. word.now) table.entry.now)) }
+        ++ targets typed.now column (map (λ word. word.now) words.entry.now)) }
 {
-    while let [word, rest @ ..] = table {
+    while let [word, rest @ ..] = words {
         push_target(out, typed, column, word)?;
-        table = rest;
+        words = rest;
     }
     Ok(())
-}
-
-/// Appends the items of some names.
-fn push_names(
-    out: &mut Vec<u8>,
-    typed: &[u8],
-    column: u64,
-    mut names: &[Name],
-) -> Result<(), AllocError>
-    ensures { OnOk result (out.new.items ≡ out.old.items
-        ++ targets typed.now column names.entry.now) }
-{
-    while let [name, rest @ ..] = names {
-        push_target(out, typed, column, &name.bytes)?;
-        names = rest;
-    }
-    Ok(())
-}
-
-/// Appends the items of the attributes of some classes.
-fn push_attributes(
-    out: &mut Vec<u8>,
-    typed: &[u8],
-    column: u64,
-    mut classes: &[Class],
-) -> Result<(), AllocError>
-    ensures { OnOk result (out.new.items ≡ out.old.items
-        ++ attribute_targets typed.now column classes.entry.now) }
-{
-    while let [class, rest @ ..] = classes {
-        push_names(out, typed, column, &class.attributes)?;
-        classes = rest;
-    }
-    Ok(())
-}
-
-/// Appends the items of some sets.
-fn push_sets(
-    out: &mut Vec<u8>,
-    typed: &[u8],
-    column: u64,
-    mut sets: &[Set],
-) -> Result<(), AllocError>
-    ensures { OnOk result (out.new.items ≡ out.old.items
-        ++ set_targets typed.now column sets.entry.now) }
-{
-    while let [set, rest @ ..] = sets {
-        push_target(out, typed, column, &set.name.bytes)?;
-        sets = rest;
-    }
-    Ok(())
-}
-
-/// Appends the items of the names of a program, with the locals of a section.
-fn push_program(
-    out: &mut Vec<u8>,
-    typed: &[u8],
-    column: u64,
-    program: &Program,
-    section: usize,
-) -> Result<(), AllocError>
-    ensures { OnOk result (out.new.items ≡ out.old.items
-        ++ name_targets program.now section typed.now column) }
-{
-    push_names(out, typed, column, &program.globals)?;
-    push_attributes(out, typed, column, &program.classes)?;
-    push_sets(out, typed, column, &program.sets)?;
-    push_names(out, typed, column, program.locals(section))
 }
 
 /// Whether no word is before the last one of a text.
@@ -123,26 +46,37 @@ fn is_first(text: &[u8]) -> bool
     before_word(text).iter().all(|byte| *byte == b' ')
 }
 
-/// Appends the items of the words that may be after another word.
-fn push_further(
-    out: &mut Vec<u8>,
-    typed: &[u8],
-    column: u64,
+/// The words of the prompt that may be the last one of a text, each on a line.
+fn words_for(
+    alloc: Global,
     program: &Program,
     section: usize,
-) -> Result<(), AllocError>
-    ensures { OnOk result (out.new.items ≡ out.old.items
-        ++ targets_by program.now section false typed.now column) }
+    text: &[u8],
+) -> Result<Vec<u8>, AllocError>
+    ensures { IfOk result (λ lines. lines.items
+        ≡ console_words program.now section (is_first text.now)) }
 {
-    push_table(out, typed, column, &FURTHER_WORDS)?;
-    push_program(out, typed, column, program, section)
+    let mut lines = Vec::new(alloc);
+    push_console_words(&mut lines, program, section, is_first(text))?;
+    Ok(lines)
 }
 
-/// The items of the words that begin with the last word of a text, in either case, which ends
-/// before a column.
+/// The items of those words, each on a line, that begin with what is typed before a column.
+fn items_of(alloc: Global, typed: &[u8], column: u64, lines: &[u8]) -> Result<Vec<u8>, AllocError>
+    ensures { IfOk result (λ items. items.items
+        ≡ targets typed.now column (source_lines lines.now)) }
+{
+    let words = source_lines(alloc, lines)?;
+    let mut out = Vec::new(alloc);
+    push_targets(&mut out, typed, column, &words)?;
+    Ok(out)
+}
+
+/// The items of the words of the prompt that begin with the last word of a text, in either case,
+/// which ends before a column.
 ///
-/// They are words of docs/DEBUGGER.md, then names of the program in the order of its tables, with
-/// the locals of a section. Each is after a comma.
+/// They are words of docs/PROMPT.md, then names of the program in the order of its tables, with the
+/// locals of a section. Each is after a comma.
 pub fn completions(
     alloc: Global,
     program: &Program,
@@ -155,11 +89,6 @@ pub fn completions(
 {
     let mut typed = last_word(text).to_vec(alloc)?;
     typed.make_ascii_uppercase();
-    let mut out = Vec::new(alloc);
-    if is_first(text) {
-        push_table(&mut out, &typed, column, &FIRST_WORDS)?;
-    } else {
-        push_further(&mut out, &typed, column, program, section)?;
-    }
-    Ok(out)
+    let lines = words_for(alloc, program, section, text)?;
+    items_of(alloc, &typed, column, &lines)
 }

@@ -1,5 +1,6 @@
 //! The data that the adapter keeps in addition to the debugger.
-ghost use Rattle.std.specs.Prelude.{◌≡◌, []};
+ghost use Rattle.std.specs.Prelude.{◌≡◌};
+ghost use Rattle.ss_adapter.specs.Desk.{new_desk};
 
 use crate::pen::Pen;
 use ss_check::SymbolTable;
@@ -91,18 +92,7 @@ impl Desk {
         counting: Counting,
         stops: Stops,
     ) -> Self
-        ensures { result ≡ record {
-          path = path.items;
-          model = model.items;
-          symbols = symbols;
-          displays = [];
-          set = [];
-          sections = [];
-          watched = [];
-          told = 0;
-          counting = counting;
-          stops = stops;
-        } }
+        ensures { result ≡ new_desk path.items model.items symbols counting stops }
     {
         let alloc = *path.allocator();
         Desk {

@@ -9,6 +9,7 @@ use crate::turns::{Further, turn};
 use ss_debug::Debugger;
 use ss_links::LinkedSets;
 use ss_messages::{Post, Request};
+use ss_program::Program;
 use std::alloc::AllocError;
 use std::marker::Model;
 
@@ -50,6 +51,13 @@ impl Launched {
         ensures { result.now ≡ self.now.desk.path }
     {
         self.desk.path()
+    }
+
+    /// The program of its model.
+    pub(crate) fn program(&self) -> &Program
+        ensures { result.now ≡ self.now.input.program }
+    {
+        self.debugger.machine().program()
     }
 
     /// One turn: obeys a request, and posts its reply and the events that follow it.

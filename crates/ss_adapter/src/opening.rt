@@ -1,5 +1,6 @@
 //! launch: a model becomes a run.
 ghost use Rattle.std.specs.Prelude.{◌≡◌, ◌≢◌, ◌+◌, ◌-◌, ◌^◌, ◌<◌, ◌≤◌, IfOk, OnOk, MatchOption};
+ghost use Rattle.ss_check.specs.Asked.{IsSymbolsOf};
 ghost use Rattle.ss_session.specs.Load.{IsLoadFault};
 ghost use Rattle.ss_session.specs.declared.load.LoadFault.{LoadFault};
 ghost use Rattle.ss_session.specs.declared.load.LoadFault.TheVariants.{Memory};
@@ -7,6 +8,8 @@ ghost use Rattle.ss_messages.specs.Messages.{posted_all};
 ghost use Rattle.ss_prompt.specs.Names.{warnings_told};
 ghost use Rattle.ss_adapter.specs.Before.{warning_events, answer_to_launch, answer_to_refused_launch};
 ghost use Rattle.ss_adapter.specs.Before.{IsLaunched, IsRefusedLaunch, fault_line};
+ghost use Rattle.ss_adapter.specs.Desk.{new_desk};
+ghost use Rattle.ss_adapter.specs.Turn.{adapter_state_of};
 
 use crate::desk::Desk;
 use crate::launched::Launched;
@@ -108,6 +111,89 @@ pub struct Opening<'a> {
     pub stops: Stops,
 }
 
+/// Answers launch of a model that is refused for this.
+///
+/// `AllocError` if memory was refused, now or while the model was read.
+fn tell_refused(
+    request: &Request,
+    post: &mut Post,
+    model: &[u8],
+    fault: &LoadFault,
+) -> Result<(), AllocError>
+    requires { post.old.sent + 1 < 2 ^ 64 - 1 }
+    ensures fault { OnOk result (fault.now ≢ Memory) }
+    ensures sent { OnOk result (IsRefusedLaunch fault.now model.now request.now post.old post.new) }
+{
+    match fault {
+        LoadFault::Memory => Err(AllocError),
+        _ => {
+            let said = explanation(post.alloc(), model, fault)?;
+            refuse(request, post, fault, &said)
+        }
+    }
+}
+
+/// A copy of a path, and one of a model.
+fn copies(alloc: Global, path: &[u8], model: &[u8]) -> Result<(Vec<u8>, Vec<u8>), AllocError>
+    ensures { IfOk result (λ it. (it.0.items ≡ path.now) × (it.1.items ≡ model.now)) }
+{
+    let path = path.to_vec(alloc)?;
+    let model = model.to_vec(alloc)?;
+    Ok((path, model))
+}
+
+/// The run of a model that is opened, with nothing set.
+fn run_of(
+    alloc: Global,
+    opening: Opening<'_>,
+    model: &[u8],
+    opened: Opened,
+) -> Result<Launched, AllocError>
+    requires { IsSymbolsOf opened.debugger.machine.input.program opened.symbols }
+    ensures { IfOk result (λ run. run ≡ adapter_state_of opened.debugger
+        (new_desk opening.entry.source.path.now model.now opened.symbols
+        opening.entry.source.counting opening.entry.stops)) }
+{
+    let Opened { debugger, symbols } = opened;
+    match copies(alloc, opening.source.path, model) {
+        Ok((path, bytes)) => {
+            let desk = Desk::new(path, bytes, symbols, opening.source.counting, opening.stops);
+            Ok(Launched::new(debugger, desk))
+        }
+        Err(error) => {
+            drop(symbols);
+            debugger.end();
+            Err(error)
+        }
+    }
+}
+
+/// Launches the run of a model that is opened, and answers the request.
+fn begin(
+    request: &Request,
+    post: &mut Post,
+    opening: Opening<'_>,
+    model: &[u8],
+    opened: Opened,
+) -> Result<Launched, AllocError>
+    requires symbols { IsSymbolsOf opened.debugger.machine.input.program opened.symbols }
+    requires room { post.old.sent + 2 < 2 ^ 64 - 1 }
+    ensures run { IfOk result (λ run. run ≡ adapter_state_of opened.debugger
+        (new_desk opening.entry.source.path.now model.now opened.symbols
+        opening.entry.source.counting opening.entry.stops)) }
+    ensures sent { IfOk result (λ run. post.new ≡ posted_all request.now post.old
+        (answer_to_launch (warnings_told run.input.program model.now))) }
+{
+    let run = run_of(post.alloc(), opening, model, opened)?;
+    match tell_opened(request, post, run.program(), model) {
+        Ok(()) => Ok(run),
+        Err(error) => {
+            run.end();
+            Err(error)
+        }
+    }
+}
+
 /// Launches the run of a model over its data, and answers the request.
 ///
 /// `None` if the model is refused; the answer says why, and on which line. `AllocError` if memory
@@ -128,23 +214,12 @@ pub fn launch(
         × (post.new ≡ posted_all request.now post.old
         (answer_to_launch (warnings_told run.input.program model.now))))) }
 {
-    let alloc = post.alloc();
-    let (path, bytes) = (opening.source.path.to_vec(alloc)?, model.to_vec(alloc)?);
-    match open_debugger_with_symbols(alloc, model, text) {
-        Ok(Opened { debugger, symbols }) => {
-            let desk = Desk::new(path, bytes, symbols, opening.source.counting, opening.stops);
-            match tell_opened(request, post, debugger.machine().program(), model) {
-                Ok(()) => Ok(Some(Launched::new(debugger, desk))),
-                Err(error) => {
-                    debugger.end();
-                    Err(error)
-                }
-            }
-        }
-        Err(LoadFault::Memory) => Err(AllocError),
+    match open_debugger_with_symbols(post.alloc(), model, text) {
+        Ok(opened) => Ok(Some(begin(request, post, opening, model, opened)?)),
         Err(fault) => {
-            let said = explanation(alloc, model, &fault)?;
-            refuse(request, post, &fault, &said)?;
+            let told = tell_refused(request, post, model, &fault);
+            drop(fault);
+            told?;
             Ok(None)
         }
     }

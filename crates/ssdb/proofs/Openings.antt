@@ -27,6 +27,7 @@ state_of model data_text lines t d symbols = record {
   debugger = d;
   displays = [];
   listed = None;
+  left = None;
   data_text = Some data_text;
   symbols = Some symbols;
 }

@@ -39,6 +39,7 @@ start_over model data_text program symbols = record {
   debugger = initial_debugger_state;
   displays = [];
   listed = None;
+  left = None;
   data_text = Some data_text;
   symbols = Some symbols;
 }

@@ -42,6 +42,6 @@ pub fn tell_words<C: Console>(
                 Err(_) => Err(PromptFault::Cut(Cut::Write)),
             }
         }
-        Err(fault) => Err(refuse(alloc, model, fault, console)),
+        Err(fault) => Err(refuse(alloc, model, &fault, console)),
     }
 }

@@ -186,6 +186,6 @@ pub fn open_prompt<C: Console>(
             let prompt = Prompt::new(alloc, debugger, sources);
             greet_and_hold(alloc, prompt, &mut line, console)
         }
-        Err(fault) => Err(refuse(alloc, model, fault, console)),
+        Err(fault) => Err(refuse(alloc, model, &fault, console)),
     }
 }

@@ -52,18 +52,16 @@ fn told(alloc: Global, model: &[u8], fault: &LoadFault) -> Result<Vec<u8>, Alloc
 pub fn refuse<C: Console>(
     alloc: Global,
     model: &[u8],
-    fault: LoadFault,
+    fault: &LoadFault,
     console: &mut C,
 ) -> PromptFault
     requires puts { (C.faults console.old).puts < 2 ^ 64 - 1 }
-    requires fault { IsLoadFault fault model.now }
+    requires fault { IsLoadFault fault.now model.now }
     ensures told { IsRefusalWritten model.now (seen_of (C.terminal console.old) (C.left console.old)
         (C.left console.new) (C.log console.old) (C.log console.new)) result }
     ensures faults { C.faults console.new ≡ faults_after_fault result (C.faults console.old) }
 {
-    let said = told(alloc, model, &fault);
-    drop(fault);
-    let Ok(text) = said else {
+    let Ok(text) = told(alloc, model, fault) else {
         return PromptFault::Memory;
     };
     match put_all(console, &text) {
