@@ -6,9 +6,16 @@ use std::alloc::{AllocError, Global};
 
 /// Puts the rule and the line of a refusal.
 fn put_refused(alloc: Global, out: &mut Vec<u8>, refused: LoadFault) -> Result<(), AllocError> {
+    let put = put_rule(alloc, out, &refused);
+    drop(refused);
+    put
+}
+
+/// Puts the rule and the line of a refusal that is lent.
+fn put_rule(alloc: Global, out: &mut Vec<u8>, refused: &LoadFault) -> Result<(), AllocError> {
     let (code, line) = match refused {
-        LoadFault::Text { rule, line } => (rule.code(), line),
-        LoadFault::Check { rule, line, .. } => (rule.code(), line),
+        LoadFault::Text { rule, line } => (rule.code(), *line),
+        LoadFault::Check { rule, line, .. } => (rule.code(), *line),
         LoadFault::Memory => return Err(AllocError),
     };
     put_text(out, code)?;

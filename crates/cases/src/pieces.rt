@@ -1,7 +1,8 @@
 //! The answer about the beginnings of a text, piece by piece.
 use crate::answer::{put_number, put_string, put_text};
-use crate::sections::sections_of;
-use ss_words::{TextFault, TextRule};
+use crate::sections::count_from;
+use ss_session::drop_words;
+use ss_words::{TextFault, TextRule, words};
 use std::alloc::{AllocError, Global};
 
 /// Puts, for each beginning of the text that ends before a blank or a line's end, and for the
@@ -51,8 +52,10 @@ fn put_other(
 
 /// The refusal of a text, if it is no sections.
 fn refusal(alloc: Global, text: &[u8]) -> Result<(), TextFault> {
-    let sections = sections_of(alloc, text)?;
-    drop(sections);
+    let words = words(alloc, text)?;
+    let count = count_from(alloc, &words, 0);
+    drop_words(words);
+    count?;
     Ok(())
 }
 

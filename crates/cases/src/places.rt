@@ -1,7 +1,7 @@
 //! The answer about the sizes of a program: its items and its sections.
 use crate::answer::put_string;
+use crate::sections::count_from;
 use ss_preamble::preamble;
-use ss_routines::sections;
 use ss_session::{drop_decls, drop_words};
 use ss_words::{TextFault, Words, words};
 use std::alloc::Global;
@@ -26,8 +26,5 @@ fn counts_of(alloc: Global, words: &Words) -> Result<(usize, usize), TextFault> 
     let (decls, number) = preamble(alloc, words)?;
     let items = decls.items.len();
     drop_decls(decls);
-    let sections = sections(alloc, words, number)?;
-    let count = sections.list().len();
-    drop(sections);
-    Ok((items, count))
+    Ok((items, count_from(alloc, words, number)?))
 }
