@@ -117,6 +117,13 @@ pub(crate) fn add_numbers(numbers: &mut Vec<u32>, number: u32, count: u32) -> Re
     Ok(())
 }
 
+/// A class by its number, and its shape.
+#[derive(Clone, Copy)]
+pub(crate) struct NumberedClass {
+    pub(crate) number: usize,
+    pub(crate) shape: ClassShape,
+}
+
 /// Makes an entity of a class, whose attributes are 0, with its heads, its seats and their numbers,
 /// and gives its row; nothing if memory is refused.
 pub(crate) fn grow<S: SetBoard>(
@@ -124,36 +131,37 @@ pub(crate) fn grow<S: SetBoard>(
     entities: &mut Entities,
     numbers: &mut Vec<u32>,
     board: &mut S,
-    shape: ClassShape,
-    class: usize,
+    class: NumberedClass,
 ) -> Result<Row, AllocError>
-    requires class { shape.permanent ≡ true → class < length entities.old.made }
-    requires few { length (rows_in entities.old (numbering_by shape.permanent class)).rows + 1
-        < 2 ^ 32 }
-    requires heads { length (S.board board.old).lists + shape.owned < 2 ^ 32 }
-    requires seats { (S.board board.old).seats + shape.joined < 2 ^ 32 }
+    requires class { class.shape.permanent ≡ true → class.number < length entities.old.made }
+    requires few { length (rows_in entities.old
+        (numbering_by class.shape.permanent class.number)).rows + 1 < 2 ^ 32 }
+    requires heads { length (S.board board.old).lists + class.shape.owned < 2 ^ 32 }
+    requires seats { (S.board board.old).seats + class.shape.joined < 2 ^ 32 }
     requires numbers { length numbers.old.items ≡ (S.board board.old).seats }
     requires sound { IsSound (S.board board.old) }
     ensures row { IfOk result (λ row. row
         ≡ record {
-          class = class;
+          class = class.number;
           head = length (S.board board.old).lists;
           seat = (S.board board.old).seats;
         }) }
     ensures rows { IfOk result (λ row. entities.new
-        ≡ with_table (with_row row (replicate shape.attributes (pos 0)))
-        entities.old (numbering_by shape.permanent class)) }
+        ≡ with_table (with_row row (replicate class.shape.attributes (pos 0)))
+        entities.old (numbering_by class.shape.permanent class.number)) }
     ensures numbers { IfOk result (λ _. numbers.new.items ≡ numbers.old.items
-        ++ replicate shape.joined
-        (length (rows_in entities.old (numbering_by shape.permanent class)).rows + 1)) }
+        ++ replicate class.shape.joined
+        (length (rows_in entities.old
+        (numbering_by class.shape.permanent class.number)).rows + 1)) }
     ensures board { IfOk result (λ _. S.board board.new
-        ≡ with_places shape.owned shape.joined (S.board board.old)) }
+        ≡ with_places class.shape.owned class.shape.joined (S.board board.old)) }
     ensures err_rows { OnErr result (entities.new ≡ entities.old) }
     ensures err_numbers { OnErr result (numbers.new.items ≡ numbers.old.items) }
     ensures err_board { OnErr result (S.board board.new ≡ S.board board.old) }
     ensures sound { IsSound (S.board board.new) }
 {
-    let number = entities.count(shape.permanent, class) + 1;
+    let shape = class.shape;
+    let number = entities.count(shape.permanent, class.number) + 1;
     let values = zeros(alloc, shape.attributes)?;
     let head = board.heads();
     let seat = board.seats();
@@ -162,7 +170,11 @@ pub(crate) fn grow<S: SetBoard>(
         numbers.truncate(seat as usize);
         return Err(refused);
     }
-    let row = Row { class, head, seat };
+    let row = Row {
+        class: class.number,
+        head,
+        seat,
+    };
     if let Err(refused) = entities.push(shape.permanent, row, values) {
         take_seats(board, seat);
         take_heads(board, head);

@@ -9,7 +9,7 @@ ghost use Rattle.ss_store.specs.Value.{StoreValue};
 ghost use Rattle.ss_store.specs.Change.{IsCreation, IsMaking};
 
 use crate::change::StoreChange;
-use crate::growing::{grow, shrink};
+use crate::growing::{NumberedClass, grow, shrink};
 use crate::limits::MOST_ENTITIES;
 use crate::store::Store;
 use ss_links::SetBoard;
@@ -65,8 +65,10 @@ impl<S: SetBoard> Store<S> {
             &mut self.entities,
             &mut self.numbers,
             &mut self.board,
-            shape,
-            class,
+            NumberedClass {
+                number: class,
+                shape,
+            },
         );
         match grown {
             Err(refused) => Err(refused),

@@ -141,46 +141,56 @@ pub(crate) fn stands<S: SetBoard>(board: &S, head: u32, seat: u32) -> bool
     }
 }
 
+/// A list of a set, and where its members are read.
+#[derive(Clone, Copy)]
+pub(crate) struct ListOfSet<'a> {
+    /// The entities, of which some are its members.
+    pub(crate) entities: &'a Entities,
+    /// The number of the member at each seat of the board.
+    pub(crate) numbers: &'a [u32],
+    /// The shape of the set.
+    pub(crate) set: &'a SetShape,
+    /// The head of the list.
+    pub(crate) head: u32,
+}
+
 /// The seat after which a member is filed, or none if it is filed first; F5 if the member named is
-/// not in the list of the head.
+/// not in the list.
 pub(crate) fn place_for<S: SetBoard>(
-    entities: &Entities,
-    numbers: &[u32],
     board: &S,
-    set: &SetShape,
-    head: u32,
+    list: ListOfSet<'_>,
     start: Option<u32>,
     member: usize,
     spot: Spot,
 ) -> Result<Option<u32>, RunFault>
-    requires head { head < length (S.board board.now).lists }
+    requires head { list.head < length (S.board board.now).lists }
     requires spot { SpotBelow spot (S.board board.now).seats }
-    requires numbers { length numbers.now ≡ (S.board board.now).seats }
+    requires numbers { length list.numbers.now ≡ (S.board board.now).seats }
     requires sound { IsSound (S.board board.now) }
-    requires order { (t : ℕ) → start ≡ Some t → InOrder entities.now numbers.now set.now
-        (list_at (S.board board.now).lists head) }
+    requires order { (t : ℕ) → start ≡ Some t
+        → InOrder list.entities.now list.numbers.now list.set.now
+        (list_at (S.board board.now).lists list.head) }
     ensures { result
-        ≡ place_by entities.now numbers.now (S.board board.now).lists set.now head member spot }
+        ≡ place_by list.entry.entities.now list.entry.numbers.now (S.board board.now).lists
+        list.entry.set.now list.entry.head member spot }
 {
     match spot {
         Spot::First => Ok(None),
-        Spot::Last => Ok(board.last(head)),
-        Spot::ByRule => match &set.discipline {
-            Discipline::Fifo => Ok(board.last(head)),
+        Spot::Last => Ok(board.last(list.head)),
+        Spot::ByRule => match &list.set.discipline {
+            Discipline::Fifo => Ok(board.last(list.head)),
             Discipline::Lifo => Ok(None),
-            Discipline::Ranked(keys) => Ok(ranked_place(
-                entities, numbers, board, set.member, keys, head, start, member,
-            )),
+            Discipline::Ranked(keys) => Ok(ranked_place(board, list, keys, start, member)),
         },
         Spot::Before(at) => {
-            if stands(board, head, at) {
+            if stands(board, list.head, at) {
                 Ok(board.prev(at))
             } else {
                 Err(RunFault::NotInList)
             }
         }
         Spot::After(at) => {
-            if stands(board, head, at) {
+            if stands(board, list.head, at) {
                 Ok(Some(at))
             } else {
                 Err(RunFault::NotInList)

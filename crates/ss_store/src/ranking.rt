@@ -12,10 +12,9 @@ ghost use Rattle.ss_store.specs.Order.{Climbs, InOrder, known_at, seat_after};
 ghost use Rattle.ss_store.specs.Parts.{number_at};
 ghost use Rattle.ss_store.specs.declared.places.Spot.TheVariants as spots;
 
-use crate::places::{Spot, member_at_seat, stands};
+use crate::places::{ListOfSet, Spot, member_at_seat, stands};
 use crate::rows::{Entities, Rows};
 use crate::search::Search;
-use crate::shape::SetShape;
 use ss_links::SetBoard;
 use ss_program::{Discipline, Key, Keys, Rank};
 
@@ -85,71 +84,54 @@ fn ranks_behind(keys: &[Key], theirs: &[i64], ours: &[i64]) -> bool
 }
 
 /// Whether a member, by its seat, ranks strictly after the entity with these values.
-fn seat_behind(
-    entities: &Entities,
-    numbers: &[u32],
-    class: usize,
-    keys: &[Key],
-    seat: u32,
-    ours: &[i64],
-) -> bool
-    requires { seat < length numbers.now }
+fn seat_behind(list: ListOfSet<'_>, keys: &[Key], seat: u32, ours: &[i64]) -> bool
+    requires { seat < length list.numbers.now }
     ensures { result ≡ is_gt (by_keys keys.now
-        (keys_in entities.now keys.now class (number_at numbers.now seat))
+        (keys_in list.entry.entities.now keys.now list.entry.set.now.member
+        (number_at list.entry.numbers.now seat))
         (key_values keys.now ours.now)) }
 {
-    let number = member_at_seat(numbers, seat) as usize;
-    match values_of(entities, class, number) {
+    let number = member_at_seat(list.numbers, seat) as usize;
+    match values_of(list.entities, list.set.member, number) {
         None => ranks_behind(keys, &[], ours),
         Some(theirs) => ranks_behind(keys, theirs, ours),
     }
 }
 
 /// Whether the member at the seat before ranks strictly after the one at this seat.
-fn falls(
-    entities: &Entities,
-    numbers: &[u32],
-    class: usize,
-    keys: &[Key],
-    before: Option<u32>,
-    seat: u32,
-) -> bool
-    requires before { ForSome before (λ x. x < length numbers.now) }
-    requires seat { seat < length numbers.now }
+fn falls(list: ListOfSet<'_>, keys: &[Key], before: Option<u32>, seat: u32) -> bool
+    requires before { ForSome before (λ x. x < length list.numbers.now) }
+    requires seat { seat < length list.numbers.now }
     ensures { result ≡ false → (x : ℕ) → before ≡ Some x
-        → seat_after entities.now numbers.now keys.now class x seat ≡ false }
+        → seat_after list.entry.entities.now list.entry.numbers.now keys.now
+        list.entry.set.now.member x seat ≡ false }
 {
     match before {
         None => false,
         Some(front) => {
-            let number = member_at_seat(numbers, seat) as usize;
-            match values_of(entities, class, number) {
-                None => seat_behind(entities, numbers, class, keys, front, &[]),
-                Some(ours) => seat_behind(entities, numbers, class, keys, front, ours),
+            let number = member_at_seat(list.numbers, seat) as usize;
+            match values_of(list.entities, list.set.member, number) {
+                None => seat_behind(list, keys, front, &[]),
+                Some(ours) => seat_behind(list, keys, front, ours),
             }
         }
     }
 }
 
-/// Whether no member of the list of a head ranks strictly after a later one.
-fn climbs<S: SetBoard>(
-    entities: &Entities,
-    numbers: &[u32],
-    board: &S,
-    class: usize,
-    keys: &[Key],
-    head: u32,
-) -> bool
-    requires head { head < length (S.board board.now).lists }
-    requires numbers { length numbers.now ≡ (S.board board.now).seats }
+/// Whether no member of a list ranks strictly after a later one.
+fn climbs<S: SetBoard>(board: &S, list: ListOfSet<'_>, keys: &[Key]) -> bool
+    requires head { list.head < length (S.board board.now).lists }
+    requires numbers { length list.numbers.now ≡ (S.board board.now).seats }
     requires sound { IsSound (S.board board.now) }
-    ensures { result ≡ true → Climbs (seat_after entities.now numbers.now keys.now class)
-        (list_at (S.board board.now).lists head) }
+    ensures { result ≡ true
+        → Climbs (seat_after list.entry.entities.now list.entry.numbers.now keys.now
+        list.entry.set.now.member)
+        (list_at (S.board board.now).lists list.entry.head) }
 {
     let mut before = None;
-    let mut at = board.first(head);
+    let mut at = board.first(list.head);
     while let Some(seat) = at {
-        if falls(entities, numbers, class, keys, before, seat) {
+        if falls(list, keys, before, seat) {
             return false;
         }
         before = at;
@@ -158,55 +140,46 @@ fn climbs<S: SetBoard>(
     true
 }
 
-/// Whether a member is to be filed by the ranking of its set, in a list of a head that is in order.
+/// Whether a member is to be filed by the ranking of its set, in a list that is in order.
 pub(crate) fn is_in_order<S: SetBoard>(
     search: &Search,
-    entities: &Entities,
-    numbers: &[u32],
     board: &S,
-    set: &SetShape,
-    head: u32,
+    list: ListOfSet<'_>,
     spot: Spot,
 ) -> bool
-    requires head { head < length (S.board board.now).lists }
-    requires numbers { length numbers.now ≡ (S.board board.now).seats }
+    requires head { list.head < length (S.board board.now).lists }
+    requires numbers { length list.numbers.now ≡ (S.board board.now).seats }
     requires sound { IsSound (S.board board.now) }
-    requires known { known_at search.now head ≡ true → InOrder entities.now numbers.now set.now
-        (list_at (S.board board.now).lists head) }
-    ensures order { result ≡ true → InOrder entities.now numbers.now set.now
-        (list_at (S.board board.now).lists head) }
+    requires known { known_at search.now list.head ≡ true
+        → InOrder list.entities.now list.numbers.now list.set.now
+        (list_at (S.board board.now).lists list.head) }
+    ensures order { result ≡ true
+        → InOrder list.entry.entities.now list.entry.numbers.now list.entry.set.now
+        (list_at (S.board board.now).lists list.entry.head) }
     ensures rule { result ≡ true → spot ≡ spots.ByRule }
 {
-    match (spot, &set.discipline) {
+    match (spot, &list.set.discipline) {
         (Spot::ByRule, Discipline::Ranked(keys)) => {
-            search.knows(head) || climbs(entities, numbers, board, set.member, &keys.list, head)
+            search.knows(list.head) || climbs(board, list, &keys.list)
         }
         _ => false,
     }
 }
 
-/// The last seat of the tree of a head whose member does not rank after an entity with these
+/// The last seat of the tree of a list whose member does not rank after an entity with these
 /// values, as far as the tree is right.
-fn searched(
-    search: &Search,
-    entities: &Entities,
-    numbers: &[u32],
-    class: usize,
-    keys: &[Key],
-    head: u32,
-    ours: &[i64],
-) -> Option<u32> {
+fn searched(search: &Search, list: ListOfSet<'_>, keys: &[Key], ours: &[i64]) -> Option<u32> {
     let trees = search.trees();
     let mut found = None;
-    let mut at = trees.root(head);
-    for _ in 0..numbers.len() {
+    let mut at = trees.root(list.head);
+    for _ in 0..list.numbers.len() {
         let Some(seat) = at else {
             return found;
         };
-        if seat as usize >= numbers.len() {
+        if seat as usize >= list.numbers.len() {
             return found;
         }
-        if seat_behind(entities, numbers, class, keys, seat, ours) {
+        if seat_behind(list, keys, seat, ours) {
             at = trees.left(seat);
         } else {
             found = at;
@@ -216,15 +189,12 @@ fn searched(
     found
 }
 
-/// A seat of the list of a head after which the place of an entity is to be looked for, if the list
-/// is in order.
+/// A seat of a list after which the place of an entity is to be looked for, if the list is in
+/// order.
 pub(crate) fn start_of(
     in_order: bool,
     search: &Search,
-    entities: &Entities,
-    numbers: &[u32],
-    set: &SetShape,
-    head: u32,
+    list: ListOfSet<'_>,
     member: usize,
 ) -> Option<u32>
     ensures { in_order ≡ false → result ≡ None }
@@ -232,100 +202,93 @@ pub(crate) fn start_of(
     if !in_order {
         return None;
     }
-    match &set.discipline {
-        Discipline::Ranked(keys) => {
-            let class = set.member;
-            match values_of(entities, class, member) {
-                None => searched(search, entities, numbers, class, &keys.list, head, &[]),
-                Some(ours) => searched(search, entities, numbers, class, &keys.list, head, ours),
-            }
-        }
+    match &list.set.discipline {
+        Discipline::Ranked(keys) => match values_of(list.entities, list.set.member, member) {
+            None => searched(search, list, &keys.list, &[]),
+            Some(ours) => searched(search, list, &keys.list, ours),
+        },
         _ => None,
     }
 }
 
-/// Whether a seat is in the list of a head and its member does not rank after an entity with these
-/// values. The search for that entity's place may then begin after the seat.
+/// Whether a seat is in a list and its member does not rank after an entity with these values. The
+/// search for that entity's place may then begin after the seat.
 fn may_begin<S: SetBoard>(
-    entities: &Entities,
-    numbers: &[u32],
     board: &S,
-    class: usize,
+    list: ListOfSet<'_>,
     keys: &[Key],
-    head: u32,
     seat: u32,
     ours: &[i64],
 ) -> bool
-    requires { length numbers.now ≡ (S.board board.now).seats }
+    requires { length list.numbers.now ≡ (S.board board.now).seats }
     ensures there { result ≡ true → seat < (S.board board.now).seats }
-    ensures stands { result ≡ true → is_at (head_of (S.board board.now).lists seat) head ≡ true }
+    ensures stands { result ≡ true
+        → is_at (head_of (S.board board.now).lists seat) list.entry.head ≡ true }
     ensures passed { result ≡ true → is_gt (by_keys keys.now
-        (keys_in entities.now keys.now class (number_at numbers.now seat))
+        (keys_in list.entry.entities.now keys.now list.entry.set.now.member
+        (number_at list.entry.numbers.now seat))
         (key_values keys.now ours.now)) ≡ false }
 {
-    if seat as usize >= numbers.len() || !stands(board, head, seat) {
+    if seat as usize >= list.numbers.len() || !stands(board, list.head, seat) {
         return false;
     }
-    !seat_behind(entities, numbers, class, keys, seat, ours)
+    !seat_behind(list, keys, seat, ours)
 }
 
 /// The seat at which the search for the place of an entity with these values begins: the first seat
-/// of the list of a head, or the one after a seat of the list whose member does not rank after it.
+/// of a list, or the one after a seat of the list whose member does not rank after it.
 fn first_look<S: SetBoard>(
-    entities: &Entities,
-    numbers: &[u32],
     board: &S,
-    class: usize,
+    list: ListOfSet<'_>,
     keys: &[Key],
-    head: u32,
     start: Option<u32>,
     ours: &[i64],
 ) -> (Option<u32>, Option<u32>)
-    requires head { head < length (S.board board.now).lists }
-    requires numbers { length numbers.now ≡ (S.board board.now).seats }
+    requires head { list.head < length (S.board board.now).lists }
+    requires numbers { length list.numbers.now ≡ (S.board board.now).seats }
     requires sound { IsSound (S.board board.now) }
-    requires order { (t : ℕ) → start ≡ Some t → Climbs (seat_after entities.now numbers.now keys.now class)
-        (list_at (S.board board.now).lists head) }
-    ensures { Among (list_at (S.board board.now).lists head)
+    requires order { (t : ℕ) → start ≡ Some t
+        → Climbs (seat_after list.entities.now list.numbers.now keys.now list.set.now.member)
+        (list_at (S.board board.now).lists list.head) }
+    ensures { Among (list_at (S.board board.now).lists list.entry.head)
         (λ t. is_gt (by_keys keys.now
-        (keys_in entities.now keys.now class (number_at numbers.now t))
+        (keys_in list.entry.entities.now keys.now list.entry.set.now.member
+        (number_at list.entry.numbers.now t))
         (key_values keys.now ours.now)))
         result.0 result.1 }
 {
     if let Some(seat) = start {
-        if may_begin(entities, numbers, board, class, keys, head, seat, ours) {
+        if may_begin(board, list, keys, seat, ours) {
             return (start, board.next(seat));
         }
     }
-    (None, board.first(head))
+    (None, board.first(list.head))
 }
 
-/// The seat after which the list of a head has an entity with these values filed, or none if it is
-/// filed first.
+/// The seat after which a list has an entity with these values filed, or none if it is filed first.
 fn place_among<S: SetBoard>(
-    entities: &Entities,
-    numbers: &[u32],
     board: &S,
-    class: usize,
+    list: ListOfSet<'_>,
     keys: &[Key],
-    head: u32,
     start: Option<u32>,
     ours: &[i64],
 ) -> Option<u32>
-    requires head { head < length (S.board board.now).lists }
-    requires numbers { length numbers.now ≡ (S.board board.now).seats }
+    requires head { list.head < length (S.board board.now).lists }
+    requires numbers { length list.numbers.now ≡ (S.board board.now).seats }
     requires sound { IsSound (S.board board.now) }
-    requires order { (t : ℕ) → start ≡ Some t → Climbs (seat_after entities.now numbers.now keys.now class)
-        (list_at (S.board board.now).lists head) }
+    requires order { (t : ℕ) → start ≡ Some t
+        → Climbs (seat_after list.entities.now list.numbers.now keys.now list.set.now.member)
+        (list_at (S.board board.now).lists list.head) }
     ensures { result ≡ rank_before
         (λ t. is_gt (by_keys keys.now
-        (keys_in entities.now keys.now class (number_at numbers.now t))
+        (keys_in list.entry.entities.now keys.now list.entry.set.now.member
+        (number_at list.entry.numbers.now t))
         (key_values keys.now ours.now)))
-        None (list_at (S.board board.now).lists head) }
+        None (list_at (S.board board.now).lists list.entry.head) }
 {
-    let (mut before, mut at) = first_look(entities, numbers, board, class, keys, head, start, ours);
+    let (mut before, mut at) = first_look(board, list, keys, start, ours);
     while let Some(seat) = at {
-        if seat_behind(entities, numbers, class, keys, seat, ours) {
+        if seat_behind(list, keys, seat, ours) {
             return before;
         }
         before = at;
@@ -336,37 +299,25 @@ fn place_among<S: SetBoard>(
 
 /// The seat after which a ranked set files entity number `member`, or none if it files it first.
 pub(crate) fn ranked_place<S: SetBoard>(
-    entities: &Entities,
-    numbers: &[u32],
     board: &S,
-    class: usize,
+    list: ListOfSet<'_>,
     keys: &Keys,
-    head: u32,
     start: Option<u32>,
     member: usize,
 ) -> Option<u32>
-    requires head { head < length (S.board board.now).lists }
-    requires numbers { length numbers.now ≡ (S.board board.now).seats }
+    requires head { list.head < length (S.board board.now).lists }
+    requires numbers { length list.numbers.now ≡ (S.board board.now).seats }
     requires sound { IsSound (S.board board.now) }
-    requires order { (t : ℕ) → start ≡ Some t → Climbs (seat_after entities.now numbers.now keys.now class)
-        (list_at (S.board board.now).lists head) }
+    requires order { (t : ℕ) → start ≡ Some t
+        → Climbs (seat_after list.entities.now list.numbers.now keys.now list.set.now.member)
+        (list_at (S.board board.now).lists list.head) }
     ensures { result
-        ≡ rank_before (seat_behind_in entities.now numbers.now keys.now class member) None
-        (list_at (S.board board.now).lists head) }
+        ≡ rank_before (seat_behind_in list.entry.entities.now list.entry.numbers.now keys.now
+        list.entry.set.now.member member) None
+        (list_at (S.board board.now).lists list.entry.head) }
 {
-    match values_of(entities, class, member) {
-        None => place_among(
-            entities,
-            numbers,
-            board,
-            class,
-            &keys.list,
-            head,
-            start,
-            &[],
-        ),
-        Some(ours) => place_among(
-            entities, numbers, board, class, &keys.list, head, start, ours,
-        ),
+    match values_of(list.entities, list.set.member, member) {
+        None => place_among(board, list, &keys.list, start, &[]),
+        Some(ours) => place_among(board, list, &keys.list, start, ours),
     }
 }

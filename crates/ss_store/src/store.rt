@@ -12,8 +12,8 @@ ghost use Rattle.ss_store.specs.Change.{FitsStore, unapply_store, IsOutcome, IsR
 use crate::change::StoreChange;
 use crate::growing::add_heads;
 use crate::places::{
-    head_of, known, member_at_seat, member_if, number_of_value, place_for, seat_if, seat_of,
-    seat_to_remove, spot_of,
+    ListOfSet, head_of, known, member_at_seat, member_if, number_of_value, place_for, seat_if,
+    seat_of, seat_to_remove, spot_of,
 };
 use crate::ranking::{is_in_order, start_of};
 use crate::rows::Entities;
@@ -163,34 +163,15 @@ impl<S: SetBoard> Store<S> {
             Some(_) => return Err(RunFault::AlreadyInSet),
             None => {}
         }
-        let in_order = is_in_order(
-            &self.search,
-            &self.entities,
-            &self.numbers,
-            &self.board,
-            shape,
+        let list = ListOfSet {
+            entities: &self.entities,
+            numbers: &self.numbers,
+            set: shape,
             head,
-            spot,
-        );
-        let start = start_of(
-            in_order,
-            &self.search,
-            &self.entities,
-            &self.numbers,
-            shape,
-            head,
-            member,
-        );
-        let before = match place_for(
-            &self.entities,
-            &self.numbers,
-            &self.board,
-            shape,
-            head,
-            start,
-            member,
-            spot,
-        ) {
+        };
+        let in_order = is_in_order(&self.search, &self.board, list, spot);
+        let start = start_of(in_order, &self.search, list, member);
+        let before = match place_for(&self.board, list, start, member, spot) {
             Err(fault) => return Err(fault),
             Ok(before) => before,
         };

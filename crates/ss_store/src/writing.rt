@@ -22,36 +22,40 @@ use ss_links::SetBoard;
 use ss_program::{Discipline, Key};
 use ss_words::RunFault;
 
-/// Gives an attribute of an entity, by its index in its numbering, another value; answers the old
-/// one.
-pub(crate) fn replace(
-    entities: &mut Entities,
-    permanent: bool,
-    class: usize,
-    index: usize,
-    attribute: usize,
-    value: i64,
-) -> i64
-    requires there { permanent ≡ true → class < length entities.old.made }
+/// An entity, by its index in its numbering.
+#[derive(Clone, Copy)]
+pub(crate) struct EntityAt {
+    /// Whether the numbering is that of its class, and not that of references.
+    pub(crate) permanent: bool,
+    pub(crate) class: usize,
+    pub(crate) index: usize,
+}
+
+/// Gives an attribute of an entity another value; answers the old one.
+#[inline(always)]
+pub(crate) fn replace(entities: &mut Entities, at: EntityAt, attribute: usize, value: i64) -> i64
+    requires there { at.permanent ≡ true → at.class < length entities.old.made }
     requires living { (v : List ℤ)
-        × (slice_get (rows_in entities.old (numbering_by permanent class)).values index
+        × (slice_get (rows_in entities.old (numbering_by at.permanent at.class)).values at.index
         ≡ Some (Some v)) }
     ensures value { (v : List ℤ)
-        → slice_get (rows_in entities.old (numbering_by permanent class)).values index
+        → slice_get (rows_in entities.old (numbering_by at.permanent at.class)).values at.index
         ≡ Some (Some v)
         → result ≡ slice_index_or v attribute (pos 0) }
     ensures rows { (v : List ℤ)
-        → slice_get (rows_in entities.old (numbering_by permanent class)).values index
+        → slice_get (rows_in entities.old (numbering_by at.permanent at.class)).values at.index
         ≡ Some (Some v)
-        → entities.new ≡ with_table (with_values index (Some (slice_set v attribute value)))
-        entities.old (numbering_by permanent class) }
+        → entities.new ≡ with_table (with_values at.index (Some (slice_set v attribute value)))
+        entities.old (numbering_by at.permanent at.class) }
 {
-    let mut values = entities.take_values(permanent, class, index).unwrap();
+    let mut values = entities
+        .take_values(at.permanent, at.class, at.index)
+        .unwrap();
     let old = value_at(&values, attribute);
     if attribute < values.len() {
         values[attribute] = value;
     }
-    entities.put_values(permanent, class, index, values);
+    entities.put_values(at.permanent, at.class, at.index, values);
     old
 }
 
@@ -123,15 +127,12 @@ impl<S: SetBoard> Store<S> {
             Some(row) => row,
         };
         let ranked = is_ranked_by(&self.board, &self.sets, class, row.seat, attribute);
-        let index = number - 1;
-        let old = replace(
-            &mut self.entities,
-            shape.permanent,
+        let at = EntityAt {
+            permanent: shape.permanent,
             class,
-            index,
-            attribute,
-            value,
-        );
+            index: number - 1,
+        };
+        let old = replace(&mut self.entities, at, attribute, value);
         self.search.forget_if(ranked);
         Ok(StoreChange::AttributeSet {
             class,
@@ -153,15 +154,12 @@ impl<S: SetBoard> Store<S> {
         } }
     {
         let shape = self.classes[class];
-        let index = number - 1;
-        replace(
-            &mut self.entities,
-            shape.permanent,
+        let at = EntityAt {
+            permanent: shape.permanent,
             class,
-            index,
-            attribute,
-            value,
-        );
+            index: number - 1,
+        };
+        replace(&mut self.entities, at, attribute, value);
         self.search.forget();
     }
 }

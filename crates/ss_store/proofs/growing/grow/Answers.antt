@@ -5,30 +5,30 @@ use Rattle.ss_store.proofs.growing.grow.Goals as goal
 
 pub take_seats-requires-clause-there : goal.take_seats-requires-clause-there
 take_seats-requires-clause-there g c =
-    seats_there (g.S.SetBoard.board c.args.board.now) _ c.args.shape.owned c.args.shape.joined c.seats-seat.result
-    c.in_default.ensures.ok c.seats-seat.ensures.count
+    seats_there (g.S.SetBoard.board c.args.board.now) _ c.args.class.shape.owned c.args.class.shape.joined
+    c.seats-seat.result c.in_default.ensures.ok c.seats-seat.ensures.count
 
 pub take_seats-requires-clause-free : goal.take_seats-requires-clause-free
 take_seats-requires-clause-free g c = λ t le. free_grown (g.S.SetBoard.board c.args.board.now)
-    (g.S.SetBoard.board c.add_places.new.board) c.args.shape.owned c.args.shape.joined c.seats-seat.result t
+    (g.S.SetBoard.board c.add_places.new.board) c.args.class.shape.owned c.args.class.shape.joined c.seats-seat.result t
     c.requires.sound c.in_default.ensures.ok c.seats-seat.ensures.count le
 
 pub take_heads-requires-clause-there : goal.take_heads-requires-clause-there
 take_heads-requires-clause-there g c =
-    heads_there (g.S.SetBoard.board c.args.board.now).lists _ c.args.shape.owned c.heads-head.result
+    heads_there (g.S.SetBoard.board c.args.board.now).lists _ c.args.class.shape.owned c.heads-head.result
     (ap (λ (b : Board). b.lists) c.take_seats.ensures.board ∙ ap (λ (b : Board). b.lists) c.in_default.ensures.ok)
     c.heads-head.ensures.count
 
 pub take_heads-requires-clause-empty : goal.take_heads-requires-clause-empty
 take_heads-requires-clause-empty g c = λ h le.
-    heads_empty (g.S.SetBoard.board c.args.board.now).lists _ c.args.shape.owned c.heads-head.result h
+    heads_empty (g.S.SetBoard.board c.args.board.now).lists _ c.args.class.shape.owned c.heads-head.result h
     (ap (λ (b : Board). b.lists) c.take_seats.ensures.board ∙ ap (λ (b : Board). b.lists) c.in_default.ensures.ok)
     c.heads-head.ensures.count le
 
 pub returns-in-Err-push-clause-err_board : goal.returns-in-Err-push-clause-err_board
 returns-in-Err-push-clause-err_board g c =
     places_back (g.S.SetBoard.board c.args.board.now) (g.S.SetBoard.board c.add_places.new.board)
-    (g.S.SetBoard.board c.take_seats.new.board) _ c.args.shape.owned c.args.shape.joined c.heads-head.result
+    (g.S.SetBoard.board c.take_seats.new.board) _ c.args.class.shape.owned c.args.class.shape.joined c.heads-head.result
     c.seats-seat.result c.in_default.ensures.ok c.heads-head.ensures.count c.seats-seat.ensures.count
     c.take_seats.ensures.board c.take_heads.ensures.board
 

@@ -7,20 +7,20 @@ use Rattle.ss_store.proofs.writing.replace.Goals.{then-attribute-len, else-attri
 use Rattle.ss_store.proofs.writing.replace.Goals as goal
 
 pub put_values-requires-clause-there : goal.put_values-requires-clause-there
-put_values-requires-clause-there c = λ e. made_still (with_values c.args.index None) c.args.entities.now _
-    (numbering_by c.args.permanent c.args.class) c.args.class c.take_values.ensures.rows (c.requires.there e)
+put_values-requires-clause-there c = λ e. made_still (with_values c.args.at.index None) c.args.entities.now _
+    (numbering_by c.args.at.permanent c.args.at.class) c.args.at.class c.take_values.ensures.rows (c.requires.there e)
 
 pub put_values-requires-clause-index : goal.put_values-requires-clause-index
-put_values-requires-clause-index c = index_still c.args.entities.now _ c.args.permanent c.args.class c.args.index None
-    c.requires.living.0 c.requires.there c.take_values.ensures.rows c.requires.living.1
+put_values-requires-clause-index c = index_still c.args.entities.now _ c.args.at.permanent c.args.at.class
+    c.args.at.index None c.requires.living.0 c.requires.there c.take_values.ensures.rows c.requires.living.1
 
 pub returns-clause-rows : goal.returns-clause-rows
 returns-clause-rows c = λ v e.
     let same = same_values _ c.take_values.result c.unwrap-values.result _ v c.take_values.ensures.value
     c.unwrap-values.ensures e in
-    put_over c.args.entities.now c.take_values.new.self _ (numbering_by c.args.permanent c.args.class) c.args.index
-    c.if-attribute-len.values.items (slice_set v c.args.attribute c.args.value) c.take_values.ensures.rows
-    c.put_values.ensures
+    put_over c.args.entities.now c.take_values.new.self _ (numbering_by c.args.at.permanent c.args.at.class)
+    c.args.at.index c.if-attribute-len.values.items (slice_set v c.args.attribute c.args.value)
+    c.take_values.ensures.rows c.put_values.ensures
     (elim c.if-attribute-len.branch [
       | then-attribute-len w ↦ ap (λ z. z.items) w.values-is
           ∙ ap (λ (x : ℤ). slice_set c.unwrap-values.result.items c.args.attribute x)

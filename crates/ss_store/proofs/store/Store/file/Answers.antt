@@ -97,10 +97,8 @@ is_in_order-in_order-requires-clause-known g c e = let k =
     c.self.invariant.3 k.is_set (sym c.head_of.ensures ∙ c.in-Some.is) e)
 
 pub place_for-requires-clause-order : goal.place_for-requires-clause-order
-place_for-requires-clause-order g c t e = subst (λ z. InOrder c.self.inside.entities z c.index-shape.result.now
-    (list_at (g.S.SetBoard.board c.self.inside.board).lists c.in-Some.head))
-    (c.deref.ensures.value ∙ sym c.deref-3.ensures.value) (c.is_in_order-in_order.ensures.order
-    (started c.is_in_order-in_order.result c.start_of-start.result t c.start_of-start.ensures e))
+place_for-requires-clause-order g c t e = c.is_in_order-in_order.ensures.order
+    (started c.is_in_order-in_order.result c.start_of-start.result t c.start_of-start.ensures e)
 
 pub place_for-requires-clause-head : goal.place_for-requires-clause-head
 place_for-requires-clause-head g c = let k =
@@ -124,7 +122,7 @@ returns-in-Err-place_for g c = let p = file_not_there _ _ c.args.set c.index-sha
     ∙ c.in-Ok.is) (sym c.place.ensures.value
     ∙ c.in-None-place.is) (sym (c.place_for.ensures
     ∙ ap (λ z. place_by c.self.inside.entities z (g.S.SetBoard.board c.self.inside.board).lists c.index-shape.result.now
-    c.in-Some.head c.number_of_value-member.result c.in-Ok.spot) c.deref-3.ensures.value) ∙ c.in-Err-place_for.is) in
+    c.in-Some.head c.number_of_value-member.result c.in-Ok.spot) c.deref.ensures.value) ∙ c.in-Err-place_for.is) in
     file_to (Err c.in-Err-place_for.fault) c.args.self.now c.args.self.now c.args.set _ _ _ _ c.args.how
     (let fits : FitsSigned w64 c.args.owner = search rules in c.number_of_value-number.ensures
     ∙ ap number_of (to_z-of_z w64 _ fits))
@@ -140,7 +138,7 @@ relink-requires g c = can_relink _ _ c.args.set c.index-shape.result.now c.numbe
     ∙ c.in-Ok.is) (sym c.place.ensures.value
     ∙ c.in-None-place.is) (sym (c.place_for.ensures
     ∙ ap (λ z. place_by c.self.inside.entities z (g.S.SetBoard.board c.self.inside.board).lists c.index-shape.result.now
-    c.in-Some.head c.number_of_value-member.result c.in-Ok.spot) c.deref-3.ensures.value) ∙ c.in-Ok-place_for.is)
+    c.in-Some.head c.number_of_value-member.result c.in-Ok.spot) c.deref.ensures.value) ∙ c.in-Ok-place_for.is)
 
 pub invariant_of-self : goal.invariant_of-self
 invariant_of-self g c = (
@@ -156,7 +154,7 @@ invariant_of-self g c = (
       ∙ c.in-None-place.is) (sym (c.place_for.ensures
       ∙ ap (λ z. place_by c.self.inside.entities z (g.S.SetBoard.board c.self.inside.board).lists
       c.index-shape.result.now
-      c.in-Some.head c.number_of_value-member.result c.in-Ok.spot) c.deref-3.ensures.value)
+      c.in-Some.head c.number_of_value-member.result c.in-Ok.spot) c.deref.ensures.value)
       ∙ c.in-Ok-place_for.is) c.relink.ensures.board c.relink.ensures.sound.1,
   subst (AreInOrder _) (sym (c.note.ensures
       ∙ ap (λ z. slice_set z c.in-Some.head c.is_in_order-in_order.result) c.put.ensures))
@@ -170,7 +168,7 @@ invariant_of-self g c = (
       ∙ c.in-None-place.is) (sym (c.place_for.ensures
       ∙ ap (λ z. place_by c.self.inside.entities z (g.S.SetBoard.board c.self.inside.board).lists
       c.index-shape.result.now
-      c.in-Some.head c.number_of_value-member.result c.in-Ok.spot) c.deref-3.ensures.value)
+      c.in-Some.head c.number_of_value-member.result c.in-Ok.spot) c.deref.ensures.value)
       ∙ c.in-Ok-place_for.is) c.relink.ensures.board c.relink.ensures.sound.1 c.self.invariant.3
       c.is_in_order-in_order.ensures.rule (λ e. subst (λ z. InOrder c.self.inside.entities z c.index-shape.result.now
       (list_at (g.S.SetBoard.board c.self.inside.board).lists c.in-Some.head)) c.deref.ensures.value
@@ -186,7 +184,7 @@ returns g c = let p = file_left _ _ _ c.args.set c.index-shape.result.now c.numb
     ∙ c.in-Ok.is) (sym c.place.ensures.value
     ∙ c.in-None-place.is) (sym (c.place_for.ensures
     ∙ ap (λ z. place_by c.self.inside.entities z (g.S.SetBoard.board c.self.inside.board).lists c.index-shape.result.now
-    c.in-Some.head c.number_of_value-member.result c.in-Ok.spot) c.deref-3.ensures.value)
+    c.in-Some.head c.number_of_value-member.result c.in-Ok.spot) c.deref.ensures.value)
     ∙ c.in-Ok-place_for.is) c.relink.ensures.board c.relink.ensures.sound.1 in
     file_to
     (Ok (Filed c.args.set c.index-shape.result.now.owner c.index-shape.result.now.list c.number_of_value-number.result
