@@ -1,5 +1,5 @@
 //! The translation of a linear expression into operations on one accumulator.
-ghost use Rattle.std.specs.Prelude.{◌≡◌, [], option_map, IfOk};
+ghost use Rattle.std.specs.Prelude.{◌≡◌, ◌∷◌, ◌++◌, [], option_map, IfOk, Some};
 ghost use Rattle.ss_program.specs.ProgramExpr.{expr_of, term_of, factor_of, subscript_of};
 ghost use Rattle.ss_program.specs.Lowering as spec;
 
@@ -242,6 +242,15 @@ fn factor_op(f: &Factor) -> Option<Op>
     }
 }
 
+/// Puts an operation, which is linear.
+fn put(code: &mut Vec<Op>, op: Op) -> Result<bool, AllocError>
+    ensures { IfOk result (λ b. spec.if_linear b code.new.items
+        ≡ Some (code.old.items ++ op ∷ [])) }
+{
+    code.push(op)?;
+    Ok(true)
+}
+
 /// Puts the operations of a sum, and says whether it is linear. If not, the put operations mean
 /// nothing.
 #[cycle(lower)]
@@ -283,6 +292,18 @@ fn lower_term(code: &mut Vec<Op>, t: &Term) -> Result<bool, AllocError>
     Ok(true)
 }
 
+/// Puts the operations of a sum, and one more after them.
+#[cycle(lower)]
+fn lower_before(code: &mut Vec<Op>, e: &Sum, op: Op) -> Result<bool, AllocError>
+    requires { code.old.items ≡ [] }
+    ensures { IfOk result (λ b. option_map (λ ops. ops ++ op ∷ []) (spec.lowered (expr_of e.now))
+        ≡ spec.if_linear b code.new.items) }
+{
+    let is_linear = lower_sum(code, e)?;
+    code.push(op)?;
+    Ok(is_linear)
+}
+
 #[cycle(lower)]
 fn lower_factor(code: &mut Vec<Op>, f: &Factor) -> Result<bool, AllocError>
     requires { code.old.items ≡ [] }
@@ -290,43 +311,25 @@ fn lower_factor(code: &mut Vec<Op>, f: &Factor) -> Result<bool, AllocError>
         (λ b. spec.lowered_factor (factor_of f.now) ≡ spec.if_linear b code.new.items) }
 {
     match f {
-        Factor::Number(n) => {
-            let Some(c) = constant(*n) else {
-                return Ok(false);
-            };
-            code.push(Op::LoadConstant(c))?;
-            Ok(true)
-        }
-        Factor::Variable(x) => {
-            code.push(load_op(*x))?;
-            Ok(true)
-        }
-        Factor::Absolute(e) => {
-            let is_linear = lower_sum(code, e)?;
-            code.push(Op::Absolute)?;
-            Ok(is_linear)
-        }
+        Factor::Number(n) => match constant(*n) {
+            Some(c) => put(code, Op::LoadConstant(c)),
+            None => Ok(false),
+        },
+        Factor::Variable(x) => put(code, load_op(*x)),
+        Factor::Absolute(e) => lower_before(code, e, Op::Absolute),
         Factor::Attribute { class, attribute } => {
             let is_linear = lower_subscript(code, &attribute.subscript)?;
             code.push(Op::LoadAttribute(*class, attribute.number))?;
             Ok(is_linear)
         }
-        Factor::Quotient(dividend, divisor) => {
-            let Some(c) = constant_in(divisor) else {
-                return Ok(false);
-            };
-            let is_linear = lower_sum(code, dividend)?;
-            code.push(Op::DivideConstant(c))?;
-            Ok(is_linear)
-        }
-        Factor::Remainder(dividend, divisor) => {
-            let Some(c) = constant_in(divisor) else {
-                return Ok(false);
-            };
-            let is_linear = lower_sum(code, dividend)?;
-            code.push(Op::RemainderConstant(c))?;
-            Ok(is_linear)
-        }
+        Factor::Quotient(dividend, divisor) => match constant_in(divisor) {
+            Some(c) => lower_before(code, dividend, Op::DivideConstant(c)),
+            None => Ok(false),
+        },
+        Factor::Remainder(dividend, divisor) => match constant_in(divisor) {
+            Some(c) => lower_before(code, dividend, Op::RemainderConstant(c)),
+            None => Ok(false),
+        },
         Factor::Within(e) => lower_sum(code, e),
         Factor::Greatest(_)
         | Factor::Least(_)
@@ -343,10 +346,7 @@ fn lower_subscript(code: &mut Vec<Op>, subscript: &Subscript) -> Result<bool, Al
         ≡ spec.if_linear b code.new.items) }
 {
     match subscript {
-        Subscript::Implied(i) => {
-            code.push(Op::LoadGlobal(*i))?;
-            Ok(true)
-        }
+        Subscript::Implied(i) => put(code, Op::LoadGlobal(*i)),
         Subscript::System => Ok(false),
         Subscript::Written(e) => lower_sum(code, e),
     }
