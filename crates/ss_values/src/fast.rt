@@ -16,7 +16,7 @@ use ss_links::SetBoard;
 use ss_program::{Arguments, Expr, Factor, Subscript, Sum, Term, TermSign};
 
 #[inline(always)]
-fn product(x: i64, y: i64) -> Option<i64>
+pub(crate) fn product(x: i64, y: i64) -> Option<i64>
     ensures { IfSome result (λ z. result_in_range (x *ℤ y) ≡ Ok z) }
 {
     x.checked_mul(y)
@@ -30,7 +30,7 @@ fn number(n: u64) -> Option<i64>
 }
 
 #[inline(always)]
-fn size(x: i64) -> Option<i64>
+pub(crate) fn size(x: i64) -> Option<i64>
     ensures { IfSome result (λ z. result_in_range (pos (unsigned_abs x)) ≡ Ok z) }
 {
     x.checked_abs()
