@@ -37,11 +37,6 @@ pub or_all : (b : Bool) → (b || true) ≡ true
 or_all true = refl
 or_all false = refl
 
--- or is associative
-pub or_assoc : (a b c : Bool) → (a || (b || c)) ≡ ((a || b) || c)
-or_assoc true b c = refl
-or_assoc false b c = refl
-
 -- the names of facts with one more after them
 pub names_of_push : {A : Type 0} (fs : List (Fact A)) (f : Fact A) →
     names_of (fs ++ f ∷ []) ≡ names_of fs ++ f.name ∷ []
@@ -177,21 +172,25 @@ index_first fs f m n k l e s u t h =
     ≡ None = rw e (none_is (position (bytes_eq f.name) ns) (sym (any_is ns f.name) ∙ t)) in
     rw (names_of_push fs f, sym e) (index_more ns m n k v none h)
 
--- the first repeat of names with one more after them: that before, else the new name if it is among them
+-- something that is found before what one of two options has
+pub else_or : {X : Type 0} (b : Bool) (x : X) (o q : Option X) →
+    cond b (Some x) (option_or o q) ≡ option_or (cond b (Some x) o) q
+else_or true x o q = refl
+else_or false x o q = refl
+
+-- the first repeat of names with others after them: that before, else the first among the others
+pub repeat_append : (before ns ms : List Name) →
+    first_repeat before (ns ++ ms) ≡ option_or (first_repeat before ns) (first_repeat (before ++ ns) ms)
+repeat_append before [] ms = ap (λ (xs : List Name). first_repeat xs ms) (sym (append_none before))
+repeat_append before (n ∷ ns) ms =
+    ap (λ (o : Option Name). cond (is_among n before) (Some n) o)
+    (repeat_append (before ++ n ∷ []) ns ms ∙ rw (append_assoc before (n ∷ []) ns) refl)
+    ∙ else_or (is_among n before) n (first_repeat (before ++ n ∷ []) ns) (first_repeat (before ++ n ∷ ns) ms)
+
+-- with one more after them: that before, else the new name if it is among them
 repeat_push : (before ns : List Name) (n : Name) → first_repeat before (ns ++ n ∷ [])
     ≡ option_or (first_repeat before ns) (cond (is_among n (before ++ ns)) (Some n) None)
-repeat_push before [] n = ap (λ (ms : List Name). cond (is_among n ms) (Some n) None) (sym (append_none before))
-repeat_push before (m ∷ ms) n =
-    ap (λ (o : Option Name). cond (is_among m before) (Some m) o)
-    (repeat_push (before ++ m ∷ []) ms n
-    ∙ rw (append_assoc before (m ∷ []) ms) refl)
-    ∙ else_or (is_among m before) m (first_repeat (before ++ m ∷ []) ms)
-    (cond (is_among n (before ++ m ∷ ms)) (Some n) None)
-  where
-    else_or : (b : Bool) (x : Name) (o q : Option Name) →
-        cond b (Some x) (option_or o q) ≡ option_or (cond b (Some x) o) q
-    else_or true x o q = refl
-    else_or false x o q = refl
+repeat_push before ns n = repeat_append before ns (n ∷ [])
 
 -- there is a repeat if there is a first one
 pub repeat_is : (before ns : List Name) → is_some (first_repeat before ns) ≡ repeats before ns

@@ -1,6 +1,7 @@
 -- The rules of items and heads, by tables to which they are added.
 use Rattle.std.proofs.Common.{◌≡◌, ◌||◌, ◌&&◌, Bool, true, false, not, List, [], ◌∷◌, ◌++◌, refl, sym, ap, ◌∙◌}
-use Rattle.std.proofs.Common.{append_assoc, Some, None}
+use Rattle.std.proofs.Common.{Option, Some, None}
+use Rattle.std.specs.Prelude.{is_some}
 use Rattle.std.specs.List.{list_any}
 use Rattle.std.proofs.lemmas.List.{map-append}
 use Rattle.ss_words.specs.Lists.{Name}
@@ -20,39 +21,25 @@ use Rattle.ss_check.specs.Declarations.{parameters, priority_in, routine_facts, 
 use Rattle.ss_check.specs.ItemRules.{declares_twice, has_too_many, has_wrong_keys, has_wrong_member, has_wrong_owner}
 use Rattle.ss_check.specs.ItemRules.{has_wrong_priority, head_declares_twice, head_rule, is_second_main, item_rule}
 use Rattle.ss_check.specs.ItemRules.{joins_system, lacks_class, lacks_section, names_wrong_class, new_sets}
-use Rattle.ss_check.specs.NameKinds.{conflicts, names_set, one_conflicts}
+use Rattle.ss_check.specs.NameKinds.{names_set, one_conflicts}
 use Rattle.ss_check.specs.Statements.{rule_where, lowest}
-use Rattle.ss_check.proofs.FactTables.{append_none, or_assoc}
+use Rattle.ss_check.proofs.Conflicts.{conflict_is}
+use Rattle.ss_check.proofs.FactTables.{repeat_is}
 use Rattle.ss_check.proofs.Tests.{any_filter}
+use Rattle.ss_check.proofs.Wrongs.{conflict_behind, repeat_behind}
 
 -- ---- lists
 
--- names after names
-repeats_append : (before ns ms : List Name) →
-    repeats before (ns ++ ms) ≡ (repeats before ns || repeats (before ++ ns) ms)
-repeats_append before [] ms = ap (λ (xs : List Name). repeats xs ms) (sym (append_none before))
-repeats_append before (n ∷ ns) ms =
-    ap (λ (b : Bool). is_among n before || b) (repeats_append (before ++ n ∷ []) ns ms)
-    ∙ rw (append_assoc before (n ∷ []) ns) (or_assoc (is_among n before) (repeats (before ++ n ∷ []) ns)
-    (repeats (before ++ n ∷ ns) ms))
-
-conflicts_append : (before fs gs : List (Fact NameKind)) →
-    one_conflicts before (fs ++ gs) ≡ (one_conflicts before fs || one_conflicts (before ++ fs) gs)
-conflicts_append before [] gs = ap (λ (xs : List (Fact NameKind)). one_conflicts xs gs) (sym (append_none before))
-conflicts_append before (f ∷ fs) gs =
-    ap (λ (b : Bool). conflicts (fact_of before f.name) f.what || b) (conflicts_append (before ++ f ∷ []) fs gs)
-    ∙ rw (append_assoc before (f ∷ []) fs)
-    (or_assoc (conflicts (fact_of before f.name) f.what) (one_conflicts (before ++ f ∷ []) fs)
-    (one_conflicts (before ++ f ∷ fs) gs))
-
 -- after names without a repeat
 pub repeats_behind : (ns ms : List Name) → repeats [] ns ≡ false → repeats [] (ns ++ ms) ≡ repeats ns ms
-repeats_behind ns ms h = repeats_append [] ns ms ∙ ap (λ (b : Bool). b || repeats ns ms) h
+repeats_behind ns ms h =
+    sym (repeat_is [] (ns ++ ms)) ∙ ap (λ (o : Option Name). is_some o) (repeat_behind ns ms h) ∙ repeat_is ns ms
 
 -- after declarations without a conflict
 pub conflicts_behind : (fs gs : List (Fact NameKind)) → one_conflicts [] fs ≡ false →
     one_conflicts [] (fs ++ gs) ≡ one_conflicts fs gs
-conflicts_behind fs gs h = conflicts_append [] fs gs ∙ ap (λ (b : Bool). b || one_conflicts fs gs) h
+conflicts_behind fs gs h =
+    sym (conflict_is [] (fs ++ gs)) ∙ ap (λ (o : Option Name). is_some o) (conflict_behind fs gs h) ∙ conflict_is fs gs
 
 -- after facts without a repeat
 pub names_behind : {A : Type 0} (fs gs : List (Fact A)) → repeats [] (names_of fs) ≡ false →
@@ -95,45 +82,6 @@ twice_is d b x o =
     )
     refl
 
--- the lowest rule, by tables with the item
-rule_is : (d b t : Declared) (x : HeadedItem) (declared class ownerless memberless keys section order : Bool) →
-    IsOnce b → t ≡ with_item b x →
-    declared ≡ (one_conflicts [] t.kinds || repeats [] t.disciplines || repeats [] t.ties || repeats [] t.external) →
-    class ≡ names_wrong_class d x.heading x.item →
-    ownerless ≡ list_any (λ s. not (names_set (fact_of b.kinds s)) && not (is_among s (names_of d.owners)))
-    (sets_in x.item) →
-    memberless ≡ list_any (λ s. not (names_set (fact_of b.kinds s)) && not (is_among s (names_of d.members)))
-    (sets_in x.item) →
-    keys ≡ has_wrong_keys d x.item →
-    section ≡ lacks_section d b x.item →
-    order ≡ has_wrong_priority d b.priority (priority_in x.item) →
-    lowest (rule_where DeclaredTwice declared ++ rule_where WrongClass class
-    ++ rule_where WrongOwner (ownerless || repeats [] (names_of t.owners))
-    ++ rule_where WrongMember (memberless || repeats [] (names_of t.members) || joins_system (class_of_item x.item)
-    (sets_joined x.item))
-    ++ rule_where WrongKey keys ++ rule_where WrongEvent section ++ rule_where WrongPriority order)
-    ≡ item_rule d b x
-unfolding item_rule with_item
-rule_is d b t x declared class ownerless memberless keys section order o e e1 e2 e3 e4 e5 e6 e7 =
-    let fresh = any_filter (λ n. not (is_among n (names_of d.owners))) (λ s. not (names_set (fact_of b.kinds s)))
-    (sets_in x.item) in
-    let alone = any_filter (λ n. not (is_among n (names_of d.members))) (λ s. not (names_set (fact_of b.kinds s)))
-    (sets_in x.item) in
-    rw (
-      e1,
-      e2,
-      e3 ∙ sym fresh,
-      e4 ∙ sym alone,
-      e5,
-      e6,
-      e7,
-      e,
-      twice_is d b x o,
-      names_behind b.owners (owners_in x.item) o.owners,
-      names_behind b.members (members_in x.item) o.members,
-    )
-    refl
-
 -- a rule after C1 need not be asked if C1 is broken
 unless_twice : (twice b : Bool) (f : Bool → Bool → List CheckRule) →
     ((c : Bool) → lowest (f true c) ≡ Some DeclaredTwice) →
@@ -159,17 +107,30 @@ pub item_rule_is : (d b t : Declared) (x : HeadedItem) (declared class ownerless
     (sets_joined x.item))
     ++ rule_where WrongKey keys ++ rule_where WrongEvent section ++ rule_where WrongPriority order)
     ≡ item_rule d b x
+unfolding item_rule with_item
 item_rule_is d b t x declared class ownerless memberless keys section order o e e1 e2 e3 e4 e5 e6 e7 =
-    let rules : Bool → Bool → List CheckRule =
-    λ twice k. rule_where DeclaredTwice twice ++ rule_where WrongClass class
-    ++ rule_where WrongOwner (ownerless || repeats [] (names_of t.owners))
-    ++ rule_where WrongMember (memberless || repeats [] (names_of t.members) || joins_system (class_of_item x.item)
-    (sets_joined x.item))
-    ++ rule_where WrongKey k ++ rule_where WrongEvent section ++ rule_where WrongPriority order in
-    ap (λ (k : Bool). lowest (rules declared k)) e5
-    ∙ unless_twice declared (has_wrong_keys d x.item) rules (λ c. refl)
-    ∙ rule_is d b t x declared class ownerless memberless (has_wrong_keys d x.item) section order o e e1 e2 e3 e4 refl
-    e6 e7
+    let fresh = any_filter (λ n. not (is_among n (names_of d.owners))) (λ s. not (names_set (fact_of b.kinds s)))
+    (sets_in x.item) in
+    let alone = any_filter (λ n. not (is_among n (names_of d.members))) (λ s. not (names_set (fact_of b.kinds s)))
+    (sets_in x.item) in
+    rw (
+      e5,
+      e1,
+      e2,
+      e3 ∙ sym fresh,
+      e4 ∙ sym alone,
+      e6,
+      e7,
+      e,
+      twice_is d b x o,
+      names_behind b.owners (owners_in x.item) o.owners,
+      names_behind b.members (members_in x.item) o.members,
+    )
+    (unless_twice (declares_twice d b x) (has_wrong_keys d x.item)
+    (λ twice k. rule_where DeclaredTwice twice ++ rule_where WrongClass (names_wrong_class d x.heading x.item)
+    ++ rule_where WrongOwner (has_wrong_owner d b x) ++ rule_where WrongMember (has_wrong_member d b x)
+    ++ rule_where WrongKey k ++ rule_where WrongEvent (lacks_section d b x.item)
+    ++ rule_where WrongPriority (has_wrong_priority d b.priority (priority_in x.item))) (λ c. refl))
 
 -- after an item that breaks no rule nothing is said twice
 pub once_behind_item : (d b : Declared) (x : HeadedItem) → IsOnce b → item_rule d b x ≡ None → IsOnce (with_item b x)

@@ -6,6 +6,7 @@ pub mod Finds
 pub mod Runs
 pub mod DeclaredPrefixes
 pub mod ItemRules
+pub mod Keys
 pub mod PlaceRules
 pub mod Statements
 pub mod Tests

@@ -3,16 +3,12 @@ use Rattle.std.proofs.Common.{◌≡◌, ℕ, ◌+◌, ◌<◌, ◌≤◌, Bool,
 use Rattle.std.proofs.Common.{refl, sym, ap, ◌∙◌, Some, append_assoc}
 use Rattle.std.specs.Prelude.{map, option_map, bytes_eq}
 use Rattle.std.specs.List.{find}
-use Rattle.std.proofs.lemmas.List.{drop_all, drop_more, map-append}
+use Rattle.std.proofs.lemmas.List.{drop_all, map-append}
 use Rattle.ss_words.specs.Lists.{Name}
 use Rattle.ss_check.specs.Facts.{Fact, fact, fact_of, names_of}
 use Rattle.ss_check.specs.FactsView.{facts_view}
 use Rattle.ss_check.proofs.FactTables.{append_none}
-
--- the part of a list that is left at an element
-left_at : {X : Type 0} (xs : List X) (i : ℕ) (x : X) → i < length xs → x ≡ get_or xs i x →
-    drop i xs ≡ x ∷ drop (i + 1) xs
-left_at xs i x l e = drop_more xs i x l ∙ ap (λ y. y ∷ drop (i + 1) xs) (sym e)
+use Rattle.ss_check.proofs.Turns.{left_at}
 
 -- ---- elements put at the end of a list, each by a function of the next
 

@@ -1,14 +1,12 @@
 -- Tests of the elements of lists.
-use Rattle.std.proofs.Common.{◌≡◌, ◌||◌, ◌&&◌, Bool, true, false, cond, List, [], ◌∷◌, ◌++◌, refl, ap, ◌∙◌}
-use Rattle.std.specs.Prelude.{map, None}
-use Rattle.std.specs.List.{filter, flat_map, list_any}
+use Rattle.std.proofs.Common.{◌≡◌, ◌||◌, ◌&&◌, Bool, true, false, cond, List, [], ◌∷◌, ◌++◌, refl, sym, ap, ◌∙◌}
+use Rattle.std.specs.Prelude.{is_some, map, option_map, None, Option, Some}
+use Rattle.std.specs.List.{filter, find, flat_map, list_any}
 use Rattle.std.proofs.lemmas.List.Folds.{list_any-append}
 use Rattle.ss_words.specs.Lists.{Name}
-use Rattle.ss_preamble.specs.declared.item.Clause.{Clause as CodeClause}
-use Rattle.ss_preamble.specs.Tree.{Clause, Has, Owns, BelongsTo}
-use Rattle.ss_preamble.specs.View.{clause_view}
-use Rattle.ss_check.specs.Declarations.{is_belongs_to, joined_in}
+use Rattle.ss_check.specs.Facts.{first_of}
 use Rattle.ss_check.specs.ItemRules.{joins_system}
+use Rattle.ss_check.proofs.FactTables.{some_view}
 
 -- one of the pictures of a list
 pub any_map : {X Y : Type 0} (p : Y → Bool) (f : X → Y) (xs : List X) →
@@ -24,6 +22,16 @@ any_append p xs ys = list_any-append p xs ys
 pub any_end : {X : Type 0} (p : X → Bool) (xs : List X) → list_any p (xs ++ []) ≡ list_any p xs
 any_end p [] = refl
 any_end p (x ∷ xs) = ap (λ (b : Bool). p x || b) (any_end p xs)
+
+-- one is found if one passes
+pub find_any : {X : Type 0} (p : X → Bool) (xs : List X) → is_some (find p xs) ≡ list_any p xs
+find_any p [] = refl
+find_any p (x ∷ xs) = either (p x) (find_any p xs)
+  where
+    either : (b : Bool) → is_some (find p xs) ≡ list_any p xs →
+        is_some (cond b (Some x) (find p xs)) ≡ (b || list_any p xs)
+    either true h = refl
+    either false h = h
 
 -- one of the parts that the pictures of a list have
 pub any_parts : {X Y Z : Type 0} (p : Z → Bool) (f : Y → List Z) (g : X → Y) (xs : List X) →
@@ -43,22 +51,11 @@ pub any_filter : {X : Type 0} (p q : X → Bool) (xs : List X) → list_any p (f
 any_filter p q [] = refl
 any_filter p q (x ∷ xs) = kept p x (filter q xs) (q x) (list_any (λ y. q y && p y) xs) (any_filter p q xs)
 
-joins_more : (c : Clause) (ns : List Name) (b : Bool) → joins_system None ns ≡ b →
-    joins_system None (joined_in c ++ ns) ≡ (is_belongs_to c || b)
-joins_more (Has ms) ns b h = h
-joins_more (Owns ms) ns b h = h
-joins_more (BelongsTo ms) ns b h = refl
+joins_first : (ns : List Name) → is_some (first_of ns) ≡ joins_system None ns
+joins_first [] = refl
+joins_first (n ∷ ns) = refl
 
--- clauses of the system name a set to which they belong if one of them is BELONGS
-pub joins_any : (cs : List CodeClause) →
-    joins_system None (flat_map joined_in (map clause_view cs)) ≡ list_any (λ c. is_belongs_to (clause_view c)) cs
-joins_any [] = refl
-joins_any (c ∷ cs) =
-    joins_more (clause_view c) (flat_map joined_in (map clause_view cs))
-    (list_any (λ d. is_belongs_to (clause_view d)) cs) (joins_any cs)
-
--- the same with the first of them apart
-pub joins_first : (c : CodeClause) (cs : List CodeClause) →
-    joins_system None (joined_in (clause_view c) ++ flat_map joined_in (map clause_view cs))
-    ≡ (is_belongs_to (clause_view c) || list_any (λ d. is_belongs_to (clause_view d)) cs)
-joins_first c cs = joins_any (c ∷ cs)
+-- the system joins a set if there is a first one
+pub joins_found : {X : Type 0} (v : X → Name) (o : Option X) (ns : List Name) → option_map v o ≡ first_of ns →
+    is_some o ≡ joins_system None ns
+joins_found v o ns h = sym (some_view v o) ∙ ap is_some h ∙ joins_first ns

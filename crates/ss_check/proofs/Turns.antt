@@ -1,9 +1,9 @@
 -- The turns of the loops over items, sections, local DEFINEs and places.
 use Rattle.std.proofs.Common.{◌≡◌, ℕ, ◌+◌, ◌-◌, ◌<◌, ◌≤◌, Bool, List, [], ◌∷◌, length, get_or, drop, refl, sym, ap}
 use Rattle.std.proofs.Common.{subst, ◌∙◌, Option, Some, None, arith, sub-one}
-use Rattle.std.specs.Prelude.{map, option_map}
+use Rattle.std.specs.Prelude.{is_some, map, option_map}
 use Rattle.std.specs.Option.{option_or}
-use Rattle.std.specs.List.{slice_get}
+use Rattle.std.specs.List.{find, slice_get}
 use Rattle.std.proofs.lemmas.Option.{get_or_from_slice_get, slice_get-get_or}
 use Rattle.std.proofs.lemmas.List.{drop_all, drop_more, nil_from_length}
 use Rattle.ss_preamble.specs.declared.item.Heading.{Heading}
@@ -12,19 +12,23 @@ use Rattle.ss_preamble.specs.View.{item_at_view, item_view, items_view}
 use Rattle.ss_routines.specs.declared.tree.section.LocalNames.{LocalNames as CodeLocalNames}
 use Rattle.ss_routines.specs.declared.tree.section.Section.{Section as CodeSection}
 use Rattle.ss_routines.specs.declared.tree.place.Spot.{Spot as CodeSpot}
-use Rattle.ss_routines.specs.Places.{Spot}
+use Rattle.ss_words.specs.Lists.{Name, all_of}
+use Rattle.ss_routines.specs.Places.{LocalNames, Spot}
 use Rattle.ss_routines.specs.View.{local_view, place_view, section_view, spot_view, spots}
 use Rattle.ss_check.specs.declared.fault.CheckRule.{CheckRule}
+use Rattle.ss_check.specs.declared.fault.CheckRule.TheVariants.{DeclaredTwice}
+use Rattle.ss_check.specs.declared.wrong.Reason.TheVariants as why
 use Rattle.ss_check.specs.declared.fault.CheckFault.{CheckFault}
 use Rattle.ss_check.specs.Declarations.{Declared}
 use Rattle.ss_check.specs.Increments.{headed_item, items_refusal, locals_refusal, places_refusal}
 use Rattle.ss_check.specs.Increments.{section_refusal, sections_refusal, with_items, with_item, with_head, with_sections}
 use Rattle.ss_check.specs.Breach.{last_line}
-use Rattle.ss_check.specs.Declarations.{headed_items_under, heading_at}
+use Rattle.ss_check.specs.Declarations.{headed_items_under, heading_at, is_declared}
 use Rattle.ss_check.specs.ItemRules.{item_rule, item_wrong, local_rule, local_wrong}
 use Rattle.ss_check.specs.PlaceRules.{is_find, place_rule, place_wrong, uses_from}
-use Rattle.ss_check.specs.Statements.{IsRefusal, Refusal, refused}
+use Rattle.ss_check.specs.Statements.{IsRefusal, Refusal, about, lowest, refused, rule_where}
 use Rattle.ss_check.proofs.Statements.{fault_first}
+use Rattle.ss_check.proofs.Tests.{find_any}
 
 -- the part of a list that is left at an element
 pub left_at : {X : Type 0} (xs : List X) (i : ℕ) (x : X) → i < length xs → x ≡ get_or xs i x →
@@ -181,27 +185,36 @@ unfolding locals_refusal local_rule
 local_turn d xs i x whole l e k =
     ap (λ (ys : List CodeLocalNames). locals_refusal d (map local_view ys)) (sym (left_at xs i x l e)) ∙ k
 
--- it breaks a rule
-pub local_told : (d : Declared) (xs : List CodeLocalNames) (i : ℕ) (x : CodeLocalNames)
-    (whole : Option Refusal) (r : CheckRule) →
-    i < length xs → x ≡ get_or xs i x → locals_refusal d (map local_view (drop i xs)) ≡ whole →
-    local_rule d (local_view x) ≡ Some r →
-    whole ≡ Some (refused x.line (λ broken. local_wrong d (local_view x)) r)
-local_told d xs i x whole r l e k n =
-    told (local_rule d (local_view x)) (refused x.line (λ broken. local_wrong d (local_view x)))
-    (locals_refusal d (map local_view (drop (i + 1) xs))) whole r
-    (local_turn d xs i x whole l e k) n
+-- the rule of one, by its first declared name
+local_rule_is : (d : Declared) (x : LocalNames) (o : Option Name) → find (is_declared d) (all_of x.names) ≡ o →
+    local_rule d x ≡ lowest (rule_where DeclaredTwice (is_some o))
+unfolding local_rule
+local_rule_is d x o h = ap (λ (b : Bool). lowest (rule_where DeclaredTwice b))
+    (sym (find_any (is_declared d) (all_of x.names)) ∙ ap is_some h)
 
--- it breaks none
+-- it names a declared name
+pub local_told : (d : Declared) (xs : List CodeLocalNames) (i : ℕ) (x : CodeLocalNames)
+    (whole : Option Refusal) (n : Name) →
+    i < length xs → x ≡ get_or xs i x → locals_refusal d (map local_view (drop i xs)) ≡ whole →
+    find (is_declared d) (all_of (local_view x).names) ≡ Some n →
+    whole ≡ Some (record { rule = DeclaredTwice; line = x.line; wrong = about why.DeclaredTwice (Some n) })
+local_told d xs i x whole n l e k h =
+    told (local_rule d (local_view x)) (refused x.line (λ broken. local_wrong d (local_view x)))
+    (locals_refusal d (map local_view (drop (i + 1) xs))) whole DeclaredTwice
+    (local_turn d xs i x whole l e k) (local_rule_is d (local_view x) (Some n) h)
+    ∙ ap (λ (o : Option Name). Some (record { rule = DeclaredTwice; line = x.line; wrong = about why.DeclaredTwice o }))
+    h
+
+-- it names none
 pub local_passed : (d : Declared) (xs : List CodeLocalNames) (i : ℕ) (x : CodeLocalNames)
     (whole : Option Refusal) →
     i < length xs → x ≡ get_or xs i x → locals_refusal d (map local_view (drop i xs)) ≡ whole →
-    local_rule d (local_view x) ≡ None →
+    find (is_declared d) (all_of (local_view x).names) ≡ None →
     locals_refusal d (map local_view (drop (i + 1) xs)) ≡ whole
-local_passed d xs i x whole l e k n =
+local_passed d xs i x whole l e k h =
     passed (local_rule d (local_view x)) (refused x.line (λ broken. local_wrong d (local_view x)))
     (locals_refusal d (map local_view (drop (i + 1) xs))) whole
-    (local_turn d xs i x whole l e k) n
+    (local_turn d xs i x whole l e k) (local_rule_is d (local_view x) None h)
 
 -- at the end none is left
 pub locals_end : (d : Declared) (xs : List CodeLocalNames) (i : ℕ) (whole : Option Refusal) →

@@ -1,6 +1,7 @@
 -- A statement that breaks a rule on names is refused by a name that breaks it.
 use Rattle.std.proofs.Common.{◌≡◌, Bool, true, false, cond, List, [], ◌∷◌, ◌++◌, refl, sym, ap, ◌∙◌, Option, Some, None}
 use Rattle.std.specs.List.{find, list_any}
+use Rattle.std.proofs.lemmas.Bool.{false≢true}
 use Rattle.ss_words.specs.Lists.{Name, all_of}
 use Rattle.ss_check.specs.declared.fault.CheckRule.{CheckRule}
 use Rattle.ss_check.specs.declared.fault.CheckRule.TheVariants as rule
@@ -16,7 +17,7 @@ use Rattle.ss_check.specs.WrongNames.{IsFirst, LocalsNameTheDeclared, PlacesName
 -- one passes: the one that is found is the first
 first : {X : Type 0} (p : X → Bool) (xs : List X) → list_any p xs ≡ true →
     (x : X) × IsFirst p xs x × (find p xs ≡ Some x)
-first p [] h = absurd cc
+first p [] h = absurd (false≢true h)
 first {X = X} p (x ∷ xs) h = at (p x) refl h (first p xs)
   where
     at : (b : Bool) → p x ≡ b → list_any p (x ∷ xs) ≡ true →
@@ -82,16 +83,16 @@ places_named d us r h =
     at rule.WrongUse k = by_use d us rule.WrongUse k
     at rule.WrongCount k = by_use d us rule.WrongCount k
     at rule.FixedTarget k = by_use d us rule.FixedTarget k
-    at rule.DeclaredTwice k = absurd cc
-    at rule.WrongOwner k = absurd cc
-    at rule.WrongMember k = absurd cc
-    at rule.WrongKey k = absurd cc
-    at rule.WrongEvent k = absurd cc
-    at rule.WrongPicture k = absurd cc
-    at rule.WrongMain k = absurd cc
-    at rule.WrongPriority k = absurd cc
-    at rule.StartOutsideMain k = absurd cc
-    at rule.WithoutFind k = absurd cc
+    at rule.DeclaredTwice k = absurd (false≢true k)
+    at rule.WrongOwner k = absurd (false≢true k)
+    at rule.WrongMember k = absurd (false≢true k)
+    at rule.WrongKey k = absurd (false≢true k)
+    at rule.WrongEvent k = absurd (false≢true k)
+    at rule.WrongPicture k = absurd (false≢true k)
+    at rule.WrongMain k = absurd (false≢true k)
+    at rule.WrongPriority k = absurd (false≢true k)
+    at rule.StartOutsideMain k = absurd (false≢true k)
+    at rule.WithoutFind k = absurd (false≢true k)
 
 pub locals_named : LocalsNameTheDeclared
 unfolding local_rule

@@ -1,6 +1,6 @@
 -- What is wrong with items and heads, by tables to which they are added.
-use Rattle.std.proofs.Common.{◌≡◌, Bool, true, false, cond, List, [], ◌∷◌, ◌++◌, length, suc, refl, sym, ap, ◌∙◌}
-use Rattle.std.proofs.Common.{append_assoc, Option, Some, None, nat_lt, arith}
+use Rattle.std.proofs.Common.{◌≡◌, Bool, true, false, List, [], ◌∷◌, ◌++◌, length, suc, refl, ap, ◌∙◌, Option}
+use Rattle.std.proofs.Common.{Some, None, nat_lt, arith}
 use Rattle.std.specs.Prelude.{is_some}
 use Rattle.std.specs.Option.{option_or}
 use Rattle.std.proofs.lemmas.Grind.{common_steps}
@@ -10,53 +10,31 @@ use Rattle.ss_preamble.specs.Tree.{Item}
 use Rattle.ss_routines.specs.Tree.{Head, MainHead, RoutineHead, EventHead}
 use Rattle.ss_check.specs.declared.fault.CheckRule.{CheckRule}
 use Rattle.ss_check.specs.declared.fault.CheckRule.TheVariants as rule
-use Rattle.ss_check.specs.Facts.{Fact, fact_of, first_repeat, is_among, names_of, repeats}
+use Rattle.ss_check.specs.Facts.{Fact, first_repeat, names_of, repeats}
 use Rattle.ss_check.specs.NameKind.{NameKind}
-use Rattle.ss_check.specs.NameKinds.{conflicts, first_conflict, one_conflicts}
+use Rattle.ss_check.specs.NameKinds.{first_conflict, one_conflicts}
 use Rattle.ss_check.specs.Declarations.{Declared, HeadedItem, declarations, disciplined_sets, external_in}
 use Rattle.ss_check.specs.Declarations.{members_in, owners_in, priority_in, routine_facts, tied_events}
 use Rattle.ss_check.specs.Increments.{IsOnce, head_twice_with, head_wrong_with, item_wrong_with}
 use Rattle.ss_check.specs.Increments.{priority_with, with_head, with_item}
 use Rattle.ss_check.specs.ItemRules.{head_twice, head_wrong, item_wrong}
 use Rattle.ss_check.specs.ItemRules.{wrong_priority}
-use Rattle.ss_check.proofs.Conflicts.{conflict_is}
-use Rattle.ss_check.proofs.FactTables.{append_none, repeat_is}
-
-else_or : (b : Bool) (x : Name) (o q : Option Name) → cond b (Some x) (option_or o q) ≡ option_or (cond b (Some x) o) q
-else_or true x o q = refl
-else_or false x o q = refl
+use Rattle.ss_check.proofs.Conflicts.{conflict_append, conflict_is}
+use Rattle.ss_check.proofs.FactTables.{repeat_append, repeat_is}
 
 nothing : (o : Option Name) (b : Bool) → is_some o ≡ b → b ≡ false → o ≡ None
 nothing None b h e = refl
 nothing (Some n) b h e = cc
 
--- names after names
-repeat_append : (before ns ms : List Name) →
-    first_repeat before (ns ++ ms) ≡ option_or (first_repeat before ns) (first_repeat (before ++ ns) ms)
-repeat_append before [] ms = ap (λ (xs : List Name). first_repeat xs ms) (sym (append_none before))
-repeat_append before (n ∷ ns) ms =
-    ap (λ (o : Option Name). cond (is_among n before) (Some n) o)
-    (repeat_append (before ++ n ∷ []) ns ms ∙ rw (append_assoc before (n ∷ []) ns) refl)
-    ∙ else_or (is_among n before) n (first_repeat (before ++ n ∷ []) ns) (first_repeat (before ++ n ∷ ns) ms)
-
-conflict_append : (before fs gs : List (Fact NameKind)) →
-    first_conflict before (fs ++ gs) ≡ option_or (first_conflict before fs) (first_conflict (before ++ fs) gs)
-conflict_append before [] gs = ap (λ (xs : List (Fact NameKind)). first_conflict xs gs) (sym (append_none before))
-conflict_append before (f ∷ fs) gs =
-    ap (λ (o : Option Name). cond (conflicts (fact_of before f.name) f.what) (Some f.name) o)
-    (conflict_append (before ++ f ∷ []) fs gs ∙ rw (append_assoc before (f ∷ []) fs) refl)
-    ∙ else_or (conflicts (fact_of before f.name) f.what) f.name (first_conflict (before ++ f ∷ []) fs)
-    (first_conflict (before ++ f ∷ fs) gs)
-
 -- after names without a repeat
-repeat_behind : (ns ms : List Name) → repeats [] ns ≡ false → first_repeat [] (ns ++ ms) ≡ first_repeat ns ms
+pub repeat_behind : (ns ms : List Name) → repeats [] ns ≡ false → first_repeat [] (ns ++ ms) ≡ first_repeat ns ms
 repeat_behind ns ms h =
     repeat_append [] ns ms
     ∙ ap (λ (o : Option Name). option_or o (first_repeat ns ms))
     (nothing (first_repeat [] ns) (repeats [] ns) (repeat_is [] ns) h)
 
 -- after declarations without a conflict
-conflict_behind : (fs gs : List (Fact NameKind)) → one_conflicts [] fs ≡ false →
+pub conflict_behind : (fs gs : List (Fact NameKind)) → one_conflicts [] fs ≡ false →
     first_conflict [] (fs ++ gs) ≡ first_conflict fs gs
 conflict_behind fs gs h =
     conflict_append [] fs gs

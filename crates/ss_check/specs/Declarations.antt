@@ -135,11 +135,6 @@ abbrev pub owned_in : Clause → List Name
 owned_in (Owns names) = all_of names
 owned_in _ = []
 
--- BELONGS TO
-abbrev pub is_belongs_to : Clause → Bool
-is_belongs_to (BelongsTo names) = true
-is_belongs_to _ = false
-
 -- the sets whose members a clause gives
 abbrev pub joined_in : Clause → List Name
 joined_in (BelongsTo names) = all_of names

@@ -3,7 +3,8 @@
 ghost use Rattle.std.specs.Prelude.{◌≡◌, map, IfOk};
 ghost use Rattle.ss_preamble.specs.View as preamble;
 ghost use Rattle.ss_routines.specs.View as view;
-ghost use Rattle.ss_check.specs.ResolvedNames.{locals_of};
+ghost use Rattle.ss_check.specs.Declarations.{heads};
+ghost use Rattle.ss_check.specs.ResolvedNames.{locals_of, names as names_of};
 ghost use Rattle.ss_check.specs.Symbols.{symbols_of};
 
 use crate::declared::name_tables::NameTables;
@@ -50,14 +51,40 @@ impl SymbolTable {
     {
         let sections = sections.list();
         let whole = tables(alloc, &decls.items, sections)?;
-        let names = NameTables::new(alloc, &whole, sections)?;
-        let locals = locals_of_sections(alloc, &whole, sections)?;
-        Ok(SymbolTable {
-            alloc,
-            whole,
-            names,
-            locals,
-        })
+        match names_and_locals(alloc, &whole, sections) {
+            Ok((names, locals)) => Ok(SymbolTable {
+                alloc,
+                whole,
+                names,
+                locals,
+            }),
+            Err(fault) => {
+                drop(whole);
+                Err(fault)
+            }
+        }
+    }
+}
+
+/// The names of the program of these sections, whose text declares this, and the local variables of
+/// each section.
+fn names_and_locals(
+    alloc: Global,
+    whole: &Tables,
+    sections: &[Section],
+) -> Result<(NameTables, Vec<NameTable>), AllocError>
+    ensures names { IfOk result (λ both. both.0
+        ≡ names_of whole.now (heads (map view.section_view sections.now))) }
+    ensures locals { IfOk result (λ both. both.1.items
+        ≡ map (locals_of whole.now) (map view.section_view sections.now)) }
+{
+    let names = NameTables::new(alloc, whole, sections)?;
+    match locals_of_sections(alloc, whole, sections) {
+        Ok(locals) => Ok((names, locals)),
+        Err(fault) => {
+            drop(names);
+            Err(fault)
+        }
     }
 }
 

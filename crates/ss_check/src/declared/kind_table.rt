@@ -134,6 +134,10 @@ fn any_attribute(facts: &[Fact<NameKind>], class: &[u8], name: &[u8]) -> bool
     ensures { result ≡ list_any
         (λ f. is_attribute class.now (kind_view f.what) && bytes_eq name.now f.name) facts.now }
 {
-    facts.iter().any(|fact| is_attribute_of(class, &fact.what)
-        && name == fact.name.bytes.as_slice())
+    for fact in facts {
+        if is_attribute_of(class, &fact.what) && name == fact.name.bytes.as_slice() {
+            return true;
+        }
+    }
+    false
 }

@@ -1,6 +1,6 @@
 //! Adding the owners and the member classes of sets, and the attributes of classes.
 
-ghost use Rattle.std.specs.Prelude.{◌≡◌, ◌++◌, map, option_map, IfOk, OnOk};
+ghost use Rattle.std.specs.Prelude.{◌≡◌, [], ◌∷◌, ◌++◌, map, option_map, IfOk, OnOk};
 ghost use Rattle.std.specs.List.{flat_map};
 ghost use Rattle.ss_words.specs.Lists.{all_of, several_view};
 ghost use Rattle.ss_preamble.specs.View as view;
@@ -24,6 +24,19 @@ fn copied_class(alloc: Global, class: Option<&[u8]>) -> Result<Option<Name>, All
     }
 }
 
+/// Adds this class, or the system, as the owner of a set.
+fn add_owner(
+    alloc: Global,
+    owners: &mut FactTable<Option<Name>>,
+    class: Option<&[u8]>,
+    set: &[u8],
+) -> Result<(), AllocError>
+    ensures { OnOk result
+        (owners.new ≡ owners.old ++ fact set.now (option_map (λ c. c.now) class.entry) ∷ []) }
+{
+    owners.add(set, copied_class(alloc, class)?)
+}
+
 /// Adds the owner of each set that a clause says is owned: this class, or the system.
 fn add_owned(
     alloc: Global,
@@ -38,9 +51,9 @@ fn add_owned(
     let Clause::Owns(sets) = clause else {
         return Ok(());
     };
-    owners.add(sets.first.bytes(), copied_class(alloc, class)?)?;
+    add_owner(alloc, owners, class, sets.first.bytes())?;
     for set in &sets.others {
-        owners.add(set.bytes(), copied_class(alloc, class)?)?;
+        add_owner(alloc, owners, class, set.bytes())?;
     }
     Ok(())
 }
@@ -84,6 +97,18 @@ pub(crate) fn add_owners(
     }
 }
 
+/// Adds this class as that of the members of a set.
+fn add_member(
+    alloc: Global,
+    members: &mut FactTable<Name>,
+    class: &[u8],
+    set: &[u8],
+) -> Result<(), AllocError>
+    ensures { OnOk result (members.new ≡ members.old ++ fact set.now class.now ∷ []) }
+{
+    members.add(set, copied(alloc, class)?)
+}
+
 /// Adds the class of the members of each set to which a clause says that it belongs.
 fn add_joined(
     alloc: Global,
@@ -97,9 +122,9 @@ fn add_joined(
     let Clause::BelongsTo(sets) = clause else {
         return Ok(());
     };
-    members.add(sets.first.bytes(), copied(alloc, class)?)?;
+    add_member(alloc, members, class, sets.first.bytes())?;
     for set in &sets.others {
-        members.add(set.bytes(), copied(alloc, class)?)?;
+        add_member(alloc, members, class, set.bytes())?;
     }
     Ok(())
 }

@@ -10,9 +10,7 @@ ghost use Rattle.ss_check.specs.NameKinds.{language_facts};
 
 use crate::declared::fact_table::FactTable;
 use crate::declared::function::Function;
-use crate::declared::item_names::{
-    add_classes, add_disciplines, add_external, add_priority, add_ties,
-};
+use crate::declared::item_names::add_item_names;
 use crate::declared::kind_table::KindTable;
 use crate::declared::name_kind::NameKind;
 use crate::declared::name_list::NameList;
@@ -124,11 +122,7 @@ impl Tables {
         add_attributes(&mut self.attributes, item)?;
         add_owners(alloc, &mut self.owners, item)?;
         add_members(alloc, &mut self.members, item)?;
-        add_disciplines(&mut self.disciplines, item)?;
-        add_ties(&mut self.ties, item)?;
-        add_external(&mut self.external, item)?;
-        add_priority(&mut self.priority, item)?;
-        add_classes(&mut self.classes, item)
+        add_item_names(self, item)
     }
 
     /// Adds the declarations of the head of a section.

@@ -136,6 +136,20 @@ fn add_variables(kinds: &mut KindTable, names: &Names) -> Result<(), AllocError>
     Ok(())
 }
 
+/// Declares an attribute of a class.
+fn add_attribute(
+    alloc: Global,
+    kinds: &mut KindTable,
+    class: &[u8],
+    name: &[u8],
+) -> Result<(), AllocError>
+    ensures { OnOk result
+        (kinds.new ≡ kinds.old ++ fact name.now (kind.Attribute class.now) ∷ []) }
+{
+    let class = copied(alloc, class)?;
+    kinds.add(name, NameKind::Attribute(class))
+}
+
 /// Declares attributes of a class.
 fn add_attributes(
     alloc: Global,
@@ -148,12 +162,9 @@ fn add_attributes(
         ++ map (λ n. fact n (kind.Attribute class.now))
         (all_of (several_view (λ n. n) names.now))) }
 {
-    kinds.add(
-        names.first.bytes(),
-        NameKind::Attribute(copied(alloc, class)?),
-    )?;
+    add_attribute(alloc, kinds, class, names.first.bytes())?;
     for name in &names.others {
-        kinds.add(name.bytes(), NameKind::Attribute(copied(alloc, class)?))?;
+        add_attribute(alloc, kinds, class, name.bytes())?;
     }
     Ok(())
 }

@@ -1,6 +1,6 @@
 //! Making expressions with the numbers of their names.
 
-ghost use Rattle.std.specs.Prelude.{◌≡◌, ◌++◌, map, option_map, IfOk, OnOk};
+ghost use Rattle.std.specs.Prelude.{◌≡◌, ◌++◌, if◌then◌else◌, map, option_map, IfOk, OnOk};
 ghost use Rattle.ss_words.specs.Lists.{all_of, several_view};
 ghost use Rattle.ss_words.specs.Reading.{option_view};
 ghost use Rattle.ss_routines.specs.Tree.{listing_names};
@@ -308,30 +308,33 @@ fn function_factor(
         Function::Absolute => Ok(Factor::Absolute(arguments.first)),
         Function::Greatest => Ok(Factor::Greatest(Box::new(scope.alloc, arguments)?)),
         Function::Least => Ok(Factor::Least(Box::new(scope.alloc, arguments)?)),
-        Function::Quotient => quotient_factor(scope, arguments),
-        Function::Remainder => remainder_factor(scope, arguments),
+        Function::Quotient => division_factor(scope, true, arguments),
+        Function::Remainder => division_factor(scope, false, arguments),
     }
 }
 
-fn quotient_factor(scope: Scope<'_>, arguments: Arguments) -> Result<Factor, AllocError>
-    ensures { IfOk result (λ f. factor_of f ≡ in_scope scope.entry names.factor_of_two tree.quotient
+/// The whole quotient of two arguments, or the remainder. One argument alone is the value: no
+/// program without a breach has it.
+fn division_factor(
+    scope: Scope<'_>,
+    is_whole: bool,
+    arguments: Arguments,
+) -> Result<Factor, AllocError>
+    ensures { IfOk result (λ f. factor_of f
+        ≡ in_scope scope.entry names.factor_of_two
+        (if is_whole then tree.quotient else tree.remainder)
         (arguments_of arguments).0 (arguments_of arguments).1) }
 {
     let Arguments { first, more } = arguments;
     match more.into_iter().next() {
-        Some(second) => Ok(Factor::Quotient(first, Box::new(scope.alloc, second)?)),
-        None => Ok(Factor::Within(first)),
-    }
-}
-
-fn remainder_factor(scope: Scope<'_>, arguments: Arguments) -> Result<Factor, AllocError>
-    ensures { IfOk result
-        (λ f. factor_of f ≡ in_scope scope.entry names.factor_of_two tree.remainder
-        (arguments_of arguments).0 (arguments_of arguments).1) }
-{
-    let Arguments { first, more } = arguments;
-    match more.into_iter().next() {
-        Some(second) => Ok(Factor::Remainder(first, Box::new(scope.alloc, second)?)),
+        Some(second) => {
+            let second = Box::new(scope.alloc, second)?;
+            if is_whole {
+                Ok(Factor::Quotient(first, second))
+            } else {
+                Ok(Factor::Remainder(first, second))
+            }
+        }
         None => Ok(Factor::Within(first)),
     }
 }

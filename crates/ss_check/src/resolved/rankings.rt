@@ -1,6 +1,7 @@
 //! The disciplines of sets and the keys of ties, as items give them.
 
 ghost use Rattle.std.specs.Prelude.{◌≡◌, ◌++◌, map, option_map, IfOk, OnOk};
+ghost use Rattle.std.specs.List.{flat_map};
 ghost use Rattle.ss_words.specs.Lists.{all_of, several_view};
 ghost use Rattle.ss_preamble.specs.View as view;
 ghost use Rattle.ss_check.specs.Declarations as declared;
@@ -43,11 +44,14 @@ impl<'a> Rankings<'a> {
     {
         let mut disciplines = FactTable::new(alloc);
         let mut ties = FactTable::new(alloc);
-        for one in items {
-            add_disciplines(&mut disciplines, &one.item)?;
-            add_ties(&mut ties, &one.item)?;
+        match add_rankings(&mut disciplines, &mut ties, items) {
+            Ok(()) => Ok(Rankings { disciplines, ties }),
+            Err(fault) => {
+                drop(ties);
+                drop(disciplines);
+                Err(fault)
+            }
         }
-        Ok(Rankings { disciplines, ties })
     }
 
     /// The discipline of a set, if one is given.
@@ -67,6 +71,28 @@ impl<'a> Rankings<'a> {
     {
         self.ties.get(event).copied()
     }
+}
+
+/// Adds the disciplines and the keys of ties that items give.
+fn add_rankings<'a>(
+    disciplines: &mut FactTable<&'a SetDiscipline>,
+    ties: &mut FactTable<&'a Several<Key>>,
+    items: &'a [ItemAt],
+) -> Result<(), AllocError>
+    ensures disciplines { OnOk result
+        (facts_view (λ k. view.set_discipline_view k.now) disciplines.new
+        ≡ facts_view (λ k. view.set_discipline_view k.now) disciplines.old
+        ++ flat_map (λ i. declared.disciplines_in i.item) (view.items_view items.now)) }
+    ensures ties { OnOk result
+        (facts_view (λ keys. all_of (several_view view.key_view keys.now)) ties.new
+        ≡ facts_view (λ keys. all_of (several_view view.key_view keys.now)) ties.old
+        ++ flat_map (λ i. declared.ties_in i.item) (view.items_view items.now)) }
+{
+    for one in items {
+        add_disciplines(disciplines, &one.item)?;
+        add_ties(ties, &one.item)?;
+    }
+    Ok(())
 }
 
 /// Adds the disciplines that an item gives.

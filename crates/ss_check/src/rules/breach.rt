@@ -12,10 +12,11 @@ ghost use Rattle.ss_check.specs.Statements.{IsBreach, IsRefusal};
 
 use crate::declared::tables::Tables;
 use crate::fault::{CheckFault, CheckRule};
-use crate::rules::heads::{head_rule, is_main, local_rule};
+use crate::rules::heads::{head_rule, is_main};
 use crate::rules::items::item_rule;
+use crate::rules::named::first_of_names;
 use crate::rules::places::{is_find, place_rule};
-use crate::rules::wrong_heads::{head_wrong, local_wrong};
+use crate::rules::wrong_heads::head_wrong;
 use crate::rules::wrong_items::item_wrong;
 use crate::rules::wrong_uses::place_wrong;
 use crate::wrong::{Reason, about};
@@ -137,7 +138,10 @@ fn add_all(
         (map view.section_view sections.now)) }
 {
     add_items(alloc, tables, items)?;
-    add_heads(tables, sections)
+    for section in sections {
+        tables.add_head(section)?;
+    }
+    Ok(())
 }
 
 /// Adds the declarations of items, each under the heading over it.
@@ -161,17 +165,6 @@ fn heading_at(heading: Option<Heading>, item: &Item) -> Option<Heading>
         Item::Headed { heading, .. } => Some(*heading),
         _ => heading,
     }
-}
-
-/// Adds the declarations of the heads of sections.
-fn add_heads(tables: &mut Tables, sections: &[Section]) -> Result<(), AllocError>
-    ensures { OnOk result (tables.new
-        ≡ later.with_sections tables.old (map view.section_view sections.now)) }
-{
-    for section in sections {
-        tables.add_head(section)?;
-    }
-    Ok(())
 }
 
 /// Looks at each item after the declarations `before`, to which the items are added, and reports
@@ -257,9 +250,10 @@ fn check_locals(alloc: Global, whole: &Tables, locals: &[LocalNames]) -> Result<
         (λ f. IsRefusal f (later.locals_refusal whole.now (map view.local_view locals.now))) }
 {
     for local in locals {
-        if let Some(rule) = local_rule(whole, local) {
+        if let Some(name) = first_of_names(whole, CheckRule::DeclaredTwice, &local.names) {
+            let rule = CheckRule::DeclaredTwice;
             let line = local.line;
-            let wrong = local_wrong(alloc, whole, local)?;
+            let wrong = about(alloc, Reason::DeclaredTwice, Some(name))?;
             return Err(CheckFault::Broken { rule, line, wrong });
         }
     }

@@ -1,7 +1,6 @@
 //! Counting the fields of a picture.
 
 ghost use Rattle.std.specs.Prelude.{◌≡◌, ◌==◌, ◌≤◌, count_by, length, map};
-ghost use Rattle.std.specs.List.{list_any};
 ghost use Rattle.ss_report.specs.Pictures as pictures;
 
 /// The byte of which fields of a picture are made.
@@ -43,13 +42,12 @@ fn line_field_count(line: &[u8]) -> usize
 pub(crate) fn has_decimal_field(lines: &[Vec<u8>]) -> bool
     ensures { result ≡ pictures.has_decimal_field (map (λ l. l.items) lines.now) }
 {
-    any_decimal(lines)
-}
-
-fn any_decimal(lines: &[Vec<u8>]) -> bool
-    ensures { result ≡ list_any (λ l. pictures.has_decimal l.items) lines.now }
-{
-    lines.iter().any(|line| has_decimal(line))
+    for line in lines {
+        if has_decimal(line) {
+            return true;
+        }
+    }
+    false
 }
 
 /// Whether a stop is directly between two asterisks.

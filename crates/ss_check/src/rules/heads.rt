@@ -1,7 +1,6 @@
-//! The rules on the heads of sections and on local DEFINEs.
+//! The rules on the heads of sections.
 
 ghost use Rattle.std.specs.Prelude.{◌≡◌, ◌++◌, ◌||◌, [], IfOk, OnOk};
-ghost use Rattle.std.specs.List.{list_any};
 ghost use Rattle.ss_check.specs.declared.fault.CheckRule.TheVariants as check;
 ghost use Rattle.ss_routines.specs.Tree.{listing_names};
 ghost use Rattle.ss_routines.specs.View as view;
@@ -17,7 +16,8 @@ use crate::declared::name_list::NameList;
 use crate::declared::tables::{Tables, name_count};
 use crate::fault::CheckRule;
 use crate::rules::items::is_event_class;
-use ss_routines::{Listing, LocalNames, Section, SectionKind};
+use crate::rules::named::declared_parameter;
+use ss_routines::{Listing, Section, SectionKind};
 use ss_words::Name;
 use std::alloc::{AllocError, Global};
 
@@ -74,7 +74,9 @@ pub(crate) fn head_rule(
     let repeats_parameter = repeats_parameter(alloc, section)?;
     before.add_head(section)?;
     let breaks = HeadBreaks {
-        declares_twice: says_twice(before) | repeats_parameter | declares_parameter(whole, section),
+        declares_twice: says_twice(before)
+            | repeats_parameter
+            | declared_parameter(whole, section).is_some(),
         has_too_many: has_too_many(whole, section),
         lacks_class: lacks_class(whole, section),
         is_second_main,
@@ -151,55 +153,6 @@ fn add_listed(list: &mut NameList, names: &Listing<Name>) -> Result<(), AllocErr
     match names {
         Listing::Unwritten => Ok(()),
         Listing::BehindGiven(names) | Listing::InParentheses(names) => add_names(list, names),
-    }
-}
-
-/// Whether a parameter of a section has a declared name.
-#[tactic(auto, using(crate::proofs::Tests::any_append, crate::proofs::Tests::any_end, crate::proofs::Tests::any_map))]
-fn declares_parameter(whole: &Tables, section: &Section) -> bool
-    ensures { result ≡ list_any (declared.is_declared whole.now)
-        (declared.parameters (view.section_view section.now).head) }
-{
-    match &section.kind {
-        SectionKind::Main => false,
-        SectionKind::Routine { given, yielded } => {
-            any_listed_declared(whole, given) || any_declared(whole, yielded)
-        }
-        SectionKind::Event { given, .. } => any_listed_declared(whole, given),
-    }
-}
-
-/// Whether a name of a list that may be left out is declared.
-#[tactic(auto, using(crate::proofs::Tests::any_map))]
-fn any_listed_declared(whole: &Tables, names: &Listing<Name>) -> bool
-    ensures { result ≡ list_any (declared.is_declared whole.now)
-        (listing_names (view.listing_view (λ n. n) names.now)) }
-{
-    match names {
-        Listing::Unwritten => false,
-        Listing::BehindGiven(names) | Listing::InParentheses(names) => {
-            whole.kinds.has(names.first.bytes()) || any_declared(whole, &names.others)
-        }
-    }
-}
-
-/// Whether one of these names is declared.
-fn any_declared(whole: &Tables, names: &[Name]) -> bool
-    ensures { result ≡ list_any (λ n. declared.is_declared whole.now n) names.now }
-{
-    names.iter().any(|name| whole.kinds.has(name.bytes()))
-}
-
-/// The rule that a local DEFINE breaks: it names a declared name.
-#[tactic(auto, using(crate::proofs::Tests::any_map), unfolding(crate::specs::ItemRules::local_rule))]
-pub(crate) fn local_rule(whole: &Tables, local: &LocalNames) -> Option<CheckRule>
-    ensures { result ≡ rules.local_rule whole.now (view.local_view local.now) }
-{
-    let names = &local.names;
-    if whole.kinds.has(names.first.bytes()) || any_declared(whole, &names.others) {
-        Some(CheckRule::DeclaredTwice)
-    } else {
-        None
     }
 }
 

@@ -8,7 +8,6 @@ ghost use Rattle.ss_preamble.specs.View as view;
 ghost use Rattle.ss_check.specs.Increments.{IsOnce, headed_item, with_item};
 ghost use Rattle.ss_check.specs.Declarations as declared;
 ghost use Rattle.ss_check.specs.Facts.{fact_of, is_among, names_of, repeats};
-ghost use Rattle.ss_check.specs.Declarations.{is_belongs_to};
 ghost use Rattle.ss_check.specs.ItemRules as rules;
 ghost use Rattle.ss_check.specs.NameKinds.{names_set, one_conflicts};
 ghost use Rattle.ss_check.specs.Statements.{rule_where, lowest};
@@ -22,6 +21,8 @@ use crate::declared::name_list::NameList;
 use crate::declared::tables::Tables;
 use crate::fault::CheckRule;
 use crate::rules::keys::has_wrong_keys_unless;
+use crate::rules::named::first_of_names;
+use crate::rules::wrong_items::first_joined_of;
 use ss_preamble::{Clause, Definition, EventRule, Heading, Item, ItemAt, Names};
 use ss_words::Name;
 use std::alloc::{AllocError, Global};
@@ -147,20 +148,12 @@ pub(crate) fn is_event_class(whole: &Tables, name: &[u8]) -> bool
 }
 
 /// Whether one of these names is no event class.
-#[tactic(auto, using(crate::proofs::Tests::any_map))]
+#[tactic(auto, using(crate::proofs::Finds::found_any))]
 fn names_no_event(whole: &Tables, names: &Names) -> bool
     ensures { result ≡ list_any (λ c. not (declared.is_event_class whole.now c))
         (all_of (several_view (λ n. n) names.now)) }
 {
-    !is_event_class(whole, names.first.bytes()) || any_no_event(whole, &names.others)
-}
-
-fn any_no_event(whole: &Tables, names: &[Name]) -> bool
-    ensures { result ≡ list_any (λ n. not (declared.is_event_class whole.now n)) names.now }
-{
-    names
-        .iter()
-        .any(|name| !is_event_class(whole, name.bytes()))
+    first_of_names(whole, CheckRule::WrongClass, names).is_some()
 }
 
 // ---- C4 and C5
@@ -223,9 +216,12 @@ fn any_clause_names_new<T: Drop>(
         (λ s. not (names_set (fact_of kinds.now s)) && not (is_among s (names_of facts.now)))
         (declared.sets_of (view.clause_view c))) clauses.now }
 {
-    clauses
-        .iter()
-        .any(|clause| clause_names_new(facts, kinds, clause))
+    for clause in clauses {
+        if clause_names_new(facts, kinds, clause) {
+            return true;
+        }
+    }
+    false
 }
 
 /// Whether a clause names a set that is not declared and of which there is no fact.
@@ -256,8 +252,12 @@ fn any_other_without<T: Drop>(facts: &FactTable<T>, kinds: &KindTable, sets: &[N
         (λ s. not (names_set (fact_of kinds.now s)) && not (is_among s (names_of facts.now)))
         sets.now }
 {
-    sets.iter()
-        .any(|set| is_new_without(facts, kinds, set.bytes()))
+    for set in sets {
+        if is_new_without(facts, kinds, set.bytes()) {
+            return true;
+        }
+    }
+    false
 }
 
 fn is_new_without<T: Drop>(facts: &FactTable<T>, kinds: &KindTable, set: &[u8]) -> bool
@@ -269,27 +269,15 @@ fn is_new_without<T: Drop>(facts: &FactTable<T>, kinds: &KindTable, set: &[u8]) 
 }
 
 /// Whether an item is SYSTEM with a BELONGS.
-#[tactic(auto, using(crate::proofs::Tests::joins_first))]
+#[tactic(auto, using(crate::proofs::Tests::joins_found))]
 fn joins_system(item: &Item) -> bool
     ensures { result ≡ rules.joins_system (declared.class_of_item (view.item_view item.now))
         (declared.sets_joined (view.item_view item.now)) }
 {
-    let Item::OfSystem(clauses) = item else {
-        return false;
-    };
-    is_belongs(&clauses.first) || any_belongs(&clauses.others)
-}
-
-fn any_belongs(clauses: &[Clause]) -> bool
-    ensures { result ≡ list_any (λ c. is_belongs_to (view.clause_view c)) clauses.now }
-{
-    clauses.iter().any(is_belongs)
-}
-
-fn is_belongs(clause: &Clause) -> bool
-    ensures { result ≡ is_belongs_to (view.clause_view clause.now) }
-{
-    matches!(clause, Clause::BelongsTo(_))
+    match item {
+        Item::OfSystem(clauses) => first_joined_of(clauses).is_some(),
+        _ => false,
+    }
 }
 
 // ---- C8
@@ -350,7 +338,12 @@ fn any_other_section(whole: &Tables, classes: &NameList, names: &[Name]) -> bool
     ensures { result ≡ list_any
         (λ n. not (is_among n classes.now) && rules.is_without_section whole.now n) names.now }
 {
-    names.iter().any(|name| is_new_without_section(whole, classes, name.bytes()))
+    for name in names {
+        if is_new_without_section(whole, classes, name.bytes()) {
+            return true;
+        }
+    }
+    false
 }
 
 fn is_new_without_section(whole: &Tables, classes: &NameList, name: &[u8]) -> bool

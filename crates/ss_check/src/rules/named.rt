@@ -4,6 +4,9 @@ ghost use Rattle.std.specs.Prelude.{◌≡◌, [], ◌∷◌, map, option_map};
 ghost use Rattle.std.specs.List.{find, flat_map};
 ghost use Rattle.ss_words.specs.Lists.{all_of, several_view};
 ghost use Rattle.ss_preamble.specs.View as view;
+ghost use Rattle.ss_routines.specs.Tree.{listing_names};
+ghost use Rattle.ss_routines.specs.View as routines;
+ghost use Rattle.ss_check.specs.declared.fault.CheckRule.TheVariants as check;
 ghost use Rattle.ss_check.specs.Declarations as declared;
 ghost use Rattle.ss_check.specs.ItemRules as rules;
 
@@ -11,6 +14,7 @@ use crate::declared::tables::Tables;
 use crate::fault::CheckRule;
 use crate::rules::items::is_event_class;
 use ss_preamble::{Clause, Definition, EventRule, Item, Names};
+use ss_routines::{Listing, Section, SectionKind};
 use ss_words::{Name, Several};
 
 /// Whether a name breaks this rule by itself, if an item, a parameter or a local DEFINE names it.
@@ -147,5 +151,36 @@ pub(crate) fn first_class<'a>(whole: &Tables, rule: CheckRule, item: &'a Item) -
         | Item::Headed { included: None, .. }
         | Item::OfSystem(_)
         | Item::Defines(_) => None,
+    }
+}
+
+/// The first declared name of a list that may be left out.
+fn first_listed<'a>(whole: &Tables, names: &'a Listing<Name>) -> Option<&'a [u8]>
+    ensures { option_map (λ n. n.now) result
+        ≡ find (rules.name_breaks whole.now check.DeclaredTwice)
+        (listing_names (routines.listing_view (λ n. n) names.now)) }
+{
+    match names {
+        Listing::Unwritten => None,
+        Listing::BehindGiven(names) | Listing::InParentheses(names) => {
+            first_of_names(whole, CheckRule::DeclaredTwice, names)
+        }
+    }
+}
+
+/// The first parameter of a section that has a declared name.
+#[tactic(auto, using(crate::proofs::Finds::find_append, crate::proofs::Finds::find_end))]
+pub(crate) fn declared_parameter<'a>(whole: &Tables, section: &'a Section) -> Option<&'a [u8]>
+    ensures { option_map (λ n. n.now) result
+        ≡ find (rules.name_breaks whole.now check.DeclaredTwice)
+        (declared.parameters (routines.section_view section.now).head) }
+{
+    match &section.kind {
+        SectionKind::Main => None,
+        SectionKind::Routine { given, yielded } => match first_listed(whole, given) {
+            Some(name) => Some(name),
+            None => first_named(whole, CheckRule::DeclaredTwice, yielded),
+        },
+        SectionKind::Event { given, .. } => first_listed(whole, given),
     }
 }

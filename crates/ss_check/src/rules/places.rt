@@ -9,7 +9,7 @@ ghost use Rattle.ss_check.specs.UseView.{use_view};
 use crate::declared::tables::Tables;
 use crate::fault::CheckRule;
 use crate::rules::fields::{has_decimal_field, has_field_count};
-use crate::rules::uses::{any_fixed, any_misused, any_wrong_class, any_wrong_count};
+use crate::rules::uses::any_breaks;
 use crate::uses::places::add_place;
 use crate::uses::use_list::{Use, UseList};
 use ss_routines::{Branch, Exchange, Loop, Place, Question, Simple, Spot, Timing};
@@ -57,17 +57,16 @@ pub(crate) fn add_statement<'a>(
 }
 
 /// The lowest rule on names that these uses break.
-#[tactic(auto, using(crate::proofs::Tests::any_map))]
 pub(crate) fn use_rule(whole: &Tables, uses: &[Use<'_>]) -> Option<CheckRule>
     ensures { result ≡ lowest (rules.use_breaks whole.now (map use_view uses.now)) }
 {
-    if any_wrong_class(whole, uses) {
+    if any_breaks(whole, CheckRule::WrongClass, uses) {
         Some(CheckRule::WrongClass)
-    } else if any_misused(whole, uses) {
+    } else if any_breaks(whole, CheckRule::WrongUse, uses) {
         Some(CheckRule::WrongUse)
-    } else if any_wrong_count(whole, uses) {
+    } else if any_breaks(whole, CheckRule::WrongCount, uses) {
         Some(CheckRule::WrongCount)
-    } else if any_fixed(whole, uses) {
+    } else if any_breaks(whole, CheckRule::FixedTarget, uses) {
         Some(CheckRule::FixedTarget)
     } else {
         None

@@ -1,7 +1,7 @@
 //! The rules on the uses of names in statements.
 
-ghost use Rattle.std.specs.Prelude.{◌≡◌, option_map};
-ghost use Rattle.std.specs.List.{list_any};
+ghost use Rattle.std.specs.Prelude.{◌≡◌, map, option_map};
+ghost use Rattle.std.specs.List.{find, list_any};
 ghost use Rattle.ss_check.specs.Declarations as declarations;
 ghost use Rattle.ss_check.specs.KindView.{function_view, kind_view};
 ghost use Rattle.ss_check.specs.PlaceRules as rules;
@@ -12,16 +12,11 @@ use crate::declared::name_kind::{
     NameKind, names_fixed, names_function, names_routine, names_set, names_variable, serves,
 };
 use crate::declared::tables::{Counts, Tables};
+use crate::fault::CheckRule;
 use crate::uses::use_list::Use;
 
-/// Whether one of these names a class that isn't of the kind needed.
-pub(crate) fn any_wrong_class(whole: &Tables, uses: &[Use<'_>]) -> bool
-    ensures { result ≡ list_any (λ u. rules.is_wrong_class whole.now (use_view u)) uses.now }
-{
-    uses.iter().any(|one| is_wrong_class(whole, one))
-}
-
-pub(crate) fn is_wrong_class(whole: &Tables, name_use: &Use<'_>) -> bool
+/// Whether it names a class that isn't of the kind needed.
+fn is_wrong_class(whole: &Tables, name_use: &Use<'_>) -> bool
     ensures { result ≡ rules.is_wrong_class whole.now (use_view name_use.now) }
 {
     match name_use {
@@ -30,14 +25,8 @@ pub(crate) fn is_wrong_class(whole: &Tables, name_use: &Use<'_>) -> bool
     }
 }
 
-/// Whether one of these uses a name as another kind than its own.
-pub(crate) fn any_misused(whole: &Tables, uses: &[Use<'_>]) -> bool
-    ensures { result ≡ list_any (λ u. rules.is_misused whole.now (use_view u)) uses.now }
-{
-    uses.iter().any(|one| is_misused(whole, one))
-}
-
-pub(crate) fn is_misused(whole: &Tables, name_use: &Use<'_>) -> bool
+/// Whether it uses a name as another kind than its own.
+fn is_misused(whole: &Tables, name_use: &Use<'_>) -> bool
     ensures { result ≡ rules.is_misused whole.now (use_view name_use.now) }
 {
     match name_use {
@@ -132,14 +121,8 @@ fn is_wrong_call(counts: Option<&Counts>, values: usize, targets: usize) -> bool
     }
 }
 
-/// Whether one of these has another count of values, targets or arguments than is needed.
-pub(crate) fn any_wrong_count(whole: &Tables, uses: &[Use<'_>]) -> bool
-    ensures { result ≡ list_any (λ u. rules.is_wrong_count whole.now (use_view u)) uses.now }
-{
-    uses.iter().any(|one| is_wrong_count(whole, one))
-}
-
-pub(crate) fn is_wrong_count(whole: &Tables, name_use: &Use<'_>) -> bool
+/// Whether it has another count of values, targets or arguments than is needed.
+fn is_wrong_count(whole: &Tables, name_use: &Use<'_>) -> bool
     ensures { result ≡ rules.is_wrong_count whole.now (use_view name_use.now) }
 {
     match name_use {
@@ -161,14 +144,8 @@ pub(crate) fn is_wrong_count(whole: &Tables, name_use: &Use<'_>) -> bool
     }
 }
 
-/// Whether one of these assigns to a name that is never assigned.
-pub(crate) fn any_fixed(whole: &Tables, uses: &[Use<'_>]) -> bool
-    ensures { result ≡ list_any (λ u. rules.is_fixed whole.now (use_view u)) uses.now }
-{
-    uses.iter().any(|one| is_fixed(whole, one))
-}
-
-pub(crate) fn is_fixed(whole: &Tables, name_use: &Use<'_>) -> bool
+/// Whether it assigns to a name that is never assigned.
+fn is_fixed(whole: &Tables, name_use: &Use<'_>) -> bool
     ensures { result ≡ rules.is_fixed whole.now (use_view name_use.now) }
 {
     match name_use {
@@ -176,4 +153,38 @@ pub(crate) fn is_fixed(whole: &Tables, name_use: &Use<'_>) -> bool
         Use::LoopVariable(name) => !names_variable(whole.kinds.get(name)),
         _ => false,
     }
+}
+
+/// Whether a use breaks this rule on names.
+fn breaks_rule(whole: &Tables, rule: CheckRule, name_use: &Use<'_>) -> bool
+    ensures { result ≡ rules.breaks_rule whole.now rule (use_view name_use.now) }
+{
+    match rule {
+        CheckRule::WrongClass => is_wrong_class(whole, name_use),
+        CheckRule::WrongUse => is_misused(whole, name_use),
+        CheckRule::WrongCount => is_wrong_count(whole, name_use),
+        CheckRule::FixedTarget => is_fixed(whole, name_use),
+        _ => false,
+    }
+}
+
+/// The first of these uses that breaks the rule.
+pub(crate) fn first_use<'a>(whole: &Tables, rule: CheckRule, uses: &[Use<'a>]) -> Option<Use<'a>>
+    ensures { option_map use_view result
+        ≡ find (rules.breaks_rule whole.now rule) (map use_view uses.now) }
+{
+    for one in uses {
+        if breaks_rule(whole, rule, one) {
+            return Some(*one);
+        }
+    }
+    None
+}
+
+/// Whether one of these uses breaks the rule.
+#[tactic(auto, using(crate::proofs::Finds::found_any))]
+pub(crate) fn any_breaks(whole: &Tables, rule: CheckRule, uses: &[Use<'_>]) -> bool
+    ensures { result ≡ list_any (rules.breaks_rule whole.now rule) (map use_view uses.now) }
+{
+    first_use(whole, rule, uses).is_some()
 }

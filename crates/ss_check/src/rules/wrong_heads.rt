@@ -1,57 +1,19 @@
-//! What is wrong with the head of a section, or a local DEFINE, that breaks a rule.
+//! What is wrong with the head of a section that breaks a rule.
 
-ghost use Rattle.std.specs.Prelude.{◌≡◌, [], map, option_map, IfOk};
-ghost use Rattle.std.specs.List.{find};
-ghost use Rattle.ss_routines.specs.Tree.{listing_names};
+ghost use Rattle.std.specs.Prelude.{◌≡◌, [], option_map, IfOk};
 ghost use Rattle.ss_routines.specs.View as view;
-ghost use Rattle.ss_check.specs.declared.fault.CheckRule.TheVariants as check;
 ghost use Rattle.ss_check.specs.Declarations as declared;
-ghost use Rattle.ss_check.specs.Facts.{first_of, first_repeat};
+ghost use Rattle.ss_check.specs.Facts.{first_of};
 ghost use Rattle.ss_check.specs.Increments as later;
-ghost use Rattle.ss_check.specs.ItemRules as rules;
-ghost use Rattle.ss_check.specs.Statements.{about as about_it};
-ghost use Rattle.ss_check.specs.declared.wrong.Reason.TheVariants as why;
 
 use crate::declared::name_list::NameList;
 use crate::declared::tables::Tables;
 use crate::fault::CheckRule;
 use crate::rules::heads::add_parameters;
-use crate::rules::named::{first_named, first_of_names};
+use crate::rules::named::declared_parameter;
 use crate::wrong::{Reason, Wrong, about};
-use ss_routines::{Listing, LocalNames, Section, SectionKind};
-use ss_words::Name;
+use ss_routines::{Section, SectionKind};
 use std::alloc::{AllocError, Global};
-
-/// The first declared name of a list that may be left out.
-fn first_listed<'a>(whole: &Tables, names: &'a Listing<Name>) -> Option<&'a [u8]>
-    ensures { option_map (λ n. n.now) result
-        ≡ find (rules.name_breaks whole.now check.DeclaredTwice)
-        (listing_names (view.listing_view (λ n. n) names.now)) }
-{
-    match names {
-        Listing::Unwritten => None,
-        Listing::BehindGiven(names) | Listing::InParentheses(names) => {
-            first_of_names(whole, CheckRule::DeclaredTwice, names)
-        }
-    }
-}
-
-/// The first parameter of a section that has a declared name.
-#[tactic(auto, using(crate::proofs::Finds::find_append, crate::proofs::Finds::find_end))]
-fn declared_parameter<'a>(whole: &Tables, section: &'a Section) -> Option<&'a [u8]>
-    ensures { option_map (λ n. n.now) result
-        ≡ find (rules.name_breaks whole.now check.DeclaredTwice)
-        (declared.parameters (view.section_view section.now).head) }
-{
-    match &section.kind {
-        SectionKind::Main => None,
-        SectionKind::Routine { given, yielded } => match first_listed(whole, given) {
-            Some(name) => Some(name),
-            None => first_named(whole, CheckRule::DeclaredTwice, yielded),
-        },
-        SectionKind::Event { given, .. } => first_listed(whole, given),
-    }
-}
 
 /// What is wrong with the parameters of a section: two have one name, or one has a declared name.
 fn wrong_parameter(alloc: Global, whole: &Tables, section: &Section) -> Result<Wrong, AllocError>
@@ -59,7 +21,23 @@ fn wrong_parameter(alloc: Global, whole: &Tables, section: &Section) -> Result<W
         (declared.parameters (view.section_view section.now).head)) }
 {
     let mut list = NameList::new(alloc);
-    add_parameters(&mut list, section)?;
+    let wrong = wrong_added(alloc, whole, &mut list, section);
+    drop(list);
+    wrong
+}
+
+/// What is wrong with the parameters of a section, which are added to this list without names.
+fn wrong_added(
+    alloc: Global,
+    whole: &Tables,
+    list: &mut NameList,
+    section: &Section,
+) -> Result<Wrong, AllocError>
+    requires { list.old ≡ [] }
+    ensures { IfOk result (λ wrong. wrong ≡ later.parameter_wrong whole.now
+        (declared.parameters (view.section_view section.now).head)) }
+{
+    add_parameters(list, section)?;
     match list.first_repeat() {
         Some(name) => about(alloc, Reason::ParameterTwice, Some(name)),
         None => about(
@@ -117,17 +95,4 @@ pub(crate) fn head_wrong(
         CheckRule::WrongEvent => about(alloc, Reason::NoEvent, event_of(section)),
         _ => about(alloc, Reason::SecondMain, None),
     }
-}
-
-/// What is wrong with a local DEFINE that names a declared name.
-pub(crate) fn local_wrong(
-    alloc: Global,
-    whole: &Tables,
-    local: &LocalNames,
-) -> Result<Wrong, AllocError>
-    ensures { IfOk result
-        (λ wrong. wrong ≡ rules.local_wrong whole.now (view.local_view local.now)) }
-{
-    let name = first_of_names(whole, CheckRule::DeclaredTwice, &local.names);
-    about(alloc, Reason::DeclaredTwice, name)
 }

@@ -1,7 +1,6 @@
 //! What is wrong with a place of a section that breaks a rule.
 
-ghost use Rattle.std.specs.Prelude.{◌≡◌, map, option_map, IfOk};
-ghost use Rattle.std.specs.List.{find};
+ghost use Rattle.std.specs.Prelude.{◌≡◌, option_map, IfOk};
 ghost use Rattle.ss_routines.specs.View as view;
 ghost use Rattle.ss_check.specs.PlaceRules as rules;
 ghost use Rattle.ss_check.specs.UseView.{use_view};
@@ -9,37 +8,11 @@ ghost use Rattle.ss_check.specs.UseView.{use_view};
 use crate::declared::tables::Tables;
 use crate::fault::CheckRule;
 use crate::rules::places::add_statement;
-use crate::rules::uses::{is_fixed, is_misused, is_wrong_class, is_wrong_count};
+use crate::rules::uses::first_use;
 use crate::uses::use_list::{Use, UseList};
 use crate::wrong::{Reason, Wrong, about};
 use ss_routines::{Place, Spot};
 use std::alloc::{AllocError, Global};
-
-/// Whether a use breaks this rule on names.
-fn breaks_rule(whole: &Tables, rule: CheckRule, name_use: &Use<'_>) -> bool
-    ensures { result ≡ rules.breaks_rule whole.now rule (use_view name_use.now) }
-{
-    match rule {
-        CheckRule::WrongClass => is_wrong_class(whole, name_use),
-        CheckRule::WrongUse => is_misused(whole, name_use),
-        CheckRule::WrongCount => is_wrong_count(whole, name_use),
-        CheckRule::FixedTarget => is_fixed(whole, name_use),
-        _ => false,
-    }
-}
-
-/// The first of these uses that breaks the rule.
-fn first_use<'a>(whole: &Tables, rule: CheckRule, uses: &[Use<'a>]) -> Option<Use<'a>>
-    ensures { option_map use_view result
-        ≡ find (rules.breaks_rule whole.now rule) (map use_view uses.now) }
-{
-    for one in uses {
-        if breaks_rule(whole, rule, one) {
-            return Some(*one);
-        }
-    }
-    None
-}
 
 /// The name of a use.
 fn name_used<'a>(name_use: Use<'a>) -> &'a [u8]

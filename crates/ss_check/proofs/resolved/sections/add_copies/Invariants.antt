@@ -1,6 +1,7 @@
-use Rattle.std.proofs.Common.{◌≡◌, ◌++◌, take}
+use Rattle.std.proofs.Common.{◌≡◌, ◌++◌, drop}
 use Rattle.ss_check.proofs.resolved.sections.add_copies.Given as goal
 
--- the names so far
+-- the names that are left bring the list to all
 abbrev pub invariant-loop-name : goal.invariant-loop-name
-invariant-loop-name l = l.list.items ≡ l.fn.list.items ++ take l.name-index l.names
+invariant-loop-name l =
+    l.list.items ++ drop l.name-index l.names ≡ l.fn.list.items ++ l.names

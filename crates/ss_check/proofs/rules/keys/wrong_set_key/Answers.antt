@@ -1,5 +1,5 @@
 use Rattle.std.proofs.Common.{refl, ◌∙◌}
-use Rattle.ss_check.proofs.rules.wrong_items.wrong_set_key.Goals as goal
+use Rattle.ss_check.proofs.rules.keys.wrong_set_key.Goals as goal
 
 pub returns-in-Sets : goal.returns-in-Sets
 returns-in-Sets c = c.wrong_rank_of.ensures ∙ rw (c.in-Sets.is, c.wrong_set.ensures) refl

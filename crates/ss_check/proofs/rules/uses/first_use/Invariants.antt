@@ -3,7 +3,7 @@ use Rattle.std.specs.Prelude.{map}
 use Rattle.std.specs.List.{find}
 use Rattle.ss_check.specs.PlaceRules.{breaks_rule}
 use Rattle.ss_check.specs.UseView.{use_view}
-use Rattle.ss_check.proofs.rules.wrong_uses.first_use.Given as goal
+use Rattle.ss_check.proofs.rules.uses.first_use.Given as goal
 
 -- no use so far breaks the rule
 abbrev pub invariant-loop-one : goal.invariant-loop-one

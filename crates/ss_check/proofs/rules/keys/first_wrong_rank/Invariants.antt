@@ -3,7 +3,7 @@ use Rattle.std.specs.List.{find}
 use Rattle.ss_preamble.specs.View.{set_discipline_view}
 use Rattle.ss_check.specs.Facts.{fact_of}
 use Rattle.ss_check.specs.ItemRules.{has_wrong_rank}
-use Rattle.ss_check.proofs.rules.wrong_items.first_wrong_rank.Given as goal
+use Rattle.ss_check.proofs.rules.keys.first_wrong_rank.Given as goal
 
 -- no set so far has a wrong key
 abbrev pub invariant-loop-set : goal.invariant-loop-set

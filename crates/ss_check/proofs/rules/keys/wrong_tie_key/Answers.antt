@@ -2,7 +2,7 @@ use Rattle.std.proofs.Common.{refl, ap, ◌∙◌, Some}
 use Rattle.ss_words.specs.Lists.{Name, all_of, several_view}
 use Rattle.ss_preamble.specs.View.{key_view}
 use Rattle.ss_check.specs.ItemRules.{wrong_key}
-use Rattle.ss_check.proofs.rules.wrong_items.wrong_tie_key.Goals as goal
+use Rattle.ss_check.proofs.rules.keys.wrong_tie_key.Goals as goal
 
 pub returns-in-BreakTies : goal.returns-in-BreakTies
 returns-in-BreakTies c =
