@@ -13,7 +13,7 @@ use crate::texts::{push_no_entity, push_no_such};
 use ss_debug::{find_class, find_variable, push_entity, push_integer, split_line};
 use ss_links::SetBoard;
 use ss_machine::Machine;
-use std::alloc::{AllocError, Global};
+use std::alloc::AllocError;
 
 /// Whether a line gives the attribute of this name.
 fn tells(name: &[u8], line: &[u8]) -> bool
@@ -53,7 +53,6 @@ fn push_line_telling(text: &mut Vec<u8>, name: &[u8], lines: &[u8]) -> Result<()
 
 /// Appends an attribute of an entity that exists.
 fn push_attribute_line<S: SetBoard>(
-    alloc: Global,
     text: &mut Vec<u8>,
     machine: &Machine<S>,
     class: usize,
@@ -64,14 +63,13 @@ fn push_attribute_line<S: SetBoard>(
         ++ line_or_none name.now (line_telling name.now
         (entity_lines machine.now.input.program machine.now.state.store class (number_of x)))) }
 {
-    let mut lines = Vec::new(alloc);
+    let mut lines = Vec::new(*text.allocator());
     push_entity(&mut lines, machine, class, x)?;
     push_line_telling(text, name, &lines)
 }
 
 /// Appends an entity whole, or one attribute of it, or which of them isn't there.
 fn push_told<S: SetBoard>(
-    alloc: Global,
     text: &mut Vec<u8>,
     machine: &Machine<S>,
     class_name: &[u8],
@@ -89,7 +87,7 @@ fn push_told<S: SetBoard>(
         return push_no_entity(text, class_name, x);
     }
     if let Some(name) = attribute {
-        return push_attribute_line(alloc, text, machine, class, x, name);
+        return push_attribute_line(text, machine, class, x, name);
     }
     text.extend_from_slice(class_name)?;
     text.extend_from_slice(b" ")?;
@@ -114,7 +112,6 @@ pub fn variable_value<S: SetBoard>(machine: &Machine<S>, name: &[u8]) -> Option<
 /// `NO VARIABLE v`.
 #[tactic(auto, unfolding(crate::specs::Attribute::by_variable_text))]
 pub fn push_by_variable<S: SetBoard>(
-    alloc: Global,
     text: &mut Vec<u8>,
     machine: &Machine<S>,
     class: &[u8],
@@ -129,5 +126,5 @@ pub fn push_by_variable<S: SetBoard>(
     let Some(x) = variable_value(machine, variable) else {
         return push_no_such(text, b"VARIABLE", variable);
     };
-    push_told(alloc, text, machine, class, x, attribute)
+    push_told(text, machine, class, x, attribute)
 }

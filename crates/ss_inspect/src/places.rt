@@ -1,5 +1,5 @@
 //! The answer to SHOW IN: where an entity is.
-ghost use Rattle.std.specs.Prelude.{◌≡◌, ◌++◌, ◌<◌, ◌≤◌, length, OnOk, true, [], codes, decimal};
+ghost use Rattle.std.specs.Prelude.{◌≡◌, ◌++◌, ◌<◌, length, OnOk, true, [], codes, decimal};
 ghost use Rattle.ss_links.specs.Seats.{has};
 ghost use Rattle.ss_program.specs.Program.{set_of};
 ghost use Rattle.ss_program.specs.declared.kinds.Owner.TheVariants.{OwnedBy};
@@ -88,27 +88,23 @@ fn push_system_list_with<S: SetBoard>(
     push_listed(text, machine, set, 0)
 }
 
-/// Appends the lists of a set, of all entities of the class that owns it, in which the entity is;
-/// none of them is past a limit.
+/// Appends the lists of a set, of all entities of the class that owns it, in which the entity is.
 fn push_owned_lists_with<S: SetBoard>(
     text: &mut Vec<u8>,
     machine: &Machine<S>,
     set: usize,
     x: i64,
     class: usize,
-    limit: u32,
 ) -> Result<(), AllocError>
     requires set { set < length machine.now.input.program.sets }
     requires there { exists machine.now.state.store (set_of machine.now.input.program set).member
         (number_of x) ≡ true }
     requires owner { (set_of machine.now.input.program set).owner ≡ OwnedBy class }
-    requires limit { greatest_number machine.now.state.store class ≤ limit }
     ensures { OnOk result (text.new.items ≡ text.old.items
         ++ texts_below (owned_list_with machine.now.input.program machine.now.state.store set
         (number_of x)) (greatest_number machine.now.state.store class)) }
 {
-    let _ = class;
-    for below in 0..limit {
+    for below in 0..number_limit(machine.store(), class) {
         push_owned_list_with(text, machine, set, x, below + 1)?;
     }
     Ok(())
@@ -134,10 +130,7 @@ fn push_class_lists_with<S: SetBoard>(
     }
     match program.set_owner(set) {
         Owner::System => push_system_list_with(text, machine, set, x),
-        Owner::OwnedBy(owner) => {
-            let limit = number_limit(machine.store(), owner);
-            push_owned_lists_with(text, machine, set, x, owner, limit)
-        }
+        Owner::OwnedBy(owner) => push_owned_lists_with(text, machine, set, x, owner),
     }
 }
 

@@ -48,7 +48,6 @@ fn response_head(
 /// value.
 #[tactic(auto, unfolding(crate::specs::Messages::reply_text))]
 pub fn push_reply(
-    alloc: Global,
     out: &mut Vec<u8>,
     number: u64,
     request: u64,
@@ -58,7 +57,7 @@ pub fn push_reply(
     ensures { OnOk result (out.new.items
         ≡ out.old.items ++ message_text (reply_text number request name.now body.now)) }
 {
-    let mut text = response_head(alloc, number, request, name)?;
+    let mut text = response_head(*out.allocator(), number, request, name)?;
     text.extend_from_slice(b",\"success\":true,\"body\":")?;
     text.extend_from_slice(body)?;
     text.extend_from_slice(b"}")?;
@@ -68,7 +67,6 @@ pub fn push_reply(
 /// Appends message `number`: request `request` of this name is not done, for this reason.
 #[tactic(auto, unfolding(crate::specs::Messages::failure_text))]
 pub fn push_failure(
-    alloc: Global,
     out: &mut Vec<u8>,
     number: u64,
     request: u64,
@@ -78,7 +76,7 @@ pub fn push_failure(
     ensures { OnOk result (out.new.items
         ≡ out.old.items ++ message_text (failure_text number request name.now reason.now)) }
 {
-    let mut text = response_head(alloc, number, request, name)?;
+    let mut text = response_head(*out.allocator(), number, request, name)?;
     text.extend_from_slice(b",\"success\":false,\"message\":")?;
     push_quoted(&mut text, reason)?;
     text.extend_from_slice(b"}")?;

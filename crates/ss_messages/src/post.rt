@@ -81,14 +81,7 @@ impl Post {
     {
         let number = self.sent + 1;
         let name = request.name.as_slice();
-        push_reply(
-            self.alloc,
-            &mut self.bytes,
-            number,
-            request.number,
-            name,
-            body,
-        )?;
+        push_reply(&mut self.bytes, number, request.number, name, body)?;
         self.sent = number;
         Ok(())
     }
@@ -100,14 +93,7 @@ impl Post {
     {
         let number = self.sent + 1;
         let name = request.name.as_slice();
-        push_failure(
-            self.alloc,
-            &mut self.bytes,
-            number,
-            request.number,
-            name,
-            reason,
-        )?;
+        push_failure(&mut self.bytes, number, request.number, name, reason)?;
         self.sent = number;
         Ok(())
     }

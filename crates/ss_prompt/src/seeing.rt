@@ -91,21 +91,13 @@ pub(crate) fn push_sight<S: SetBoard>(
         Sight::Living(class) => push_living(alloc, text, machine, class.as_slice()),
         Sight::ByVariable(class, variable, attribute) => match attribute {
             Some(name) => push_by_variable(
-                alloc,
                 text,
                 machine,
                 class.as_slice(),
                 variable.as_slice(),
                 Some(name.as_slice()),
             ),
-            None => push_by_variable(
-                alloc,
-                text,
-                machine,
-                class.as_slice(),
-                variable.as_slice(),
-                None,
-            ),
+            None => push_by_variable(text, machine, class.as_slice(), variable.as_slice(), None),
         },
         Sight::Places(class, x) => push_places(alloc, text, machine, class.as_slice(), x),
         Sight::MemberRows(set, owner, names) => {

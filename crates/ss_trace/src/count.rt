@@ -1,10 +1,11 @@
 //! How many members a list has.
-ghost use Rattle.std.specs.Prelude.{◌≡◌, ◌++◌, ◌<◌, length, OnOk};
+ghost use Rattle.std.specs.Prelude.{◌≡◌, ◌++◌, ◌<◌, codes, length, OnOk};
+ghost use Rattle.std.specs.Fmt.{signed_decimal};
 ghost use Rattle.ss_program.specs.declared.kinds.Owner.TheVariants.{System};
 ghost use Rattle.ss_store.specs.Store.{number_of, members_of};
 ghost use Rattle.ss_machine.specs.Moment.{position};
 ghost use Rattle.ss_debug.specs.Entities.{shape_of};
-ghost use Rattle.ss_trace.specs.Question.{counted_text, owned_count_text, list_count_text, count_text};
+ghost use Rattle.ss_trace.specs.Question.{counted_text, list_count_text, count_text};
 
 use crate::attribute::push_no_entity;
 use ss_debug::{class_value, find_set, push_integer, push_number};
@@ -39,23 +40,19 @@ fn push_counted<S: SetBoard>(
     bytes.extend_from_slice(b"\n")
 }
 
-/// Appends that line for an entity of this class, or `NO ENTITY c k`.
+/// Appends that line for the list of an owner, whose number follows the set's name.
 fn push_owned_count<S: SetBoard>(
     bytes: &mut Vec<u8>,
     name: &[u8],
     machine: &Machine<S>,
     set: usize,
-    class: usize,
     owner: i64,
 ) -> Result<(), AllocError>
     requires { set < length machine.now.input.program.sets }
     ensures { OnOk result (bytes.new.items ≡ bytes.old.items
-        ++ owned_count_text name.now machine.now.input.program machine.now.state.store set class
-        owner) }
+        ++ codes "COUNT " ++ name.now ++ codes " " ++ signed_decimal owner
+        ++ counted_text machine.now.input.program machine.now.state.store set owner) }
 {
-    if !machine.store().exists(class, owner) {
-        return push_no_entity(bytes, machine.program().class_name(class), owner);
-    }
     bytes.extend_from_slice(b"COUNT ")?;
     bytes.extend_from_slice(name)?;
     bytes.extend_from_slice(b" ")?;
@@ -106,7 +103,10 @@ pub fn push_count<S: SetBoard>(
         Owner::System => push_system_count(bytes, name, machine, set, owner),
         Owner::OwnedBy(class) => {
             let x = owner.unwrap_or(class_value(machine, class));
-            push_owned_count(bytes, name, machine, set, class, x)
+            if !machine.store().exists(class, x) {
+                return push_no_entity(bytes, program.class_name(class), x);
+            }
+            push_owned_count(bytes, name, machine, set, x)
         }
     }
 }

@@ -1,5 +1,5 @@
 //! The numbers in the lines of an entity.
-ghost use Rattle.std.specs.Prelude.{◌≡◌, ◌++◌, ◌∷◌, ◌<◌, [], length, OnOk};
+ghost use Rattle.std.specs.Prelude.{◌≡◌, ◌++◌, ◌<◌, length, OnOk};
 ghost use Rattle.ss_program.specs.Program.{class_of};
 ghost use Rattle.ss_store.specs.Store.{number_of};
 ghost use Rattle.ss_trace.specs.EntityNumbers.{numbers_below, attribute_numbers, kept_number, set_numbers};
@@ -92,24 +92,6 @@ pub fn neighbours_of<S: SetBoard>(
     }
 }
 
-/// Appends a kept attribute of an entity in a set.
-fn push_kept<S: SetBoard>(
-    numbers: &mut Vec<i64>,
-    machine: &Machine<S>,
-    class: usize,
-    x: i64,
-    set: usize,
-    kept: Kept,
-) -> Result<(), AllocError>
-    requires { set < length machine.now.input.program.sets }
-    ensures { OnOk result (numbers.new.items ≡ numbers.old.items
-        ++ kept_number machine.now.input.program machine.now.state.store class (number_of x) set
-        kept ∷ []) }
-{
-    numbers.push(kept_number(machine, class, x, set, kept))?;
-    Ok(())
-}
-
 /// Appends the numbers of a set for an entity, as an owner of its lists and as a member of one.
 fn push_set<S: SetBoard>(
     numbers: &mut Vec<i64>,
@@ -123,12 +105,14 @@ fn push_set<S: SetBoard>(
         ++ set_numbers machine.now.input.program machine.now.state.store class (number_of x)
         set) }
 {
-    push_kept(numbers, machine, class, x, set, Kept::First)?;
-    push_kept(numbers, machine, class, x, set, Kept::Last)?;
-    push_kept(numbers, machine, class, x, set, Kept::Number)?;
-    push_kept(numbers, machine, class, x, set, Kept::Predecessor)?;
-    push_kept(numbers, machine, class, x, set, Kept::Successor)?;
-    push_kept(numbers, machine, class, x, set, Kept::Membership)
+    numbers.extend_from_slice(&[
+        kept_number(machine, class, x, set, Kept::First),
+        kept_number(machine, class, x, set, Kept::Last),
+        kept_number(machine, class, x, set, Kept::Number),
+        kept_number(machine, class, x, set, Kept::Predecessor),
+        kept_number(machine, class, x, set, Kept::Successor),
+        kept_number(machine, class, x, set, Kept::Membership),
+    ])
 }
 
 /// Appends the numbers of all sets for an entity.

@@ -70,21 +70,24 @@ fn push_cells(
     push_left(bytes, SECTION_WIDTH, section)
 }
 
+/// The cells of a row before its value.
+#[derive(Drop)]
+struct Cells<'a> {
+    state: &'a [u8],
+    time: &'a [u8],
+    section: &'a [u8],
+    line: &'a [u8],
+}
+
 /// Appends a row of the table.
-fn push_row(
-    bytes: &mut Vec<u8>,
-    state: &[u8],
-    time: &[u8],
-    section: &[u8],
-    line: &[u8],
-    value: &[u8],
-) -> Result<(), AllocError>
+fn push_row(bytes: &mut Vec<u8>, cells: &Cells<'_>, value: &[u8]) -> Result<(), AllocError>
     ensures { OnOk result (bytes.new.items ≡ bytes.old.items
-        ++ row state.now time.now section.now line.now value.now) }
+        ++ row cells.now.state.now cells.now.time.now cells.now.section.now cells.now.line.now
+        value.now) }
 {
-    push_cells(bytes, state, time, section)?;
+    push_cells(bytes, cells.state, cells.time, cells.section)?;
     bytes.extend_from_slice(b" ")?;
-    push_right(bytes, LINE_WIDTH, line)?;
+    push_right(bytes, LINE_WIDTH, cells.line)?;
     bytes.extend_from_slice(b"  ")?;
     bytes.extend_from_slice(value)?;
     bytes.extend_from_slice(b"\n")
@@ -94,7 +97,13 @@ fn push_row(
 pub fn push_head_of(bytes: &mut Vec<u8>, name: &[u8]) -> Result<(), AllocError>
     ensures { OnOk result (bytes.new.items ≡ bytes.old.items ++ head_of name.now) }
 {
-    push_row(bytes, b"STATE", b"CLOCK", b"IN", b"LINE", name)
+    let cells = Cells {
+        state: b"STATE",
+        time: b"CLOCK",
+        section: b"IN",
+        line: b"LINE",
+    };
+    push_row(bytes, &cells, name)
 }
 
 /// Appends the head of the table of a question.
@@ -155,14 +164,13 @@ pub fn push_row_of<S: SetBoard>(
     let mut state = Buffer::new();
     let mut clock = Buffer::new();
     let mut line = Buffer::new();
-    push_row(
-        bytes,
-        state.format(machine.position()).as_bytes(),
-        clock.format(machine.clock()).as_bytes(),
-        present_section(debugger),
-        line.format(present_line(debugger) as u64).as_bytes(),
-        value,
-    )
+    let cells = Cells {
+        state: state.format(machine.position()).as_bytes(),
+        time: clock.format(machine.clock()).as_bytes(),
+        section: present_section(debugger),
+        line: line.format(present_line(debugger) as u64).as_bytes(),
+    };
+    push_row(bytes, &cells, value)
 }
 
 /// Appends the row of the debugger's next step; `after` is the answer after the step.

@@ -6,8 +6,8 @@ ghost use Rattle.ss_store.specs.Store.{number_of, attributes_of};
 ghost use Rattle.ss_trace.specs.declared.told.TheConstants.{NUMBERS_OF_A_SET};
 ghost use Rattle.ss_trace.specs.Sight.{IsInTables};
 ghost use Rattle.ss_trace.specs.Told.{tells, tells_attribute, tells_attributes, set_place, kept_place};
-ghost use Rattle.ss_trace.specs.Told.{told_none, tells_kept, tells_beside, tells_member};
-ghost use Rattle.ss_trace.specs.Told.{tells_set, tells_sets, tells_all, tells_touched, tells_entity, is_told};
+ghost use Rattle.ss_trace.specs.Told.{told_none, tells_beside, tells_set, tells_sets, tells_all};
+ghost use Rattle.ss_trace.specs.Told.{tells_touched, tells_entity, is_told};
 
 use crate::attribute::Kept;
 use crate::entity_numbers::{kept_number, neighbours_of};
@@ -118,25 +118,6 @@ fn told_none(numbers: &[i64], at: usize, kept: Kept) -> bool
     tells(numbers, at + kept_place(kept), 0)
 }
 
-/// Whether a kept attribute of an entity agrees with the numbers of the set.
-fn tells_kept<S: SetBoard>(
-    numbers: &[i64],
-    at: usize,
-    machine: &Machine<S>,
-    class: usize,
-    x: i64,
-    set: usize,
-    kept: Kept,
-) -> bool
-    requires set { set < length machine.now.input.program.sets }
-    requires within { at + NUMBERS_OF_A_SET < 2 ^ 64 }
-    ensures { result ≡ tells_kept machine.now.input.program machine.now.state.store class
-        (number_of x) numbers.now set at kept }
-{
-    let value = kept_number(machine, class, x, set, kept);
-    tells(numbers, at + kept_place(kept), value)
-}
-
 /// Whether the numbers of a set have this one for a kept attribute.
 fn tells_number(numbers: &[i64], at: usize, kept: Kept, value: u32) -> bool
     requires { at + NUMBERS_OF_A_SET < 2 ^ 64 }
@@ -162,25 +143,8 @@ fn tells_beside(numbers: &[i64], at: usize, now: Neighbours) -> bool
         && (!was_alone || is_member)
 }
 
-/// Whether the numbers of a set for an entity as a member are as they were.
-#[tactic(auto, using(crate::proofs::Neighbours::beside_is))]
-fn tells_member<S: SetBoard>(
-    numbers: &[i64],
-    at: usize,
-    machine: &Machine<S>,
-    class: usize,
-    x: i64,
-    set: usize,
-) -> bool
-    requires set { set < length machine.now.input.program.sets }
-    requires within { at + NUMBERS_OF_A_SET < 2 ^ 64 }
-    ensures { result ≡ tells_member machine.now.input.program machine.now.state.store class
-        (number_of x) numbers.now set at }
-{
-    tells_beside(numbers, at, neighbours_of(machine, class, x, set))
-}
-
 /// Whether the numbers of a set for an entity are as they were.
+#[tactic(auto, using(crate::proofs::Neighbours::beside_is))]
 fn tells_set<S: SetBoard>(
     numbers: &[i64],
     machine: &Machine<S>,
@@ -194,8 +158,9 @@ fn tells_set<S: SetBoard>(
         (number_of x) numbers.now set (set_place machine.now.input.program class set) }
 {
     let at = set_place(machine.program(), class, set);
-    tells_kept(numbers, at, machine, class, x, set, Kept::Number)
-        && tells_member(numbers, at, machine, class, x, set)
+    let count = kept_number(machine, class, x, set, Kept::Number);
+    tells(numbers, at + kept_place(Kept::Number), count)
+        && tells_beside(numbers, at, neighbours_of(machine, class, x, set))
 }
 
 /// Whether the numbers of all sets for an entity are as they were.
