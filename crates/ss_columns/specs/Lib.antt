@@ -1,4 +1,5 @@
--- The definitions of this crate's calls: words with their numbers, columns, and dropped words.
+-- The definitions of this crate's calls: words with their numbers, columns, quoted lines, and dropped words.
 pub mod Numbers
 pub mod Columns
+pub mod Quotes
 pub mod Reserved

@@ -8,7 +8,7 @@ use Rattle.ss_program.specs.declared.variable.Variable.{Variable}
 use Rattle.ss_program.specs.declared.variable.Variable.TheVariants.{Global, Local, Clock}
 use Rattle.ss_program.specs.Program.{ProgramTable, class_of, section_of}
 use Rattle.ss_data.specs.Numbers.{is_numeral}
-use Rattle.ss_sentences.specs.Pieces.{shown}
+use Rattle.ss_columns.specs.Quotes.{shown}
 use Rattle.ss_faults.specs.declared.data_texts.TheConstants.{LONGEST_SHOWN}
 use Rattle.ss_faults.specs.DataPieces.{PlacedPiece, data_pieces}
 use Rattle.ss_faults.specs.Refusal.{RefusedPiece, refusal}

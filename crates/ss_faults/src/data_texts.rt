@@ -7,12 +7,12 @@ ghost use Rattle.ss_faults.specs.DataTexts as spec;
 
 use crate::data_pieces::{DataPiece, PiecesLeft};
 use crate::refused::{Refused, first_refused};
-use crate::texts::{first_bytes, push_number};
+use crate::texts::push_number;
 use itoa::Buffer;
+use ss_columns::{first_bytes, push_shown};
 use ss_links::SetBoard;
 use ss_machine::Machine;
 use ss_program::{Program, Target, Targets, Variable, name_at};
-use ss_sentences::push_shown;
 use ss_words::characters::{MINUS_SIGN, PLUS_SIGN};
 use std::alloc::AllocError;
 

@@ -6,7 +6,8 @@ ghost use Rattle.ss_faults.specs.Sentence as spec;
 
 use crate::about::push_about;
 use crate::data_sentence::push_data_sentence;
-use crate::texts::{first_bytes, push_number};
+use crate::texts::push_number;
+use ss_columns::first_bytes;
 use ss_links::SetBoard;
 use ss_machine::Machine;
 use ss_sentences::fault_sentence;

@@ -1,5 +1,5 @@
 //! The texts of the parts that a fault is about, and what other texts share.
-ghost use Rattle.std.specs.Prelude.{◌≡◌, ◌++◌, decimal, take, OnOk};
+ghost use Rattle.std.specs.Prelude.{◌≡◌, ◌++◌, decimal, OnOk};
 ghost use Rattle.std.specs.Fmt.{signed_decimal};
 ghost use Rattle.ss_faults.specs.Texts as spec;
 
@@ -7,13 +7,6 @@ use crate::told::Told;
 use itoa::Buffer;
 use ss_program::{Owner, Program};
 use std::alloc::AllocError;
-
-/// The first `count` bytes.
-pub fn first_bytes(bytes: &[u8], count: usize) -> &[u8]
-    ensures { result.now ≡ take count bytes.now }
-{
-    &bytes[..count.min(bytes.len())]
-}
 
 /// Appends an integer in least digits, with its sign below 0.
 pub fn push_integer(text: &mut Vec<u8>, n: i64) -> Result<(), AllocError>

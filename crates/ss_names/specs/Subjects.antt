@@ -11,7 +11,7 @@ use Rattle.ss_names.specs.declared.collected.Wanted.TheVariants.{Declared, Owned
 use Rattle.ss_names.specs.declared.collected.Wanted.TheVariants.{Disciplines, Ties, Externals}
 use Rattle.ss_names.specs.declared.known.What.{What}
 use Rattle.ss_names.specs.declared.known.What.TheVariants as k
-use Rattle.ss_names.specs.Carets.{name_caret}
+use Rattle.ss_names.specs.Carets.{word_caret, wrong_word}
 use Rattle.ss_names.specs.Collected.{collection}
 use Rattle.ss_names.specs.Here.{at_start}
 use Rattle.ss_names.specs.Known.{Knowledge, knowledge_of, knowledge_given, known_text}
@@ -96,7 +96,7 @@ reason_told ws line reason None = place_text ws reason line
 -- a caret below the name, and the text about what is wrong, of a line of a model; nothing if a rule L refuses the model
 unfoldable pub breach_text : List ℕ → ℕ → Wrong → List ℕ
 breach_text model line wrong = elim (words_of model) [
-  | Ok ws ↦ name_caret model ws line wrong.reason wrong.name
+  | Ok ws ↦ word_caret model ws line (wrong_word (plain_words_of ws) line wrong.reason wrong.name)
       ++ reason_told (plain_words_of ws) line wrong.reason wrong.name
   | Err f ↦ []
 ]

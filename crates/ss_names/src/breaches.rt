@@ -4,7 +4,7 @@ ghost use Rattle.ss_words.specs.Plain.{plain_at};
 ghost use Rattle.ss_names.specs.Known.{known_at};
 ghost use Rattle.ss_names.specs.Subjects as spec;
 
-use crate::caret::push_name_caret;
+use crate::caret::{push_word_caret, wrong_word};
 use crate::collected::{Wanted, collect};
 use crate::declarations::Declarations;
 use crate::known::{Known, What, given, known_as, push_known};
@@ -147,7 +147,7 @@ fn push_reason(
 
 /// Appends the text about what is wrong with the statement on a line of a model that a rule of the
 /// checker refuses (docs/SENTENCES.md), to follow that line. For a name it gives a caret below it,
-/// its kind, the place of its declaration, and the reason. For a statement it gives its
+/// after its line if that is a later one, its kind, the place of its declaration, and the reason. For a statement it gives its
 /// surroundings. It appends nothing if a rule L refuses the model. The only error is that memory
 /// was refused.
 #[tactic(auto, unfolding(crate::specs::Subjects::breach_text))]
@@ -164,7 +164,7 @@ pub fn push_breach(
     match words(alloc, model) {
         Ok(words) => {
             let plain = plain_words(alloc, &words)?;
-            push_name_caret(text, model, &words, line, wrong)?;
+            push_word_caret(text, model, &words, line, wrong_word(&plain, line, wrong))?;
             push_reason(alloc, &plain, line, wrong, text)
         }
         Err(TextFault::Memory) => Err(AllocError),

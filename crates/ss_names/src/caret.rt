@@ -1,19 +1,19 @@
 //! The caret below the name that is wrong, under the line on which it is.
 ghost use Rattle.std.specs.Prelude.{◌≡◌, ◌++◌, OnOk, Some, map, None};
-ghost use Rattle.ss_words.specs.Words.{kind_of, word_at};
+ghost use Rattle.ss_words.specs.Plain.{plain_at};
 ghost use Rattle.ss_names.specs.Carets as spec;
-ghost use Rattle.ss_names.specs.Warnings.{kind_seen};
+ghost use Rattle.ss_names.specs.Here.{at_start};
 
-use crate::dropped::first_kind;
+use crate::collected::here_at;
+use crate::here::Here;
+use crate::position::opens;
 use crate::spoken::Spoken;
-use itoa::Buffer;
 use ss_check::{Reason, Wrong};
-use ss_columns::{line_of, place_of};
-use ss_words::characters::{BLANK, TAB};
-use ss_words::{Sign, Word, WordKind, Words};
+use ss_columns::{Place, first_bytes, line_of, place_of, push_caret, push_number, push_source};
+use ss_words::{Plain, PlainWord, Words};
 use std::alloc::AllocError;
 
-/// Which word of a line is wrong, among those of one name.
+/// Which word of a statement is wrong, among those of one name.
 #[derive(Clone, Copy)]
 enum Which {
     First,
@@ -40,34 +40,30 @@ fn which_word(reason: Reason) -> Which
     }
 }
 
-fn opens(kind: Option<&WordKind>) -> bool
-    ensures { result ≡ spec.opens (kind_seen kind.entry) }
+/// Whether a word is this name, in a statement that begins on its line, or on that line itself.
+fn is_spoken(spoken: Spoken<'_>, here: Here, word: &PlainWord<'_>) -> bool
+    ensures { result ≡ spec.is_spoken spoken.entry.name.now spoken.entry.line here
+        (plain_at word.now) }
 {
-    matches!(kind, Some(WordKind::Sign(Sign::Open)))
-}
-
-/// Whether a word is this name.
-fn is_name(kind: &WordKind, name: &[u8]) -> bool
-    ensures { result ≡ spec.is_name (kind_of kind.now) name.now }
-{
-    match kind {
-        WordKind::Name(word) => word.bytes() == name,
+    let is_there = word.line() == spoken.line || here.line == spoken.line;
+    match word.kind() {
+        Plain::Name(name) => is_there && name.bytes() == spoken.name,
         _ => false,
     }
 }
 
 /// Whether a word before these can be the one that is wrong.
-fn fits(which: Which, behind: &[Word]) -> bool
-    ensures { result ≡ spec.fits which (map word_at behind.now) }
+fn fits(which: Which, behind: &[PlainWord<'_>]) -> bool
+    ensures { result ≡ spec.fits which (map plain_at behind.now) }
 {
     match which {
-        Which::Opened => opens(first_kind(behind)),
+        Which::Opened => opens(behind),
         Which::First | Which::Last => true,
     }
 }
 
 /// The number of the wrong word, by the one found before and a further one.
-fn found_with(which: Which, found: Option<usize>, number: usize) -> usize
+fn found_with(which: Which, found: Option<u32>, number: u32) -> u32
     ensures { result ≡ spec.found_with which found number }
 {
     match which {
@@ -76,21 +72,21 @@ fn found_with(which: Which, found: Option<usize>, number: usize) -> usize
     }
 }
 
-/// The number of the wrong word of a name on its line, from 0, if there is one.
+/// The number of the wrong word of a name, in the statements of a line, from 0, if there is one.
 #[tactic(auto, unfolding(crate::specs::Carets::number_of))]
-fn number_of(which: Which, spoken: Spoken<'_>, words: &[Word]) -> Option<usize>
-    ensures { result ≡ spec.number_of which spoken.entry.name.now spoken.entry.line None 0
-        (map word_at words.now) }
+fn number_of(which: Which, spoken: Spoken<'_>, words: &[PlainWord<'_>]) -> Option<u32>
+    ensures { result ≡ spec.number_of which spoken.entry.name.now spoken.entry.line None at_start
+        (map plain_at words.now) }
 {
     let mut found = None;
-    let mut number: usize = 0;
+    let mut here = Here::at_start();
     let mut rest = words;
     while let [word, behind @ ..] = rest {
-        let is_it = word.line == spoken.line && is_name(&word.kind, spoken.name);
-        if is_it && fits(which, behind) {
-            found = Some(found_with(which, found, number));
+        let at = here_at(here, word);
+        if is_spoken(spoken, at, word) && fits(which, behind) {
+            found = Some(found_with(which, found, word.index));
         }
-        number += 1;
+        here = at.behind(word.kind(), word.line(), behind);
         rest = behind;
     }
     found
@@ -98,9 +94,9 @@ fn number_of(which: Which, spoken: Spoken<'_>, words: &[Word]) -> Option<usize>
 
 /// The number of the word of a name that a reason is about; if none of them opens a parenthesis, as
 /// it should, that of the last one.
-fn wrong_number(reason: Reason, spoken: Spoken<'_>, words: &[Word]) -> Option<usize>
+fn wrong_number(reason: Reason, spoken: Spoken<'_>, words: &[PlainWord<'_>]) -> Option<u32>
     ensures { result ≡ spec.wrong_number reason spoken.entry.name.now spoken.entry.line
-        (map word_at words.now) }
+        (map plain_at words.now) }
 {
     match number_of(which_word(reason), spoken, words) {
         Some(number) => Some(number),
@@ -108,76 +104,72 @@ fn wrong_number(reason: Reason, spoken: Spoken<'_>, words: &[Word]) -> Option<us
     }
 }
 
-/// A tab for a tab, and a blank for any other byte.
-fn blank_of(byte: u8) -> u8
-    ensures { result ≡ spec.blank_of byte }
+/// The number of the word that is wrong, if what is wrong is a name of a statement on this line.
+pub fn wrong_word(words: &[PlainWord<'_>], line: usize, wrong: &Wrong) -> Option<u32>
+    ensures { result
+        ≡ spec.wrong_word (map plain_at words.now) line wrong.now.reason wrong.now.name }
 {
-    if byte == TAB { TAB } else { BLANK }
-}
-
-/// Appends blanks as wide as these bytes.
-fn push_blanks(text: &mut Vec<u8>, bytes: &[u8]) -> Result<(), AllocError>
-    ensures { OnOk result (text.new.items ≡ text.old.items ++ map spec.blank_of bytes.now) }
-{
-    for byte in bytes {
-        text.push(blank_of(*byte))?;
+    match &wrong.name {
+        Some(name) => {
+            let name = name.bytes();
+            wrong_number(wrong.reason, Spoken { name, line }, words)
+        }
+        None => None,
     }
-    Ok(())
 }
 
-/// Appends the caret at a column below a line after its number and a mark.
-fn push_caret(
+/// Appends the caret at a column below a line of the model after its number and a mark.
+fn push_line_caret(
     text: &mut Vec<u8>,
     model: &[u8],
     line: usize,
     column: usize,
 ) -> Result<(), AllocError>
     ensures { OnOk result (text.new.items
-        ≡ text.old.items ++ spec.caret_text model.now line (Some column)) }
+        ≡ text.old.items ++ spec.line_caret model.now line (Some column)) }
 {
-    let mut buffer = Buffer::new();
-    let bytes = line_of(model, line);
-    push_blanks(text, buffer.format(line).as_bytes())?;
-    push_blanks(text, b"> ")?;
-    push_blanks(text, &bytes[..column.saturating_sub(1).min(bytes.len())])?;
-    text.extend_from_slice(b"^\n")
+    let mut mark = Vec::new(*text.allocator());
+    push_number(&mut mark, line)?;
+    mark.extend_from_slice(b"> ")?;
+    push_caret(
+        text,
+        &mark,
+        first_bytes(line_of(model, line), column.saturating_sub(1)),
+    )
 }
 
-/// Appends the caret below a word.
-fn push_caret_of_word(
+/// Appends the caret at a place, if it has a column, to follow a line; after the line of the place,
+/// if that is another one.
+fn push_place_caret(
     text: &mut Vec<u8>,
     model: &[u8],
-    words: &Words,
     line: usize,
-    number: usize,
+    place: Place,
 ) -> Result<(), AllocError>
-    ensures { OnOk result (text.new.items ≡ text.old.items
-        ++ spec.word_caret model.now words.now line (Some number)) }
+    ensures { OnOk result (text.new.items
+        ≡ text.old.items ++ spec.place_caret model.now line place.line place.column) }
 {
-    let place = place_of(*text.allocator(), model, words, number)?;
     match place.column {
-        Some(column) => push_caret(text, model, line, column),
         None => Ok(()),
+        Some(column) if place.line == line => push_line_caret(text, model, line, column),
+        Some(_) => push_source(*text.allocator(), text, model, place),
     }
 }
 
-/// Appends the caret below the name that is wrong, if there is one on the line.
-pub fn push_name_caret(
+/// Appends the caret below a word, if there is one, to follow a line.
+pub fn push_word_caret(
     text: &mut Vec<u8>,
     model: &[u8],
     words: &Words,
     line: usize,
-    wrong: &Wrong,
+    number: Option<u32>,
 ) -> Result<(), AllocError>
     ensures { OnOk result (text.new.items ≡ text.old.items
-        ++ spec.name_caret model.now words.now line wrong.now.reason wrong.now.name) }
+        ++ spec.word_caret model.now words.now line number) }
 {
-    let Some(name) = &wrong.name else {
+    let Some(number) = number else {
         return Ok(());
     };
-    let name = name.bytes();
-    match wrong_number(wrong.reason, Spoken { name, line }, &words.list) {
-        Some(number) => push_caret_of_word(text, model, words, line, number),
-        None => Ok(()),
-    }
+    let place = place_of(*text.allocator(), model, words, number as usize)?;
+    push_place_caret(text, model, line, place)
 }

@@ -56,7 +56,7 @@ fn is_suspect(before: Option<&WordKind>, kind: &WordKind, behind: Option<&WordKi
 }
 
 /// The kind of the first of some words, if there is one.
-pub fn first_kind(words: &[Word]) -> Option<&WordKind>
+fn first_kind(words: &[Word]) -> Option<&WordKind>
     ensures { spec.kind_seen result ≡ spec.first_kind (map word_at words.now) }
 {
     match words {

@@ -13,6 +13,7 @@ use Rattle.ss_words.specs.Plain.{Plain, PlainAt, plains}
 use Rattle.ss_words.specs.TextWords.{words_of}
 use Rattle.ss_columns.specs.Columns.{column_at}
 use Rattle.ss_columns.specs.Numbers.{words_by_number}
+use Rattle.ss_columns.specs.Quotes.{blank_of, shown, caret_text}
 use Rattle.ss_routines.specs.declared.misfit.Misfit.{Misfit}
 use Rattle.ss_routines.specs.Asked.{expression_in}
 use Rattle.ss_routines.specs.Misfit.{condition_misfit}
@@ -20,7 +21,7 @@ use Rattle.ss_sentences.specs.declared.prompt_text.TheConstants.{NO_CONDITION_EN
 use Rattle.ss_sentences.specs.Breach.{breach_column}
 use Rattle.ss_sentences.specs.Fitting.{Judged, after_if, all_judged, expected_of, reserved_hint}
 use Rattle.ss_sentences.specs.Grammar.{is_end}
-use Rattle.ss_sentences.specs.Pieces.{gaps_filled, blank_of, shown, caret_text}
+use Rattle.ss_sentences.specs.Pieces.{gaps_filled}
 use Rattle.ss_sentences.specs.Refusals.{told_before}
 use Rattle.ss_sentences.specs.Unread.{breach_sentence, breach_hint}
 use Rattle.ss_sentences.specs.Wording.{rule_sentence}

@@ -17,7 +17,8 @@ use Rattle.ss_sentences.specs.Expected.{expected_text}
 use Rattle.ss_sentences.specs.Grammar.{IsRefused, IsSpelled, is_end}
 use Rattle.ss_sentences.specs.Hints.{block_hints, front_hints, word_hints}
 use Rattle.ss_sentences.specs.Meant.{meant_hints}
-use Rattle.ss_sentences.specs.Pieces.{gaps_filled, last_text, place_text, source_text}
+use Rattle.ss_columns.specs.Quotes.{source_text}
+use Rattle.ss_sentences.specs.Pieces.{gaps_filled, last_text, place_text}
 use Rattle.ss_sentences.specs.Unread.{unread_text}
 use Rattle.ss_sentences.specs.Wording.{rule_sentence}
 

@@ -15,7 +15,8 @@ use Rattle.ss_sentences.specs.declared.unread.TheConstants.{LONGEST_RUN_TOLD, CU
 use Rattle.ss_sentences.specs.declared.unread.TheConstants.{STOP_HINT, GREAT_HINT, BEHIND_HINT, BELOW_HINT}
 use Rattle.ss_sentences.specs.declared.unread.TheConstants.{BYTE_ORDER_MARK, LAST_OF_ASCII, LETTER_HINT, MARK_HINT}
 use Rattle.ss_sentences.specs.Breach.{front_line, front_run, is_of_picture, breach_column}
-use Rattle.ss_sentences.specs.Pieces.{gaps_filled, place_text, source_text}
+use Rattle.ss_columns.specs.Quotes.{source_text}
+use Rattle.ss_sentences.specs.Pieces.{gaps_filled, place_text}
 use Rattle.ss_sentences.specs.Wording.{beside_number, rule_sentence}
 
 -- ---- the bytes at the place

@@ -8,8 +8,8 @@ ghost use Rattle.ss_sentences.specs.Pieces.{last_kind};
 
 use crate::candidate::{Judgement, keeps_article};
 use crate::expected::fits;
-use crate::pieces::{last_kind, last_text, push_filled, push_number};
-use ss_columns::{DROPPED, is_kind_among};
+use crate::pieces::{last_kind, last_text, push_filled};
+use ss_columns::{DROPPED, is_kind_among, push_number};
 use ss_words::{Word, WordKind, is_reserved_name};
 use std::alloc::{AllocError, Global};
 

@@ -21,7 +21,6 @@ mod wording;
 
 pub use candidate::{Judgement, Tried};
 pub use laws::one_thing_is_said;
-pub use pieces::{push_place, push_shown, push_source};
 pub use prompt_text::{TypedText, misread};
 pub use refusal::{LONGEST_TEXT_JUDGED, text_refusal};
 pub use typed::line_misread;

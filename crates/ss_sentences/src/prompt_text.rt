@@ -13,11 +13,13 @@ use crate::expected::{fits, push_expected};
 use crate::fitting::{all_judged, without_first};
 use crate::grammar::is_end;
 use crate::hints::{RESERVED_HINT, is_reserved_word, push_hint};
-use crate::pieces::{first_bytes, push_blanks, push_caret, push_filled, push_number, push_shown};
+use crate::pieces::push_filled;
 use crate::refusal::{told_at, told_before as told};
 use crate::unread::{push_breach_hint, push_breach_sentence};
 use crate::wording::rule_sentence;
-use ss_columns::{numbered_words, place_of};
+use ss_columns::{
+    first_bytes, numbered_words, place_of, push_blanks, push_caret, push_number, push_shown,
+};
 use ss_routines::{Misfit, condition_misfit, expression};
 use ss_words::{PlainWord, TextFault, TextRule, Word, Words, plain_words, words};
 use std::alloc::{AllocError, Global};

@@ -9,10 +9,10 @@ use crate::expected::push_expected;
 use crate::grammar::{is_end, spelled};
 use crate::hints::{push_block_hints, push_front_hints, push_word_hints};
 use crate::meant::push_meant_hints;
-use crate::pieces::{last_text, push_filled, push_place, push_source};
+use crate::pieces::{last_text, push_filled, push_place};
 use crate::unread::unread_said;
 use crate::wording::rule_sentence;
-use ss_columns::{numbered_words, place_of};
+use ss_columns::{numbered_words, place_of, push_source};
 use ss_words::{TextFault, TextRule, Word, Words, words};
 use std::alloc::{AllocError, Global};
 

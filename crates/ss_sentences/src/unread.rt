@@ -4,9 +4,12 @@ ghost use Rattle.ss_sentences.specs.Breach as breach;
 ghost use Rattle.ss_sentences.specs.Unread as spec;
 
 use crate::breach::{breach_column, front_line, front_run, is_of_picture};
-use crate::pieces::{first_bytes, push_filled, push_number, push_place, push_source};
+use crate::pieces::{push_filled, push_place};
 use crate::wording::{rule_sentence, text_beside_number};
-use ss_columns::{Place, behind_feed, behind_feeds, is_allowed, run_len, with_blank_comments};
+use ss_columns::{
+    Place, behind_feed, behind_feeds, first_bytes, is_allowed, push_number, push_source, run_len,
+    with_blank_comments,
+};
 use ss_words::characters::{BLANK, CARRIAGE_RETURN, LINE_FEED, STOP, TAB, TILDE};
 use ss_words::{TextRule, without_stops};
 use std::alloc::{AllocError, Global};

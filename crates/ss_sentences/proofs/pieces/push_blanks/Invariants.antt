@@ -1,6 +1,0 @@
-use Rattle.std.proofs.Common.{◌≡◌, ◌++◌, map, take}
-use Rattle.ss_sentences.specs.Pieces.{blank_of}
-use Rattle.ss_sentences.proofs.pieces.push_blanks.Given as goal
-
-abbrev pub invariant-loop-byte : goal.invariant-loop-byte
-invariant-loop-byte l = l.text.items ≡ l.fn.text.items ++ map blank_of (take l.byte-index l.bytes)
