@@ -147,9 +147,9 @@ fn push_reason(
 
 /// Appends the text about what is wrong with the statement on a line of a model that a rule of the
 /// checker refuses (docs/SENTENCES.md), to follow that line. For a name it gives a caret below it,
-/// after its line if that is a later one, its kind, the place of its declaration, and the reason. For a statement it gives its
-/// surroundings. It appends nothing if a rule L refuses the model. The only error is that memory
-/// was refused.
+/// after its line if that is a later one, its kind, the place of its declaration, and the reason.
+/// For a statement it gives its surroundings. It appends nothing if a rule L refuses the model. The
+/// only error is that memory was refused.
 #[tactic(auto, unfolding(crate::specs::Subjects::breach_text))]
 pub fn push_breach(
     alloc: Global,
