@@ -230,7 +230,7 @@ impl Tape {
         }
     }
 
-    #[inline(never)]
+    #[inline(always)]
     fn note_store(&mut self, change: StoreChange)
         requires numbers { 7 < self.old.numbers.notes }
         requires kept { 0 < self.old.kept.notes }

@@ -74,6 +74,7 @@ impl<S: SetBoard> Executor<S> {
         Ok(())
     }
 
+    #[inline(always)]
     fn drop_frame(&mut self) -> Result<(), AllocError>
         requires some { 0 < length (state self.old).below }
         requires few { length (state self.old).below ≤ MOST_BELOW }
