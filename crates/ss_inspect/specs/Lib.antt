@@ -5,5 +5,6 @@ pub mod Living
 pub mod Attribute
 pub mod Lists
 pub mod Tables
+pub mod Overviews
 pub mod Laws
 pub mod Examples

@@ -106,7 +106,10 @@ fn push_frames<S: SetBoard>(text: &mut Vec<u8>, machine: &Machine<S>) -> Result<
 /// Appends the answer to SHOW CALLS: a line for each frame, the last one first, with its section,
 /// the line of its place and its locals.
 #[tactic(auto, unfolding(crate::specs::Frames::calls_text))]
-pub fn push_calls<S: SetBoard>(text: &mut Vec<u8>, machine: &Machine<S>) -> Result<(), AllocError>
+pub(crate) fn push_calls<S: SetBoard>(
+    text: &mut Vec<u8>,
+    machine: &Machine<S>,
+) -> Result<(), AllocError>
     ensures { OnOk result (text.new.items
         ≡ text.old.items ++ calls_text machine.now.input (position machine.now)) }
 {
@@ -159,7 +162,10 @@ fn push_local_lines<S: SetBoard>(text: &mut Vec<u8>, machine: &Machine<S>) -> Re
 /// Appends the answer to SHOW LOCALS: the locals of the last frame with their values, in the order
 /// of the section's table, or `NO LOCALS`.
 #[tactic(auto, unfolding(crate::specs::Frames::locals_text))]
-pub fn push_locals<S: SetBoard>(text: &mut Vec<u8>, machine: &Machine<S>) -> Result<(), AllocError>
+pub(crate) fn push_locals<S: SetBoard>(
+    text: &mut Vec<u8>,
+    machine: &Machine<S>,
+) -> Result<(), AllocError>
     ensures { OnOk result (text.new.items
         ≡ text.old.items ++ locals_text machine.now.input (position machine.now)) }
 {
@@ -220,7 +226,10 @@ fn push_global_lines<S: SetBoard>(
 /// Appends the answer to SHOW GLOBALS: the global variables with their values, in the order of
 /// declaration, or `NO GLOBALS`. TIME.V is none of them.
 #[tactic(auto, unfolding(crate::specs::Frames::globals_text))]
-pub fn push_globals<S: SetBoard>(text: &mut Vec<u8>, machine: &Machine<S>) -> Result<(), AllocError>
+pub(crate) fn push_globals<S: SetBoard>(
+    text: &mut Vec<u8>,
+    machine: &Machine<S>,
+) -> Result<(), AllocError>
     ensures { OnOk result (text.new.items
         ≡ text.old.items ++ globals_text machine.now.input (position machine.now)) }
 {

@@ -12,6 +12,7 @@ mod entities;
 mod examples;
 mod frames;
 mod laws;
+mod overview;
 mod pages;
 mod places;
 mod tables;
@@ -19,8 +20,7 @@ mod texts;
 
 pub use attribute::{line_telling, push_by_variable, variable_value};
 pub use entities::{count_living, living_numbers, push_living};
-pub use frames::{push_calls, push_globals, push_locals};
 pub use laws::the_living_are_those_that_exist;
+pub use overview::{Overview, push_overview};
 pub use pages::members_page;
 pub use places::push_places;
-pub use tables::{push_classes, push_sections, push_sets};

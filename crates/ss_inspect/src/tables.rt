@@ -61,7 +61,10 @@ fn push_all_classes<S: SetBoard>(text: &mut Vec<u8>, machine: &Machine<S>) -> Re
 /// Appends the answer to SHOW CLASSES: a line for each class in order of declaration, with its kind
 /// and how many of its entities live, or `NO CLASSES`.
 #[tactic(auto, unfolding(crate::specs::Tables::classes_text))]
-pub fn push_classes<S: SetBoard>(text: &mut Vec<u8>, machine: &Machine<S>) -> Result<(), AllocError>
+pub(crate) fn push_classes<S: SetBoard>(
+    text: &mut Vec<u8>,
+    machine: &Machine<S>,
+) -> Result<(), AllocError>
     ensures { OnOk result (text.new.items
         ≡ text.old.items ++ classes_text machine.now.input (position machine.now)) }
 {
@@ -189,7 +192,10 @@ fn push_all_sets(text: &mut Vec<u8>, program: &Program) -> Result<(), AllocError
 /// discipline as it is declared, its owner's class or SYSTEM, and the class of its members, or
 /// `NO SETS`.
 #[tactic(auto, unfolding(crate::specs::Tables::sets_text))]
-pub fn push_sets<S: SetBoard>(text: &mut Vec<u8>, machine: &Machine<S>) -> Result<(), AllocError>
+pub(crate) fn push_sets<S: SetBoard>(
+    text: &mut Vec<u8>,
+    machine: &Machine<S>,
+) -> Result<(), AllocError>
     ensures { OnOk result (text.new.items ≡ text.old.items ++ sets_text machine.now.input) }
 {
     let program = machine.program();
@@ -238,7 +244,7 @@ fn push_all_sections(text: &mut Vec<u8>, program: &Program) -> Result<(), AllocE
 /// Appends the answer to SHOW SECTIONS: a line for each section in the text's order, with its kind
 /// and the line of its head; MAIN's has no kind.
 #[tactic(auto, unfolding(crate::specs::Tables::sections_text))]
-pub fn push_sections<S: SetBoard>(
+pub(crate) fn push_sections<S: SetBoard>(
     text: &mut Vec<u8>,
     machine: &Machine<S>,
 ) -> Result<(), AllocError>

@@ -238,12 +238,7 @@ single singles.Breaks = Breaks
 single singles.Reads = Reads
 single singles.Warnings = Warnings
 single singles.Changed = Changed
-single singles.Calls = See sights.Calls
-single singles.Locals = See sights.Locals
-single singles.Globals = See sights.Globals
-single singles.Classes = See sights.Classes
-single singles.Sets = See sights.Sets
-single singles.Sections = See sights.Sections
+single (singles.Overview overview) = See (sights.Overview overview)
 
 -- what a row makes of the words after its own
 abbrev pub made_of : ProgramTable → Makes → List (List ℕ) → Option PromptCommand

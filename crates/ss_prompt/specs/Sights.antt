@@ -3,8 +3,7 @@ use Rattle.std.specs.Prelude.{ℕ, Bool, ◌||◌, List, [], ◌∷◌, codes, O
 use Rattle.std.specs.Str.{bytes_eq}
 use Rattle.ss_words.specs.Spellings.{is_reserved_name}
 use Rattle.ss_state.specs.Run.{Input}
-use Rattle.ss_inspect.specs.Frames.{calls_text, locals_text, globals_text}
-use Rattle.ss_inspect.specs.Tables.{classes_text, sets_text, sections_text}
+use Rattle.ss_inspect.specs.Overviews.{overview_text}
 use Rattle.ss_inspect.specs.Living.{living_text}
 use Rattle.ss_inspect.specs.Lists.{places_text}
 use Rattle.ss_inspect.specs.Attribute.{by_variable_text}
@@ -15,8 +14,8 @@ use Rattle.ss_debug.specs.declared.commands.Question.TheVariants.{Entity}
 use Rattle.ss_prompt.specs.Words.{only_name_of}
 use Rattle.ss_prompt.specs.Rows.{member_rows_text, living_rows_text}
 use Rattle.ss_prompt.specs.declared.sight.Sight.{Sight}
-use Rattle.ss_prompt.specs.declared.sight.Sight.TheVariants.{Calls, Locals, Globals, Classes, Sets, Sections}
-use Rattle.ss_prompt.specs.declared.sight.Sight.TheVariants.{Living, ByVariable, Places, MemberRows, LivingRows}
+use Rattle.ss_prompt.specs.declared.sight.Sight.TheVariants.{Overview, Living, ByVariable, Places}
+use Rattle.ss_prompt.specs.declared.sight.Sight.TheVariants.{MemberRows, LivingRows}
 
 -- the entities of a class, if a name is there
 abbrev pub living_of : Option (List ℕ) → Option Sight
@@ -67,12 +66,7 @@ sight_of (what ∷ word ∷ rest) = if is_question_word what then None else by_v
 
 -- the text of a sight in state p
 abbrev pub sight_said : Sight → Input → ℕ → List ℕ
-sight_said Calls input p = calls_text input p
-sight_said Locals input p = locals_text input p
-sight_said Globals input p = globals_text input p
-sight_said Classes input p = classes_text input p
-sight_said Sets input p = sets_text input
-sight_said Sections input p = sections_text input
+sight_said (Overview overview) input p = overview_text overview input p
 sight_said (Living name) input p = living_text name input p
 sight_said (ByVariable class variable attribute) input p = by_variable_text class variable attribute input p
 sight_said (Places class x) input p = places_text class x input p

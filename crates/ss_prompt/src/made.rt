@@ -61,12 +61,7 @@ fn single(command: Single) -> PromptCommand
         Single::Reads => PromptCommand::Reads,
         Single::Warnings => PromptCommand::Warnings,
         Single::Changed => PromptCommand::Changed,
-        Single::Calls => PromptCommand::See(Sight::Calls),
-        Single::Locals => PromptCommand::See(Sight::Locals),
-        Single::Globals => PromptCommand::See(Sight::Globals),
-        Single::Classes => PromptCommand::See(Sight::Classes),
-        Single::Sets => PromptCommand::See(Sight::Sets),
-        Single::Sections => PromptCommand::See(Sight::Sections),
+        Single::Overview(overview) => PromptCommand::See(Sight::Overview(overview)),
     }
 }
 

@@ -4,6 +4,7 @@ ghost use Rattle.ss_prompt.specs.Table.{asks};
 
 use crate::manner::Manner;
 use crate::until::Until;
+use ss_inspect::Overview;
 
 /// A command of one or two words, after which no word may come.
 #[derive(Clone, Copy)]
@@ -26,18 +27,8 @@ pub enum Single {
     Warnings,
     /// SHOW CHANGED: the changes of the last step, or since the state that a movement left.
     Changed,
-    /// SHOW CALLS: the frames.
-    Calls,
-    /// SHOW LOCALS: the locals of the last one.
-    Locals,
-    /// SHOW GLOBALS: the global variables.
-    Globals,
-    /// SHOW CLASSES: the classes.
-    Classes,
-    /// SHOW SETS: the sets.
-    Sets,
-    /// SHOW SECTIONS: the sections.
-    Sections,
+    /// SHOW and the word of an overview.
+    Overview(Overview),
 }
 
 /// What a row makes of the words after its own.

@@ -10,10 +10,7 @@ use crate::pieces::next_word;
 use crate::rows::{push_living_rows, push_member_rows};
 use crate::sight::Sight;
 use ss_debug::{Debugger, Name};
-use ss_inspect::{
-    push_by_variable, push_calls, push_classes, push_globals, push_living, push_locals,
-    push_places, push_sections, push_sets,
-};
+use ss_inspect::{push_by_variable, push_living, push_overview, push_places};
 use ss_links::SetBoard;
 use ss_words::is_reserved_name;
 use std::alloc::{AllocError, Global};
@@ -82,12 +79,7 @@ pub(crate) fn push_sight<S: SetBoard>(
 {
     let machine = debugger.machine();
     match sight {
-        Sight::Calls => push_calls(text, machine),
-        Sight::Locals => push_locals(text, machine),
-        Sight::Globals => push_globals(text, machine),
-        Sight::Classes => push_classes(text, machine),
-        Sight::Sets => push_sets(text, machine),
-        Sight::Sections => push_sections(text, machine),
+        Sight::Overview(overview) => push_overview(text, machine, overview),
         Sight::Living(class) => push_living(alloc, text, machine, class.as_slice()),
         Sight::ByVariable(class, variable, attribute) => match attribute {
             Some(name) => push_by_variable(

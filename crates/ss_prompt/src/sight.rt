@@ -1,22 +1,13 @@
 //! The sights of a state, next to the questions.
 use crate::line::Line;
 use ss_debug::Name;
+use ss_inspect::Overview;
 
 /// A sight of a state that SHOW gives, next to its answers to questions (docs/PROMPT.md).
 #[derive(Drop)]
 pub enum Sight {
-    /// SHOW CALLS: the frames, the last first.
-    Calls,
-    /// SHOW LOCALS: the locals of the last frame.
-    Locals,
-    /// SHOW GLOBALS: the global variables.
-    Globals,
-    /// SHOW CLASSES: the classes, and how many of each live.
-    Classes,
-    /// SHOW SETS: the sets.
-    Sets,
-    /// SHOW SECTIONS: the sections.
-    Sections,
+    /// An overview, as SHOW CALLS.
+    Overview(Overview),
     /// SHOW c: the entities of the class of this name.
     Living(Name),
     /// SHOW c v, SHOW c v a: the entity whose number this variable holds, or this attribute of it.

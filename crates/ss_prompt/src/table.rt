@@ -7,12 +7,12 @@ ghost use Rattle.ss_prompt.specs.Table.{letters, letters_of};
 use crate::makes::Makes;
 use crate::makes::Makes::{Alone, Also, Asked, Elsewhere};
 use crate::makes::Single::{
-    BackCause, BackOut, Breaks, Calls, Changed, Classes, Globals, GoEnd, Locals, Out, Reads,
-    Sections, Sets, Warnings, WhyCause,
+    BackCause, BackOut, Breaks, Changed, GoEnd, Out, Overview, Reads, Warnings, WhyCause,
 };
 use crate::manner::Manner;
 use crate::pieces::next_word;
 use crate::until::Until;
+use ss_inspect::Overview::{Calls, Classes, Globals, Locals, Sections, Sets};
 
 /// A row: a command, or several that begin with the same words; the words with which a line of the
 /// row begins, one or two of them; what it makes of the words after these; the lines of HELP on it.
@@ -158,7 +158,7 @@ pub const FORMS: [Form; 59] = [
     ),
     (
         b"SHOW CALLS",
-        Alone(Calls),
+        Alone(Overview(Calls)),
         b"SHOW CALLS: the sections that are running, the last first",
     ),
     (
@@ -168,23 +168,23 @@ pub const FORMS: [Form; 59] = [
     ),
     (
         b"SHOW LOCALS",
-        Alone(Locals),
+        Alone(Overview(Locals)),
         b"SHOW LOCALS: the local variables of this section",
     ),
     (
         b"SHOW GLOBALS",
-        Alone(Globals),
+        Alone(Overview(Globals)),
         b"SHOW GLOBALS: the global variables",
     ),
     (
         b"SHOW CLASSES",
-        Alone(Classes),
+        Alone(Overview(Classes)),
         b"SHOW CLASSES: the classes, and how many entities each has",
     ),
-    (b"SHOW SETS", Alone(Sets), b"SHOW SETS: the sets"),
+    (b"SHOW SETS", Alone(Overview(Sets)), b"SHOW SETS: the sets"),
     (
         b"SHOW SECTIONS",
-        Alone(Sections),
+        Alone(Overview(Sections)),
         b"SHOW SECTIONS: the sections, with the lines of their heads",
     ),
     (
