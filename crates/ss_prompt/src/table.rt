@@ -12,7 +12,7 @@ use crate::makes::Single::{
 use crate::manner::Manner;
 use crate::pieces::next_word;
 use crate::until::Until;
-use ss_inspect::Overview::{Calls, Classes, Globals, Locals, Sections, Sets};
+use ss_inspect::Overview::{Calls, Classes, Globals, Locals, Place, Sections, Sets};
 
 /// A row: a command, or several that begin with the same words; the words with which a line of the
 /// row begins, one or two of them; what it makes of the words after these; the lines of HELP on it.
@@ -22,7 +22,7 @@ pub type Form = (&'static [u8], Makes, &'static [u8]);
 pub type Letter = (&'static [u8], &'static [u8]);
 
 /// The rows. If several make a command of a line, the last one counts.
-pub const FORMS: [Form; 59] = [
+pub const FORMS: [Form; 60] = [
     (
         b"STEP",
         Elsewhere,
@@ -155,6 +155,11 @@ pub const FORMS: [Form; 59] = [
         b"SHOW IN",
         Makes::Places,
         b"SHOW IN c k: the lists that it is in, and when it is due",
+    ),
+    (
+        b"SHOW PLACE",
+        Alone(Overview(Place)),
+        b"SHOW PLACE: the section, the line and the word of the next statement",
     ),
     (
         b"SHOW CALLS",
