@@ -1,5 +1,6 @@
 -- Lines of a text as they are quoted: after their number, and a caret below them.
-use Rattle.std.specs.Prelude.{ℕ, ◌-◌, ◌==◌, List, [], ◌++◌, map, take, codes, decimal, Option, Some, None, if◌then◌else◌}
+use Rattle.std.specs.Prelude.{ℕ, ◌-◌, ◌==◌, List, [], ◌++◌, map, take, codes, decimal}
+use Rattle.std.specs.Prelude.{Option, Some, None, if◌then◌else◌}
 use Rattle.ss_words.specs.declared.characters.TheConstants.{BLANK, TAB}
 use Rattle.ss_words.specs.TextBytes.{is_allowed}
 use Rattle.ss_columns.specs.Columns.{line_of}

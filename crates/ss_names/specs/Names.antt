@@ -12,7 +12,8 @@ is_companion (b ∷ c ∷ bs) = is_among (b ∷ c ∷ []) (map (λ row. row.now)
 
 -- the language gives this name: the clock, a function, or a name that is kept of a class or a set
 unfoldable pub is_of_language : List ℕ → Bool
-is_of_language n = is_among n (map (λ row. row.now) CLOCK) || is_among n (map (λ row. row.now) FUNCTIONS) || is_companion n
+is_of_language n =
+    is_among n (map (λ row. row.now) CLOCK) || is_among n (map (λ row. row.now) FUNCTIONS) || is_companion n
 
 -- the names among plain words, in their order, as often as they occur
 unfoldable pub names_in : List PlainAt → List (List ℕ)

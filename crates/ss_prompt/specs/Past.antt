@@ -1,6 +1,7 @@
 -- The text of the history on a fault at which a movement stops: the state in which the missing
 -- entity ended, or in which the list that a loop names changed last.
-use Rattle.std.specs.Prelude.{ℕ, Bool, true, false, ◌≡◌, nat_lt, ◌⊎◌, List, [], ◌++◌, codes, decimal, if◌then◌else◌, Option, Some, None}
+use Rattle.std.specs.Prelude.{ℕ, Bool, true, false, ◌≡◌, nat_lt, ◌⊎◌, List, [], ◌++◌, codes, decimal}
+use Rattle.std.specs.Prelude.{if◌then◌else◌, Option, Some, None}
 use Rattle.ss_state.specs.Run.{Input, run}
 use Rattle.ss_debug.specs.declared.commands.Question.TheVariants.{Entity, Set}
 use Rattle.ss_debug.specs.Answer.{state_line}
@@ -22,8 +23,8 @@ abbrev pub change_words : Bool → List ℕ
 change_words true = codes " changed last in "
 change_words false = codes " ended in "
 
--- that a list changed in no step that is kept, or that an entity was in no state that is kept; if all steps are kept, that
--- it was never made
+-- that a list changed in no step that is kept, or that an entity was in no state that is kept; if all
+-- steps are kept, that it was never made
 unfoldable pub no_change_text : Bool → ℕ → List ℕ
 no_change_text true earliest = number_phrase (codes " has not changed since STATE ") earliest (codes ".\n")
 no_change_text false earliest =

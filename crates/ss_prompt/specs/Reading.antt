@@ -249,7 +249,8 @@ made_of program (makes.Alone command) words = alone (single command) words
 made_of program makes.Over words = option_map (λ n. Travel (Over n)) (steps_in (command_behind (codes "STEP") words))
 made_of program makes.BackOver words =
     option_map (λ n. Travel (BackOver n)) (steps_in (command_behind (codes "STEP") words))
-made_of program makes.BackTo words = option_map (λ time. Travel (BackTo time)) (time_in (command_behind (codes "RUN TO") words))
+made_of program makes.BackTo words =
+    option_map (λ time. Travel (BackTo time)) (time_in (command_behind (codes "RUN TO") words))
 made_of program makes.Go words = option_map (λ p. Travel (Go p)) (time_in (command_behind (codes "RUN TO") words))
 made_of program (makes.Until way) words = until_command way words
 made_of program (makes.Question manner) words = manner_command program manner words

@@ -1,5 +1,6 @@
 -- Sections and their lines.
-use Rattle.std.specs.Prelude.{ℕ, Bool, true, false, ◌-◌, List, [], ◌∷◌, ◌++◌, length, codes, Option, Some, None, option_map, position}
+use Rattle.std.specs.Prelude.{ℕ, Bool, true, false, ◌-◌, List, [], ◌∷◌, ◌++◌, length, codes}
+use Rattle.std.specs.Prelude.{Option, Some, None, option_map, position}
 use Rattle.std.specs.Prelude.{if◌then◌else◌, nat_le, slice_get}
 use Rattle.std.specs.Str.{bytes_eq}
 use Rattle.ss_program.specs.Program.{ProgramTable, places_of, spot_at}

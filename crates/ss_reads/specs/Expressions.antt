@@ -1,4 +1,5 @@
--- What expressions and conditions name as values, in written order. What a subscript selects comes before what it names.
+-- What expressions and conditions name as values, in written order. What a subscript selects comes
+-- before what it names.
 use Rattle.std.specs.Prelude.{ℤ, List, [], ◌∷◌, ◌++◌, if◌then◌else◌, Result, Ok, Err}
 use Rattle.ss_words.specs.declared.fault.RunFault.{RunFault}
 use Rattle.ss_program.specs.declared.variable.Variable.{Variable as AVariable}
