@@ -142,6 +142,7 @@ impl<S: SetBoard> Executor<S> {
     }
 
     /// Assigns to the targets, in order, the values kept for this from number `first` on.
+    #[inline(always)]
     pub fn assign_kept(&mut self, first: usize, targets: &Targets) -> Result<(), RunFault>
         requires sound { InHeld self.old.held AreTargets targets.now }
         requires few { first + length targets.now < 2 ^ 64 }

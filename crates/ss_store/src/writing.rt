@@ -108,6 +108,7 @@ fn is_ranked_by<S: SetBoard>(
 impl<S: SetBoard> Store<S> {
     /// Gives an attribute of an entity, by its number in the class, another value; F3 if the entity
     /// does not exist, and then nothing changes.
+    #[inline(always)]
     pub fn set(
         &mut self,
         class: usize,

@@ -94,6 +94,7 @@ fn all_hold<S: SetBoard>(view: &View<'_, S>, c: &Conjunction) -> Result<bool, Ru
 }
 
 #[cycle(holds)]
+#[inline(always)]
 fn relation_holds<S: SetBoard>(view: &View<'_, S>, r: &Relation) -> Result<bool, RunFault>
     requires { InView view.now IsSoundRelation (relation_of r.now) }
     ensures { result ≡ conditions.relation_holds (view_readings view.now) (relation_of r.now) }

@@ -140,7 +140,7 @@ impl Tape {
         }
     }
 
-    #[inline(never)]
+    #[inline(always)]
     fn note_agenda(&mut self, change: AgendaChange)
         requires numbers { 7 < self.old.numbers.notes }
         requires kept { 0 < self.old.kept.notes }
