@@ -100,5 +100,5 @@ abbrev pub OwnPlacesHaveNoFault : Type 0
 OwnPlacesHaveNoFault =
     (decls : Decls) (sections : List Section) (q : ℕ) (section : Section) → breach decls sections ≡ None →
     slice_get sections q ≡ Some section →
-    All (λ x. fault_of_uses (symbols_of decls sections).declared (locals_at (symbols_of decls sections) q) (uses x.place)
-    ≡ None) section.places
+    All (λ x. fault_of_uses (symbols_of decls sections).declared (locals_at (symbols_of decls sections) q)
+    (uses x.place) ≡ None) section.places

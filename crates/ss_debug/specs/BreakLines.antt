@@ -9,7 +9,9 @@ use Rattle.ss_debug.specs.BreakCondition.{BreakCondition, is_met_if_any, IsSound
 
 -- a break line, and its condition, if it has one
 pub record BreakPoint : Type 0 where
+  -- the line
   pub line : ℕ
+  -- its condition, if it has one
   pub when : Option BreakCondition
 
 -- their conditions name only rows that exist

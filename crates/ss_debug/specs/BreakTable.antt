@@ -18,7 +18,9 @@ breaks_of conditions lines = map (break_at conditions) lines
 
 -- a break line as it is shown: its line, and the text of its condition
 pub record ShownBreak : Type 0 where
+  -- its line
   pub line : ℕ
+  -- the text of its condition, if it has one
   pub text : Option (List ℕ)
 
 -- how a break line is shown

@@ -15,7 +15,9 @@ use Rattle.ss_expressions.specs.LocalNames.{names_local}
 
 -- a condition, and the number of the section in which it is asked
 pub record Aim : Type 0 where
+  -- the number of the section
   pub section : ℕ
+  -- the condition
   pub condition : Condition
 
 -- a truth that may have a fault: a fault is no truth

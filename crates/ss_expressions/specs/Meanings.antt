@@ -25,7 +25,9 @@ use Rattle.ss_expressions.specs.Senses.{judged_sense, IsSoundSense}
 
 -- what is asked, and the number of the section in which it is asked
 pub record Meaning : Type 0 where
+  -- the number of the section
   pub section : ℕ
+  -- what is asked
   pub sense : Sense
 
 -- ---- its value

@@ -5,7 +5,8 @@ ghost use Rattle.std.specs.Prelude.{[], unwrap_or};
 ghost use Rattle.ss_messages.specs.Requests.{number_at, number_in, text_at, flag_at, is_text_at, texts_at};
 ghost use Rattle.ss_messages.specs.Requests.{is_simple, is_plain, plain_text, line_point_of, line_points_at};
 ghost use Rattle.ss_messages.specs.Requests.{is_debugged, stops_of, launch_of, evaluate_of, info_of};
-ghost use Rattle.ss_messages.specs.Requests.{completions_of, filter_of, path_at, wanted_of, targets_of, goto_of, counting_of};
+ghost use Rattle.ss_messages.specs.Requests.{completions_of, filter_of, path_at, wanted_of};
+ghost use Rattle.ss_messages.specs.Requests.{targets_of, goto_of, counting_of};
 ghost use Rattle.ss_messages.specs.declared.request.Command.TheVariants.{SetBreakpoints};
 
 use crate::counting::Counting;

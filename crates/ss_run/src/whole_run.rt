@@ -422,8 +422,7 @@ pub fn run_model<P: Progress, W: Outlet>(
 ///
 /// `Ok` if all was written: `Done`, or `Faulted` with the state line of the last state; `Refused`
 /// with the line of a refused model, for which nothing is written. `Write` if `out` counted a
-/// failure; the text that was written is a prefix of the report. `Memory` if a growth was refused,
-/// and nothing is written.
+/// failure; what was written is a prefix of the report. `Memory` for a refused growth: no text.
 #[tactic(auto, unfolding(crate::specs::WholeRun::RunSays))]
 pub fn report<P: Progress, W: Outlet>(
     alloc: Global,
