@@ -39,22 +39,13 @@ written number bytes others is =
 
 -- with the bytes above its lowest group written, there is room for that group, and the number has taken no more bytes
 -- than it has groups
-group_room : (number n had left : ℕ) → 128 ≤ number → number < 128 ^ n →
+pub group_room : (number n had left : ℕ) → 128 ≤ number → number < 128 ^ n →
     ((k : ℕ) → 0 < k → number / 128 < 128 ^ k → had ≤ left + k) → had < left + n
 group_room number zero had left great small uses = absurd (omega (arith, great, small))
 group_room number (suc zero) had left great small uses = absurd (omega (arith, great, small))
 group_room number (suc (suc k)) had left great small uses =
     let split : 128 ^ suc (suc k) ≡ 128 ^ suc k * 128 = pow-suc 128 (suc k) in
     omega (arith, uses (suc k) (omega arith) (omega (arith, split, small)))
-
--- with the bytes above its two lowest groups written, there is room for both
-pub two_groups : (number k had left : ℕ) → 128 ^ 2 ≤ number → number < 128 ^ k →
-    ((k : ℕ) → 0 < k → number / 128 / 128 < 128 ^ k → had ≤ left + k) → had + 1 < left + k
-two_groups number k had left great small uses =
-    let higher : 128 ≤ number / 128 = omega (arith, great) in
-    let above : (k : ℕ) → 0 < k → number / 128 < 128 ^ k → had + 1 ≤ left + k =
-    λ k some less. omega (arith, group_room (number / 128) k had left higher less uses) in
-    group_room number k (had + 1) left (omega (arith, great)) small above
 
 -- ten bytes are enough
 pub ten_bytes : (number n : ℕ) → number < 2 ^ 64 → 10 ≤ n → number < 128 ^ n

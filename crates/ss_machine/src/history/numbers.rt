@@ -188,7 +188,7 @@ impl Numbers {
     }
 }
 
-/// Writes a number as the newest one. Most take one byte or two.
+/// Writes a number as the newest one.
 #[cycle(put)]
 #[inline(always)]
 fn write(bytes: &mut ByteJournal, number: u64)
@@ -201,20 +201,17 @@ fn write(bytes: &mut ByteJournal, number: u64)
 {
     if number < GROUP {
         bytes.note(number as u8);
-    } else if number < GROUP * GROUP {
-        bytes.note((number / GROUP) as u8);
-        bytes.note((GROUP + number % GROUP) as u8);
     } else {
         put(bytes, number);
     }
 }
 
-/// Writes a number that takes more than two bytes: first the part above its two lowest groups, then
-/// these.
+/// Writes a number that takes more than one byte: first the part above its two lowest groups, if it
+/// has one, then these.
 #[cycle(put)]
 #[inline(never)]
 fn put(bytes: &mut ByteJournal, number: u64)
-    requires great { 128 ^ 2 ≤ number }
+    requires great { 128 ≤ number }
     requires enough { number < 128 ^ bytes.old.notes }
     ensures steps { bytes.new.steps ≡ bytes.old.steps }
     ensures current { numbers_of bytes.new.current ≡ number ∷ numbers_of bytes.old.current }
@@ -222,8 +219,12 @@ fn put(bytes: &mut ByteJournal, number: u64)
     ensures closes { bytes.new.closes ≡ bytes.old.closes }
 {
     let higher = number / GROUP;
-    write(bytes, higher / GROUP);
-    bytes.note((GROUP + higher % GROUP) as u8);
+    if higher < GROUP {
+        bytes.note(higher as u8);
+    } else {
+        write(bytes, higher / GROUP);
+        bytes.note((GROUP + higher % GROUP) as u8);
+    }
     bytes.note((GROUP + number % GROUP) as u8);
 }
 

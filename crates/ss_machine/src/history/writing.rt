@@ -140,7 +140,7 @@ impl Tape {
         }
     }
 
-    #[inline(always)]
+    #[inline(never)]
     fn note_agenda(&mut self, change: AgendaChange)
         requires numbers { 7 < self.old.numbers.notes }
         requires kept { 0 < self.old.kept.notes }
@@ -230,7 +230,7 @@ impl Tape {
         }
     }
 
-    #[inline(always)]
+    #[inline(never)]
     fn note_store(&mut self, change: StoreChange)
         requires numbers { 7 < self.old.numbers.notes }
         requires kept { 0 < self.old.kept.notes }
