@@ -21,7 +21,7 @@ use Rattle.ss_adapter.specs.declared.going.Going.{Going}
 use Rattle.ss_readings.specs.Value.{Value}
 use Rattle.ss_adapter.specs.Desk.{DeskView}
 use Rattle.ss_adapter.specs.Looking.{reason_at, hit_at, is_over, exception_by, asked_of}
-use Rattle.ss_adapter.specs.Going.{going_of, going_answer, state_behind, watched_by}
+use Rattle.ss_adapter.specs.Going.{going_of, state_behind, watched_by}
 use Rattle.ss_adapter.specs.Console.{point_told}
 use Rattle.ss_adapter.specs.Turn.{AdapterState, report_at, untold_output, stop_events, end_by, end_of}
 use Rattle.ss_adapter.specs.Turn.{behind_movement, behind_going, going_to_stop, point_behind, behind_command}
@@ -82,10 +82,10 @@ movement_told input desk debugger answer place =
     events_more (untold_output desk.told (report_at input debugger)) _ (output_told desk.told (report_at input debugger))
     (end_told input debugger desk.stops.at_end desk.watched answer place)
 
-going_told : (state : AdapterState) (going : Going) (answer : List ℕ) → AreEvents (behind_going state going answer)
-going_told state going answer =
-    movement_told state.input state.desk (state_behind state.input state.debugger going) answer
-    (watched_by going answer)
+going_told : (state : AdapterState) (going : Going) → AreEvents (behind_going state going)
+going_told state going =
+    movement_told state.input state.desk (state_behind state.input state.debugger going) _
+    (watched_by state.input state.debugger going)
 
 -- ---- the messages after a command of the console
 
@@ -133,7 +133,7 @@ configuration_answered state =
     answer_by state.desk.stops.at_start
     (reply_with_stop state.input state.debugger.position (codes "entry"))
     (reply_with_going state (codes "{}") (going_to_stop state)) tt
-    (going_told state (going_to_stop state) (going_answer state.input state.debugger (going_to_stop state)))
+    (going_told state (going_to_stop state))
 
 source_answered : (report : List ℕ) (reference : ℕ) → AreOneAnswer (source_messages report reference)
 source_answered report reference =
@@ -172,7 +172,7 @@ answered_by state command (Some n) = tt
 request_answered : (state : AdapterState) (command : Command) (going : Option Going) →
     AreOneAnswer (answers_by state command going)
 request_answered state command (Some g) =
-    going_told state g (going_answer state.input state.debugger g)
+    going_told state g
 request_answered state command None = answered_by state command (undebugged_count state command)
 
 elsewhere_answered : (command : Command) → AreOneAnswer (answers_elsewhere command)

@@ -1,5 +1,6 @@
 -- The movements of a request: those of the debugger, and no others.
-use Rattle.std.specs.Prelude.{ℕ, ◌&&◌, List, [], Option, Some, None, nat_le, slice_get, unwrap_or, if◌then◌else◌}
+use Rattle.std.specs.Prelude.{ℕ, ◌&&◌, Bool, false, List, [], Option, Some, None, nat_le, slice_get, unwrap_or}
+use Rattle.std.specs.Prelude.{if◌then◌else◌}
 use Rattle.ss_program.specs.Program.{ProgramTable}
 use Rattle.ss_state.specs.Run.{Input}
 use Rattle.ss_debug.specs.declared.limits.TheConstants.{GREATEST_BOUND}
@@ -23,7 +24,7 @@ use Rattle.ss_adapter.specs.declared.reach.Way.TheVariants as way
 use Rattle.ss_adapter.specs.Looking.{question_of}
 use Rattle.ss_adapter.specs.declared.reach.Reach.{Reach}
 use Rattle.ss_adapter.specs.declared.reach.Found.{Found}
-use Rattle.ss_adapter.specs.Reach.{change_movement, movement_reach, reaches, nearest, nearest_place, says_change}
+use Rattle.ss_adapter.specs.Reach.{change_movement, movement_reach, reaches, nearest, nearest_place}
 
 -- the state of the debugger after a movement
 abbrev pub state_behind : Input → DebuggerState → Going → DebuggerState
@@ -42,14 +43,15 @@ abbrev pub place_of : Going → Option ℕ
 place_of (Watched place m) = Some place
 place_of _ = None
 
--- that place, if the movement ended at a change, by its answer
-abbrev pub place_met : Option ℕ → List ℕ → Option ℕ
-place_met None answer = None
-place_met (Some place) answer = if says_change answer then Some place else None
+-- whether a movement ends at a change of its question
+abbrev pub ends_at_change : Input → DebuggerState → Going → Bool
+ends_at_change input debugger (Standing m) = false
+ends_at_change input debugger (Traced m) = trace.ends_at_change input debugger m
+ends_at_change input debugger (Watched place m) = trace.ends_at_change input debugger m
 
--- the place of the data break point at whose change a movement ended
-abbrev pub watched_by : Going → List ℕ → Option ℕ
-watched_by going answer = place_met (place_of going) answer
+-- the place of the data break point at whose change a movement ends
+abbrev pub watched_by : Input → DebuggerState → Going → Option ℕ
+watched_by input debugger going = if ends_at_change input debugger going then place_of going else None
 
 -- the movement on to the stop of the run, or back to a stop: RUN, BACK BREAK
 abbrev pub plain_going : Way → Going

@@ -1,7 +1,7 @@
 -- The parts of the debugger's states that replies show: their bodies, each read off one state of
 -- the run.
 use Rattle.std.specs.Prelude.{ℕ, Bool, true, false, not, ◌&&◌, List, ◌++◌, codes, nat_eq}
-use Rattle.std.specs.Prelude.{Option, Some, None, Result, Ok, Err, if◌then◌else◌, bytes_eq}
+use Rattle.std.specs.Prelude.{Option, Some, None, Result, Ok, Err, if◌then◌else◌}
 use Rattle.std.specs.Option.{option_or}
 use Rattle.ss_words.specs.Faults.{run_fault_number}
 use Rattle.ss_sentences.specs.Wording.{fault_sentence}
@@ -13,7 +13,7 @@ use Rattle.ss_debug.specs.declared.commands.Command.{Command}
 use Rattle.ss_debug.specs.declared.commands.Command.TheVariants.{Show}
 use Rattle.ss_debug.specs.Answer.{status_text}
 use Rattle.ss_debug.specs.BreakLines.{BreakPoint}
-use Rattle.ss_debug.specs.Move.{is_on_break, line_at}
+use Rattle.ss_debug.specs.Move.{is_ready_at, is_on_break, line_at}
 use Rattle.ss_trace.specs.declared.question.Question.{Question}
 use Rattle.ss_trace.specs.declared.question.Question.TheVariants.{Shown}
 use Rattle.ss_prompt.specs.declared.commands.PromptCommand.{PromptCommand}
@@ -46,10 +46,13 @@ reason_by (Faulted f) ready = codes "exception"
 abbrev pub reason_at : Input → List BreakPoint → ℕ → List ℕ
 reason_at input breaks p = reason_by (run input p).status (ready_reason input breaks p)
 
+-- whether it stops in state p because of a break line
+abbrev pub is_hit : Input → List BreakPoint → ℕ → Bool
+is_hit input breaks p = is_ready_at input p && not (nat_eq p 0) && is_on_break input breaks p
+
 -- the break line at which it stops, if it stops because of that
 abbrev pub hit_at : Input → List BreakPoint → ℕ → Option ℕ
-hit_at input breaks p =
-    if bytes_eq (reason_at input breaks p) (codes "breakpoint") then line_id (line_at input p) else None
+hit_at input breaks p = if is_hit input breaks p then line_id (line_at input p) else None
 
 -- whether a run has ended with this status, by no fault
 abbrev pub is_end : Status → Bool

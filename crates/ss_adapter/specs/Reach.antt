@@ -1,7 +1,6 @@
 -- The nearest of the changes of some questions, each looked for by the movement to it.
 use Rattle.std.specs.Prelude.{ℕ, ◌≡◌, ◌≤◌, ◌+◌, ◌-◌, Bool, not, ◌&&◌, List, [], ◌∷◌, codes, map, slice_get}
 use Rattle.std.specs.Prelude.{Option, Some, None, option_map, false, nat_eq, nat_lt, if◌then◌else◌}
-use Rattle.std.specs.List.{starts_with}
 use Rattle.ss_state.specs.Run.{Input}
 use Rattle.ss_debug.specs.declared.limits.TheConstants.{GREATEST_BOUND}
 use Rattle.ss_debug.specs.Turn.{DebuggerState}
@@ -20,10 +19,6 @@ abbrev pub change_movement : Way → Question → Movement
 change_movement Forward question = RunChange question
 change_movement Back question = BackChange question
 
--- whether a movement ended at a change, by its answer
-abbrev pub says_change : List ℕ → Bool
-says_change answer = starts_with nat_eq answer (codes "CHANGE")
-
 -- how many steps lie between two positions
 abbrev pub steps_between : ℕ → ℕ → ℕ
 steps_between p q = if nat_lt q p then p - q else q - p
@@ -32,7 +27,7 @@ steps_between p q = if nat_lt q p then p - q else q - p
 abbrev pub movement_reach : Input → DebuggerState → Movement → Reach
 movement_reach input debugger movement = record {
   steps = steps_between debugger.position (trace.state_after input debugger movement).position;
-  met = says_change (trace.answer input debugger movement);
+  met = trace.ends_at_change input debugger movement;
 }
 
 -- the reach of the movement to a change of a question; without one, further than any movement leads

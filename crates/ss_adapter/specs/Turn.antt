@@ -144,16 +144,15 @@ behind_movement input desk debugger answer place =
     untold_output desk.told (report_at input debugger)
     ++ end_of input debugger desk.stops.at_end desk.watched answer place
 
--- the messages after a movement, by its answer
-abbrev pub behind_going : AdapterState → Going → List ℕ → List Sent
-behind_going state going answer =
-    behind_movement state.input state.desk (state_behind state.input state.debugger going) answer
-    (watched_by going answer)
+-- the messages after a movement
+abbrev pub behind_going : AdapterState → Going → List Sent
+behind_going state going =
+    behind_movement state.input state.desk (state_behind state.input state.debugger going)
+    (going_answer state.input state.debugger going) (watched_by state.input state.debugger going)
 
 -- a reply with a body, and the messages of a movement after it
 abbrev pub reply_with_going : AdapterState → List ℕ → Going → List Sent
-reply_with_going state body going =
-    reply body ∷ behind_going state going (going_answer state.input state.debugger going)
+reply_with_going state body going = reply body ∷ behind_going state going
 
 -- the movement to the stop of the run; if it is not debugged, to its end
 abbrev pub going_to_stop : AdapterState → Going

@@ -1,12 +1,12 @@
 //! The movements of requests.
 ghost use Rattle.std.specs.Prelude.{◌≡◌, ◌++◌, [], IfOk, OnOk};
 ghost use Rattle.ss_debug.specs.View.{debugger_state_of};
-ghost use Rattle.ss_adapter.specs.Going.{state_behind, going_answer, place_of, place_met, watched_by};
+ghost use Rattle.ss_adapter.specs.Going.{state_behind, going_answer, ends_at_change, place_of, watched_by};
 ghost use Rattle.ss_adapter.specs.Going.{plain_going, change_going, watched_going, run_going, going_of};
 ghost use Rattle.ss_adapter.specs.Going.{stride_movement, step_going};
 
 use crate::looking::question;
-use crate::reach::{Way, change_movement, movement_reach, nearest, nearest_place, says_change};
+use crate::reach::{Way, change_movement, movement_reach, nearest, nearest_place};
 use ss_debug::{Debugger, GREATEST_BOUND, obey};
 use ss_links::SetBoard;
 use ss_messages::{Command, Text};
@@ -169,41 +169,27 @@ pub fn asked_movement<S: SetBoard>(
     Ok(Some(going))
 }
 
-/// Makes a movement, and appends its whole answer.
+/// Makes a movement, and appends its whole answer. Says whether it ended at a change of its question.
 pub fn make<S: SetBoard>(
     debugger: &mut Debugger<S>,
     going: Going,
     answer: &mut Vec<u8>,
-) -> Result<(), AllocError>
+) -> Result<bool, AllocError>
     ensures input { debugger.new.machine.input ≡ debugger.old.machine.input }
     ensures place { OnOk result (debugger_state_of debugger.new
         ≡ state_behind debugger.old.machine.input (debugger_state_of debugger.old) going) }
+    ensures met { IfOk result (λ met. met ≡ ends_at_change debugger.old.machine.input
+        (debugger_state_of debugger.old) going) }
     ensures said { OnOk result (answer.new.items ≡ answer.old.items
         ++ going_answer debugger.old.machine.input (debugger_state_of debugger.old) going) }
 {
     match going {
         Going::Standing(movement) => {
             obey(debugger, ss_debug::Command::Move(movement), answer)?;
-            Ok(())
+            Ok(false)
         }
         Going::Traced(movement) => make_movement(debugger, movement, answer),
         Going::Watched(_, movement) => make_movement(debugger, movement, answer),
-    }
-}
-
-/// The place of a data break point, if a movement ended at a change, by its answer.
-fn place_met(place: Option<usize>, answer: &[u8]) -> Option<usize>
-    ensures { result ≡ place_met place answer.now }
-{
-    match place {
-        None => None,
-        Some(place) => {
-            if says_change(answer) {
-                Some(place)
-            } else {
-                None
-            }
-        }
     }
 }
 
@@ -220,10 +206,10 @@ pub fn make_watched<S: SetBoard>(
         ≡ state_behind debugger.old.machine.input (debugger_state_of debugger.old) going) }
     ensures said { OnOk result (answer.new.items
         ≡ going_answer debugger.old.machine.input (debugger_state_of debugger.old) going) }
-    ensures watched { IfOk result (λ place. place ≡ watched_by going
-        (going_answer debugger.old.machine.input (debugger_state_of debugger.old) going)) }
+    ensures watched { IfOk result (λ place. place ≡ watched_by debugger.old.machine.input
+        (debugger_state_of debugger.old) going) }
 {
     let place = going.place();
-    make(debugger, going, answer)?;
-    Ok(place_met(place, answer))
+    let met = make(debugger, going, answer)?;
+    Ok(if met { place } else { None })
 }

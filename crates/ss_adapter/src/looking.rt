@@ -3,7 +3,7 @@ ghost use Rattle.std.specs.Prelude.{◌≡◌, ◌++◌, ◌+◌, ◌<◌, codes
 ghost use Rattle.ss_debug.specs.Move.{line_at};
 ghost use Rattle.ss_machine.specs.Moment.{position};
 ghost use Rattle.ss_state.specs.Run.{run};
-ghost use Rattle.ss_adapter.specs.Looking.{reason_at, hit_at, is_end, is_over, exception_by};
+ghost use Rattle.ss_adapter.specs.Looking.{reason_at, is_hit, hit_at, is_end, is_over, exception_by};
 ghost use Rattle.ss_adapter.specs.Looking.{named_in, named_by, asked_of, question_of, question_fault};
 ghost use Rattle.ss_adapter.specs.Places.{line_id};
 
@@ -17,7 +17,7 @@ use ss_program::Program;
 use ss_prompt::{Manner, Missing, PromptCommand, asked_of_program, bare_question, prompt_command};
 use ss_sentences::fault_sentence;
 use ss_state::Status;
-use ss_trace::Question;
+use ss_trace::{Question, is_ready_now};
 use std::alloc::{AllocError, Global};
 
 /// Why the run stops at its position.
@@ -61,12 +61,20 @@ fn line_id(line: usize) -> Option<u64>
     }
 }
 
+/// Whether the run stops because of a break line.
+fn is_hit<S: SetBoard>(debugger: &Debugger<S>) -> bool
+    ensures { result ≡ is_hit debugger.now.machine.input debugger.now.breaks
+        (position debugger.now.machine) }
+{
+    is_ready_now(debugger) && debugger.machine().position() != 0 && debugger.stands_on_break()
+}
+
 /// The break line at which the run stops, if it stops because of that.
 pub fn hit<S: SetBoard>(debugger: &Debugger<S>) -> Option<u64>
     ensures { result ≡ hit_at debugger.now.machine.input debugger.now.breaks
         (position debugger.now.machine) }
 {
-    if reason(debugger) == b"breakpoint".as_slice() {
+    if is_hit(debugger) {
         return line_id(present_line(debugger.machine()));
     }
     None

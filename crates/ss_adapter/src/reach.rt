@@ -3,7 +3,7 @@ ghost use Rattle.std.specs.Prelude.{◌≡◌, ◌+◌, ◌<◌, IfOk, OnOk};
 ghost use Rattle.ss_debug.specs.Turn.{debugger_state_at};
 ghost use Rattle.ss_debug.specs.View.{debugger_state_of};
 ghost use Rattle.ss_adapter.specs.Looking.{question_of};
-ghost use Rattle.ss_adapter.specs.Reach.{change_movement, says_change, steps_between, movement_reach, reach_of};
+ghost use Rattle.ss_adapter.specs.Reach.{change_movement, steps_between, movement_reach, reach_of};
 ghost use Rattle.ss_adapter.specs.Reach.{is_nearer, nearer, reaches, nearest, nearest_place};
 
 use crate::looking::question;
@@ -42,13 +42,6 @@ pub fn change_movement(way: Way, question: Question) -> Movement
         Way::Forward => Movement::RunChange(question),
         Way::Back => Movement::BackChange(question),
     }
-}
-
-/// Whether a movement ended at a change, by its answer.
-pub fn says_change(answer: &[u8]) -> bool
-    ensures { result ≡ says_change answer.now }
-{
-    answer.starts_with(b"CHANGE")
 }
 
 /// How many steps lie between two positions.
@@ -92,13 +85,10 @@ pub fn movement_reach<S: SetBoard>(
 {
     let from = debugger.machine().position();
     let mut said = Vec::new(alloc);
-    make_movement(debugger, movement, &mut said)?;
+    let met = make_movement(debugger, movement, &mut said)?;
     let steps = steps_between(from, debugger.machine().position());
     return_to(alloc, debugger, from)?;
-    Ok(Reach {
-        steps,
-        met: says_change(&said),
-    })
+    Ok(Reach { steps, met })
 }
 
 /// The reach of the movement to a change of the question of a text.

@@ -1,6 +1,6 @@
 -- The pending notices in order: their properties, and their lines.
 use Rattle.std.proofs.Common.{◌≡◌, ℕ, zero, suc, ◌+◌, ◌<◌, ◌≤◌, Bool, true, false, cond, eqb, List, [], ◌∷◌, ◌++◌}
-use Rattle.std.proofs.Common.{length, drop, refl, sym, ap, ◌∙◌, arith, rules, Option, Some, None, slice_get, subst}
+use Rattle.std.proofs.Common.{length, drop, refl, sym, ap, ◌∙◌, ◌≢◌, arith, rules, Option, Some, None, slice_get, subst}
 use Rattle.std.specs.Prelude.{codes}
 use Rattle.std.specs.Option.{option_map}
 use Rattle.std.specs.Ordering.{is_lt}
@@ -149,22 +149,28 @@ all_lines p es i text all h k =
     sym (append-nil text) ∙ ap (λ (l : List Pending). text ++ notice_lines p l)
     (sym (dropped_none es i (none_of (slice_get es i) h))) ∙ k
 
--- if the listing has ended at its start, nothing is pending
-pub nothing_pending : (p : ProgramTable) (es : List Pending) (i : ℕ) → i ≡ 0 →
-    None ≡ option_map (λ (e : Pending). e.notice) (slice_get es i) → pending_text p es ≡ codes "NO EVENTS\n"
-nothing_pending p [] i z h = refl
-nothing_pending p (e ∷ es) i z h =
-    let first : None ≡ option_map (λ (e : Pending). e.notice) (slice_get (e ∷ es) 0) =
-    subst (λ j. None ≡ option_map (λ (e : Pending). e.notice) (slice_get (e ∷ es) j)) z h in absurd (cc)
+-- and all are listed then
+pub all_listed : (es : List Pending) (i : ℕ) → None ≡ option_map (λ (e : Pending). e.notice) (slice_get es i) →
+    i ≤ length es → i ≡ length es
+all_listed es i h k = ended es i (none_of (slice_get es i) h) k
+  where
+    ended : (es : List Pending) (i : ℕ) → slice_get es i ≡ None → i ≤ length es → i ≡ length es
+    ended [] i h k = omega (arith, k)
+    ended (f ∷ es) zero h k = absurd (cc)
+    ended (f ∷ es) (suc i) h k = ap suc (ended es i h (omega (arith, k)))
 
--- if it has listed some, the answer is their lines
-pub some_pending : (p : ProgramTable) (es : List Pending) (i : ℕ) → 0 < i → i ≤ length es →
-    pending_text p es ≡ notice_lines p es
-some_pending p [] i z h = absurd (omega arith)
-some_pending p (e ∷ es) i z h = refl
+-- the answer if none is pending
+pub nothing_pending : (p : ProgramTable) (es : List Pending) → length es ≡ 0 → pending_text p es ≡ codes "NO EVENTS\n"
+nothing_pending p [] h = refl
+nothing_pending p (e ∷ es) h = absurd (omega (arith, h))
+
+-- if some are, it is their lines
+pub some_pending : (p : ProgramTable) (es : List Pending) → length es ≢ 0 → pending_text p es ≡ notice_lines p es
+some_pending p [] h = absurd (h refl)
+some_pending p (e ∷ es) h = refl
 
 -- the answer, by the agenda of state p
-pub events_are : (t : Input) (p : ℕ) (s : State) (rules : List Rule) (a : Agenda) → s ≡ run t p → a ≡ s.agenda →
-    rules ≡ rules_of t.program → events_text t p ≡ pending_text t.program (in_order rules a)
+pub events_are : (t : Input) (p : ℕ) (s : State) → s ≡ run t p →
+    events_text t p ≡ pending_text t.program (in_order (rules_of t.program) s.agenda)
 unfolding events_text
-events_are t p s rules a e f g = rw (f, e, g) refl
+events_are t p s e = rw e refl

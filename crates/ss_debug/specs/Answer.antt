@@ -131,13 +131,17 @@ var_text name input p = value_line input p name (variable_named input p name)
 unfoldable pub taken_text : Input → ℕ → List ℕ
 taken_text input p = codes "TAKEN " ++ decimal (run input p).feed.taken ++ 10 ∷ []
 
--- the line of an entry: its class, the reference of its notice, and whether it waits or its event runs
+-- an entry: its class, the reference of its notice, and whether it waits or its event runs
+abbrev pub entry_value : ProgramTable → Entry → List ℕ
+entry_value program Absent = codes "NONE"
+entry_value program (Waiting class notice) =
+    (class_of program class).name ++ codes " " ++ decimal notice ++ codes " WAITING"
+entry_value program (Running class notice) =
+    (class_of program class).name ++ codes " " ++ decimal notice ++ codes " RUNNING"
+
+-- its line
 abbrev pub entry_line : ProgramTable → Entry → List ℕ
-entry_line program Absent = codes "ENTRY NONE\n"
-entry_line program (Waiting class notice) =
-    codes "ENTRY " ++ (class_of program class).name ++ codes " " ++ decimal notice ++ codes " WAITING\n"
-entry_line program (Running class notice) =
-    codes "ENTRY " ++ (class_of program class).name ++ codes " " ++ decimal notice ++ codes " RUNNING\n"
+entry_line program entry = codes "ENTRY " ++ entry_value program entry ++ 10 ∷ []
 
 -- the answer to SHOW ENTRY in state p
 unfoldable pub entry_text : Input → ℕ → List ℕ

@@ -1,8 +1,8 @@
 //! The answer to SHOW ENTRY.
-ghost use Rattle.std.specs.Prelude.{◌≡◌, ◌++◌, codes, decimal, IfOk};
+ghost use Rattle.std.specs.Prelude.{◌≡◌, ◌++◌, codes, decimal, OnOk, IfOk};
 ghost use Rattle.ss_program.specs.Program.{class_of};
 ghost use Rattle.ss_machine.specs.Moment.{position};
-ghost use Rattle.ss_debug.specs.Answer.{entry_text};
+ghost use Rattle.ss_debug.specs.Answer.{entry_value, entry_text};
 
 use crate::text::push_number;
 use ss_links::SetBoard;
@@ -11,23 +11,35 @@ use ss_program::Program;
 use ss_state::Entry;
 use std::alloc::{AllocError, Global};
 
-/// The line of an entry of this class with this notice, and the text that says its state.
-fn entry_line(
-    alloc: Global,
+/// Appends an entry of this class with this notice, and the text that says its state.
+fn push_entered(
+    text: &mut Vec<u8>,
     program: &Program,
     class: usize,
     notice: u32,
     what: &[u8],
-) -> Result<Vec<u8>, AllocError>
-    ensures { IfOk result (λ text. text.items ≡ codes "ENTRY " ++ (class_of program.now class).name
+) -> Result<(), AllocError>
+    ensures { OnOk result (text.new.items ≡ text.old.items ++ (class_of program.now class).name
         ++ codes " " ++ decimal notice ++ what.now) }
 {
-    let mut text = Vec::from_slice(alloc, b"ENTRY ")?;
     text.extend_from_slice(program.class_name(class))?;
     text.extend_from_slice(b" ")?;
-    push_number(&mut text, u64::from(notice))?;
-    text.extend_from_slice(what)?;
-    Ok(text)
+    push_number(text, u64::from(notice))?;
+    text.extend_from_slice(what)
+}
+
+/// Appends the class of an entry, the reference of its notice, and whether it waits or its event
+/// runs; `NONE` if there is no entry.
+///
+/// `AllocError` if a growth was refused; then the appended bytes do not count.
+pub fn push_entry(text: &mut Vec<u8>, program: &Program, entry: Entry) -> Result<(), AllocError>
+    ensures { OnOk result (text.new.items ≡ text.old.items ++ entry_value program.now entry) }
+{
+    match entry {
+        Entry::Absent => text.extend_from_slice(b"NONE"),
+        Entry::Waiting { class, notice } => push_entered(text, program, class, notice, b" WAITING"),
+        Entry::Running { class, notice } => push_entered(text, program, class, notice, b" RUNNING"),
+    }
 }
 
 /// The entry of an external event, and whether it waits or runs, or `ENTRY NONE`.
@@ -37,13 +49,8 @@ pub fn entry_text<S: SetBoard>(alloc: Global, machine: &Machine<S>) -> Result<Ve
         ≡ entry_text machine.now.input (position machine.now)) }
 {
     machine.known();
-    match machine.entry() {
-        Entry::Absent => Vec::from_slice(alloc, b"ENTRY NONE\n"),
-        Entry::Waiting { class, notice } => {
-            entry_line(alloc, machine.program(), class, notice, b" WAITING\n")
-        }
-        Entry::Running { class, notice } => {
-            entry_line(alloc, machine.program(), class, notice, b" RUNNING\n")
-        }
-    }
+    let mut text = Vec::from_slice(alloc, b"ENTRY ")?;
+    push_entry(&mut text, machine.program(), machine.entry())?;
+    text.extend_from_slice(b"\n")?;
+    Ok(text)
 }

@@ -1,7 +1,9 @@
 //! The answer to SHOW EVENTS.
-ghost use Rattle.std.specs.Prelude.{◌≡◌, ◌++◌, OnOk, IfOk};
+ghost use Rattle.std.specs.Prelude.{◌≡◌, ◌++◌, length, OnOk, IfOk};
+ghost use Rattle.ss_events.specs.Rules.{rules_of};
+ghost use Rattle.ss_events.specs.Agenda.{in_order};
 ghost use Rattle.ss_machine.specs.Moment.{position};
-ghost use Rattle.ss_debug.specs.Answer.{notice_line, events_text};
+ghost use Rattle.ss_debug.specs.Answer.{notice_line, notice_lines, events_text};
 
 use crate::text::{push_integer, push_number};
 use ss_events::Slot;
@@ -28,6 +30,30 @@ pub fn push_notice(
     text.extend_from_slice(b"\n")
 }
 
+/// Appends a line for each pending notice, the next first. Gives their number.
+///
+/// `AllocError` if a growth was refused; then the appended bytes do not count.
+pub fn push_notices<S: SetBoard>(
+    text: &mut Vec<u8>,
+    machine: &Machine<S>,
+) -> Result<usize, AllocError>
+    ensures lines { OnOk result (text.new.items ≡ text.old.items
+        ++ notice_lines machine.now.input.program
+        (in_order (rules_of machine.now.input.program) machine.now.state.agenda)) }
+    ensures count { IfOk result (λ count. count
+        ≡ length (in_order (rules_of machine.now.input.program) machine.now.state.agenda)) }
+{
+    machine.known();
+    let agenda = machine.agenda();
+    agenda.known();
+    let mut listing = agenda.listing();
+    while let Some(notice) = agenda.list_next(&mut listing) {
+        let slot = agenda.slot(notice).unwrap();
+        push_notice(text, machine.program(), notice, slot)?;
+    }
+    Ok(listing.listed)
+}
+
 /// A line for each pending notice, the next first, or `NO EVENTS`.
 #[tactic(auto, unfolding(crate::specs::Answer::events_text))]
 pub fn events_text<S: SetBoard>(alloc: Global, machine: &Machine<S>) -> Result<Vec<u8>, AllocError>
@@ -35,15 +61,9 @@ pub fn events_text<S: SetBoard>(alloc: Global, machine: &Machine<S>) -> Result<V
         ≡ events_text machine.now.input (position machine.now)) }
 {
     machine.known();
-    let agenda = machine.agenda();
-    agenda.known();
     let mut text = Vec::new(alloc);
-    let mut listing = agenda.listing();
-    while let Some(notice) = agenda.list_next(&mut listing) {
-        let slot = agenda.slot(notice).unwrap();
-        push_notice(&mut text, machine.program(), notice, slot)?;
-    }
-    if listing.listed == 0 {
+    let count = push_notices(&mut text, machine)?;
+    if count == 0 {
         return Vec::from_slice(alloc, b"NO EVENTS\n");
     }
     Ok(text)

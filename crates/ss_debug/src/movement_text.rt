@@ -33,7 +33,7 @@ fn push_status(text: &mut Vec<u8>, status: Status) -> Result<(), AllocError>
 
 /// Appends the position, the clock and the status.
 #[tactic(auto, unfolding(crate::specs::Answer::moment_text))]
-fn push_moment<T: Timeline>(text: &mut Vec<u8>, timeline: &T) -> Result<(), AllocError>
+pub fn push_moment<T: Timeline>(text: &mut Vec<u8>, timeline: &T) -> Result<(), AllocError>
     ensures ok { OnOk result (text.new.items ≡ text.old.items
         ++ moment_text (T.moment timeline.now).input (position (T.moment timeline.now))) }
 {
@@ -47,7 +47,7 @@ fn push_moment<T: Timeline>(text: &mut Vec<u8>, timeline: &T) -> Result<(), Allo
 
 /// Appends the section and the line of the present place.
 #[tactic(auto, unfolding(crate::specs::Answer::place_text))]
-fn push_place<T: Timeline>(text: &mut Vec<u8>, timeline: &T) -> Result<(), AllocError>
+pub fn push_place<T: Timeline>(text: &mut Vec<u8>, timeline: &T) -> Result<(), AllocError>
     ensures ok { OnOk result (text.new.items ≡ text.old.items
         ++ place_text (T.moment timeline.now).input (position (T.moment timeline.now))) }
 {

@@ -6,7 +6,7 @@ ghost use Rattle.ss_program.specs.Program.{class_of};
 ghost use Rattle.ss_store.specs.Tables.{set_of};
 ghost use Rattle.ss_store.specs.Store.{number_of, members_of};
 ghost use Rattle.ss_machine.specs.Moment.{position};
-ghost use Rattle.ss_debug.specs.Entities.{further_members, members_text, members_behind, listed_text};
+ghost use Rattle.ss_debug.specs.Entities.{shape_of, further_members, members_text, members_behind, listed_text};
 ghost use Rattle.ss_debug.specs.Entities.{owned_list_text, list_text, set_text};
 
 use crate::entity_text::no_entity_text;
@@ -64,18 +64,22 @@ fn push_further<S: SetBoard>(
     Ok(())
 }
 
-/// Appends the members with a blank between, or `EMPTY`.
-fn push_members<S: SetBoard>(
+/// Appends the members of the list of a set with a blank between, or `EMPTY`.
+///
+/// `AllocError` if a growth was refused; then the appended bytes do not count.
+#[tactic(auto, using(crate::proofs::Tables::sets_kept))]
+pub fn push_list<S: SetBoard>(
     text: &mut Vec<u8>,
-    store: &Store<S>,
+    machine: &Machine<S>,
     set: usize,
     owner: i64,
 ) -> Result<(), AllocError>
-    requires { set < length store.now.tables.sets }
+    requires { set < length machine.now.input.program.sets }
     ensures ok { OnOk result (text.new.items ≡ text.old.items
-        ++ members_text (members_of (set_of store.now.tables set) store.now.state
-        (number_of owner))) }
+        ++ members_text (members_of (shape_of machine.now.input.program set)
+        machine.now.state.store (number_of owner))) }
 {
+    let store = machine.store();
     let Ok(Some(first)) = store.walk_first(set, owner) else {
         return text.extend_from_slice(b"EMPTY");
     };
@@ -84,7 +88,6 @@ fn push_members<S: SetBoard>(
 }
 
 /// Appends the members of the list of a set, and ends the line.
-#[tactic(auto, using(crate::proofs::Tables::sets_kept))]
 pub fn push_listed<S: SetBoard>(
     text: &mut Vec<u8>,
     machine: &Machine<S>,
@@ -96,7 +99,7 @@ pub fn push_listed<S: SetBoard>(
         ++ listed_text machine.now.input.program machine.now.state.store set owner) }
 {
     text.extend_from_slice(b": ")?;
-    push_members(text, machine.store(), set, owner)?;
+    push_list(text, machine, set, owner)?;
     text.extend_from_slice(b"\n")
 }
 

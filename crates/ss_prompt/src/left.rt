@@ -22,7 +22,8 @@ fn go_to<S: SetBoard>(alloc: Global, debugger: &mut Debugger<S>, to: u64) -> Res
 {
     debugger.machine().known();
     let mut said = Vec::new(alloc);
-    make_movement(debugger, Movement::Go(to), &mut said)
+    make_movement(debugger, Movement::Go(to), &mut said)?;
+    Ok(())
 }
 
 /// Goes back to a position at which the debugger was.

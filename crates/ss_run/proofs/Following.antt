@@ -26,7 +26,6 @@ use Rattle.ss_trace.specs.declared.touches.Touch.TheVariants as touches
 use Rattle.ss_trace.specs.Question.{answer_at, changes_at}
 use Rattle.ss_trace.specs.Sight.{glance_at as glance_there, glance_of, sight_of_set, sight_of_list}
 use Rattle.ss_trace.specs.Touches.{touched_at, touched_by, touched_lists, touched_notices}
-use Rattle.ss_trace.specs.Value.{value_in, value_at}
 use Rattle.ss_trace.proofs.Changes.{same_as_itself}
 use Rattle.ss_trace.proofs.Glances.{unseen}
 use Rattle.ss_run.specs.declared.followed.Followed.{Followed}
@@ -34,7 +33,7 @@ use Rattle.ss_run.specs.declared.glance.Glance.{Glance}
 use Rattle.ss_run.specs.declared.glance.Glance.TheVariants.{Nothing, Length, Members}
 use Rattle.ss_run.specs.declared.here.Here.{Here}
 use Rattle.ss_run.specs.Glance.{owner_asked, owned_seen, set_seen, glance_at, is_same_count, is_same, leaves, is_quiet}
-use Rattle.ss_run.specs.Followed.{is_report, answer_kept, kept_in, kept_at, value_kept}
+use Rattle.ss_run.specs.Followed.{is_report, answer_kept, kept_in, kept_at}
 use Rattle.ss_run.specs.Tracing.{IsHere}
 
 -- ---- two glances that are the same are equal
@@ -179,41 +178,6 @@ report_changed t (Count name owner) p place r h = absurd (cc)
 other_changed : (t : Input) (x : Question) (p : ℕ) → is_report x ≡ false →
     changes_at t x p ≡ not (bytes_eq (answer_kept t x p) (answer_kept t x (p + 1)))
 other_changed t x p r = rw r refl
-
--- ---- its value
-
-report_value_is : (t : Input) (p : ℕ) →
-    let x : Question = Shown shown.Report in value_kept x (glance_at t x p) (answer_kept t x p) ≡ value_at t x p
-unfolding report_text
-report_value_is t p =
-    let long : length (report_text t p) - 7 ≡ length (run t p).report = omega arith in
-    ap (λ n. decimal n ++ codes " BYTES") (sym long)
-
-owned_value : (q : ProgramTable) (s : State) (x : Question) (n : ℕ) (o : Option ℤ) (answer : List ℕ) →
-    value_kept x (owned_seen q s n o) answer ≡ value_in x answer
-owned_value q s x n None answer = refl
-owned_value q s x n (Some k) answer = refl
-
-set_value : (q : ProgramTable) (s : State) (x : Question) (owner : Option ℤ) (o : Option ℕ) (answer : List ℕ) →
-    value_kept x (set_seen q s owner o) answer ≡ value_in x answer
-set_value q s x owner None answer = refl
-set_value q s x owner (Some n) answer = owned_value q s x n (owner_asked q s owner (set_of q n).owner) answer
-
--- the value by the kept glance and answer
-pub value_is : (t : Input) (x : Question) (p : ℕ) → value_kept x (glance_at t x p) (answer_kept t x p) ≡ value_at t x p
-value_is t (Shown shown.Report) p = report_value_is t p
-value_is t (Shown (shown.Set name owner)) p =
-    set_value t.program (run t p) (Shown (shown.Set name owner)) owner (set_named t.program name)
-    (answer_at t (Shown (shown.Set name owner)) p)
-value_is t (Shown shown.Events) p = refl
-value_is t (Shown shown.Clock) p = refl
-value_is t (Shown shown.Where) p = refl
-value_is t (Shown (shown.Variable name)) p = refl
-value_is t (Shown (shown.Entity name k)) p = refl
-value_is t (Shown shown.Taken) p = refl
-value_is t (Shown shown.Entry) p = refl
-value_is t (Attribute class k name) p = refl
-value_is t (Count name owner) p = refl
 
 -- ---- the kept glance and answer
 

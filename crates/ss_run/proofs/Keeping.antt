@@ -10,7 +10,6 @@ use Rattle.ss_run.specs.declared.watched.Watched.{Watched as Code}
 use Rattle.ss_run.specs.Kept.{Kept, kept_at, kept_value}
 use Rattle.ss_run.specs.Watched.{Watched, question, formula, watched_value, IsSoundWatched}
 use Rattle.ss_run.specs.WatchedView.{watched_view, AreSound}
-use Rattle.ss_run.proofs.Following.{value_is}
 
 -- ---- all of them name only what exists
 
@@ -34,10 +33,10 @@ sound_more program (y ∷ ys) x s h = (s.0, sound_more program ys x s.1 h)
 -- ---- the value by what is kept
 
 pub kept_value_is : (t : Input) (x : Watched) (p : ℕ) (k : Kept) → k ≡ kept_at t x p →
-    kept_value x k ≡ watched_value t x p
-kept_value_is t (question x) p k h = ap (λ it. kept_value (question x) it) h ∙ value_is t x p
-kept_value_is t (formula text (Some m)) p k h = ap (λ it. kept_value (formula text (Some m)) it) h
-kept_value_is t (formula text None) p k h = ap (λ it. kept_value (formula text None) it) h
+    kept_value t p x k ≡ watched_value t x p
+kept_value_is t (question x) p k h = refl
+kept_value_is t (formula text (Some m)) p k h = ap (λ it. kept_value t p (formula text (Some m)) it) h
+kept_value_is t (formula text None) p k h = ap (λ it. kept_value t p (formula text None) it) h
 
 -- ---- lists
 

@@ -1,13 +1,11 @@
 -- Private: the glance and the answer that are kept of a traced question, from state to state.
-use Rattle.std.specs.Prelude.{ℕ, Bool, true, false, List, [], ◌++◌, codes, decimal, if◌then◌else◌}
+use Rattle.std.specs.Prelude.{ℕ, Bool, true, false, List, [], if◌then◌else◌}
 use Rattle.ss_state.specs.Run.{Input}
 use Rattle.ss_debug.specs.declared.commands.Question.TheVariants as shown
 use Rattle.ss_trace.specs.declared.question.Question.{Question}
 use Rattle.ss_trace.specs.declared.question.Question.TheVariants.{Shown}
 use Rattle.ss_trace.specs.Question.{answer_at}
-use Rattle.ss_trace.specs.Value.{value_in}
 use Rattle.ss_run.specs.declared.glance.Glance.{Glance}
-use Rattle.ss_run.specs.declared.glance.Glance.TheVariants.{Length}
 use Rattle.ss_run.specs.declared.followed.Followed.{Followed}
 use Rattle.ss_run.specs.Glance.{glance_at}
 
@@ -27,8 +25,3 @@ kept_at input question p = (glance_at input question p, answer_kept input questi
 -- the glance and the answer in a value of the code
 abbrev pub kept_in : Followed → Glance × List ℕ
 kept_in followed = (followed.glance, followed.answer.items)
-
--- the value of a question by its kept glance and answer
-abbrev pub value_kept : Question → Glance → List ℕ → List ℕ
-value_kept question (Length n) answer = decimal n ++ codes " BYTES"
-value_kept question _ answer = value_in question answer

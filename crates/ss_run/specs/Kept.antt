@@ -2,6 +2,7 @@
 use Rattle.std.specs.Prelude.{ℕ, Bool, List, Option, Some, None}
 use Rattle.ss_state.specs.Run.{Input}
 use Rattle.ss_trace.specs.Movements.{frames_at}
+use Rattle.ss_trace.specs.Value as trace
 use Rattle.ss_readings.specs.declared.followed.Followed.{Followed as FollowedValue}
 use Rattle.ss_readings.specs.Value.{Value, value_text}
 use Rattle.ss_readings.specs.ValueView.{value_if}
@@ -45,8 +46,8 @@ kept_at input (question x) p = answer (glance_at input x p) (followed.answer_kep
 kept_at input (formula text (Some meaning)) p = value_at input meaning p
 kept_at input (formula text None) p = nothing
 
--- the value by what is kept
-abbrev pub kept_value : Watched → Kept → List ℕ
-kept_value (question x) (answer glance text) = followed.value_kept x glance text
-kept_value _ (value asked frames opened v) = value_text v
-kept_value _ _ = value_text None
+-- the value in state p, if this is kept
+abbrev pub kept_value : Input → ℕ → Watched → Kept → List ℕ
+kept_value input p (question x) kept = trace.value_at input x p
+kept_value input p _ (value asked frames opened v) = value_text v
+kept_value input p _ _ = value_text None

@@ -1,19 +1,18 @@
 //! The glance and the answer that are kept of a traced question, from state to state. Definitions
 //! name the type only for proofs.
-ghost use Rattle.std.specs.Prelude.{◌≡◌, ◌++◌, ◌+◌, ◌&&◌, ◌||◌, IfOk, OnOk, not, bytes_eq};
-ghost use Rattle.std.specs.Prelude.{codes, decimal};
+ghost use Rattle.std.specs.Prelude.{◌≡◌, ◌+◌, ◌&&◌, ◌||◌, IfOk, OnOk, not, bytes_eq};
 ghost use Rattle.ss_machine.specs.Moment.{position};
 ghost use Rattle.ss_trace.specs.Question.{changes_at};
-ghost use Rattle.ss_run.specs.Followed.{is_report, answer_kept, kept_in, kept_at, value_kept};
+ghost use Rattle.ss_run.specs.Followed.{is_report, answer_kept, kept_in, kept_at};
 ghost use Rattle.ss_run.specs.Glance.{is_same, is_quiet};
 ghost use Rattle.ss_run.specs.Tracing.{IsHere};
 
 use crate::glance::{Glance, glance_of, is_quiet, is_same};
 use crate::here::Here;
-use ss_debug::{Debugger, Question as Shown, push_number};
+use ss_debug::{Debugger, Question as Shown};
 use ss_links::SetBoard;
 use ss_program::Place;
-use ss_trace::{Question, push_answer, push_value};
+use ss_trace::{Question, push_answer};
 use std::alloc::{AllocError, Global};
 use std::mem::replace;
 
@@ -65,14 +64,6 @@ fn has_changed(question: &Question, before: &[u8], now: &[u8]) -> bool
     is_report(question) || before != now
 }
 
-/// Appends the length of the report.
-fn push_length(bytes: &mut Vec<u8>, length: usize) -> Result<(), AllocError>
-    ensures { OnOk result (bytes.new.items ≡ bytes.old.items ++ decimal length ++ codes " BYTES") }
-{
-    push_number(bytes, length as u64)?;
-    bytes.extend_from_slice(b" BYTES")
-}
-
 impl Followed {
     /// The glance and the answer at the debugger's position.
     pub fn new<S: SetBoard>(
@@ -122,17 +113,5 @@ impl Followed {
         let now = answer_kept(alloc, debugger, question)?;
         let before = replace(&mut self.answer, now);
         Ok(has_changed(question, &before, &self.answer))
-    }
-
-    /// Appends the value of the question, in one line.
-    pub fn push_value(&self, question: &Question, bytes: &mut Vec<u8>) -> Result<(), AllocError>
-        ensures { OnOk result (bytes.new.items ≡ bytes.old.items
-            ++ value_kept question.now self.now.glance self.now.answer.items) }
-    {
-        match self.glance {
-            Glance::Length(length) => push_length(bytes, length),
-            Glance::Nothing => push_value(question, &self.answer, bytes),
-            Glance::Members(_, _) => push_value(question, &self.answer, bytes),
-        }
     }
 }

@@ -150,19 +150,19 @@ impl LastSeen {
         }
     }
 
-    /// Appends the value, in one line.
-    pub(crate) fn push_value(
+    /// Appends the value in the debugger's present state, in one line.
+    pub(crate) fn push_value<S: SetBoard>(
         &self,
+        debugger: &Debugger<S>,
         watched: &Watched<'_>,
         bytes: &mut Vec<u8>,
     ) -> Result<(), AllocError>
         ensures { OnOk result (bytes.new.items ≡ bytes.old.items
-            ++ kept_value (watched_view watched.now) (kept_in self.now)) }
+            ++ kept_value debugger.now.machine.input (position debugger.now.machine)
+            (watched_view watched.now) (kept_in self.now)) }
     {
         match (watched, self) {
-            (Watched::Question(question), LastSeen::Answer(followed)) => {
-                followed.push_value(question, bytes)
-            }
+            (Watched::Question(question), _) => ss_trace::push_value(debugger, question, bytes),
             (_, LastSeen::Value(followed)) => push_value(bytes, &followed.value),
             _ => bytes.extend_from_slice(b"NONE"),
         }

@@ -10,7 +10,7 @@ use ss_check::SymbolTable;
 use ss_debug::Debugger;
 use ss_expressions::value_asked;
 use ss_links::SetBoard;
-use ss_trace::{Question, push_answer, push_asked, push_value};
+use ss_trace::{Question, push_asked, push_value};
 use std::alloc::{AllocError, Global};
 use std::marker::Model;
 
@@ -74,10 +74,8 @@ fn question_value<S: SetBoard>(
     ensures { IfOk result (λ value. value.items
         ≡ value_at debugger.now.machine.input question.now (position debugger.now.machine)) }
 {
-    let mut answer = Vec::new(alloc);
-    push_answer(debugger, question, &mut answer)?;
     let mut value = Vec::new(alloc);
-    push_value(question, &answer, &mut value)?;
+    push_value(debugger, question, &mut value)?;
     Ok(value)
 }
 

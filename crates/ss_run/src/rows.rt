@@ -102,7 +102,7 @@ fn push_change<S: SetBoard>(
         return Ok(());
     }
     let mut value = Vec::new(alloc);
-    kept.push_value(watched, &mut value)?;
+    kept.push_value(debugger, watched, &mut value)?;
     let row = row_of(alloc, debugger.machine().program(), here, watched, &value)?;
     rows.extend_from_slice(&row)
 }

@@ -14,7 +14,7 @@ use crate::sets::{push_classes, push_list_page, push_set, push_sets};
 use ss_debug::{Debugger, Question as Shown};
 use ss_links::SetBoard;
 use ss_messages::{Filter, Wanted, variable_item};
-use ss_trace::{Question, push_answer, push_value};
+use ss_trace::{Question, push_value};
 use std::alloc::{AllocError, Global};
 
 /// The value of a question, as a row and a watch of it show it.
@@ -26,10 +26,8 @@ pub fn question_value<S: SetBoard>(
     ensures { IfOk result (λ value. value.items
         ≡ value_at debugger.now.machine.input question.now (position debugger.now.machine)) }
 {
-    let mut answer = Vec::new(alloc);
-    push_answer(debugger, question, &mut answer)?;
     let mut value = Vec::new(alloc);
-    push_value(question, &answer, &mut value)?;
+    push_value(debugger, question, &mut value)?;
     Ok(value)
 }
 

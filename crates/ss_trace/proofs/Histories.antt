@@ -1,10 +1,8 @@
 -- Histories: the newest step, and the other steps after it.
 use Rattle.std.proofs.Common.{◌≡◌, ℕ, zero, suc, ◌+◌, ◌≤◌, Bool, true, false, cond, List, [], ◌∷◌, ◌++◌}
-use Rattle.std.proofs.Common.{refl, sym, ap, ◌∙◌, ◌≢◌, arith, nat_lt, take, length, append_assoc, Option, Some, None}
-use Rattle.std.specs.Prelude.{decimal, is_some, MatchOption}
+use Rattle.std.proofs.Common.{refl, sym, ap, ◌∙◌, ◌≢◌, arith, nat_lt, take, length, append_assoc, Some, None}
+use Rattle.std.specs.Prelude.{decimal}
 use Rattle.std.specs.Fmt.{signed_decimal}
-use Rattle.std.specs.declared.vec.Vec.{Vec}
-use Rattle.std.specs.Global.{Global}
 use Rattle.std.proofs.lemmas.Bool.{lt-ltb}
 use borrow.Author.Tests.{ltb-true}
 use Rattle.ss_state.specs.Run.{Input}
@@ -13,8 +11,7 @@ use Rattle.ss_state.specs.Run.{run}
 use Rattle.ss_machine.specs.Moment.{Moment, position}
 use Rattle.ss_debug.specs.Move.{line_at}
 use Rattle.ss_debug.specs.Answer.{section_at}
-use Rattle.ss_trace.specs.Question.{answer_at}
-use Rattle.ss_trace.specs.Value.{value_in}
+use Rattle.ss_trace.specs.Value.{value_at}
 use Rattle.ss_trace.specs.History.{before_others, positions_where, step_row, step_rows, history, history_text, row}
 use Rattle.ss_trace.specs.History.{head_row, no_change_text, table_or_none, newest_change, newest}
 
@@ -65,12 +62,12 @@ count_more zero m q qs e = absurd (omega (arith, e))
 count_more (suc n) m q qs e = let same : n ≡ m = omega (arith, e) in rw same refl
 
 -- a row, from the state in which it is written
-pub row_told : (t : Input) (x : Question) (u : Moment) (after : List ℕ) → u.input ≡ t →
-    u.state ≡ run u.input (position u) → after ≡ answer_at t x (position u + 1) →
+pub row_told : (t : Input) (x : Question) (u : Moment) (value : List ℕ) → u.input ≡ t →
+    u.state ≡ run u.input (position u) → value ≡ value_at t x (position u + 1) →
     row (decimal (position u)) (signed_decimal u.state.clock) (section_at u.input (position u))
-    (decimal (line_at u.input (position u))) (value_in x after)
+    (decimal (line_at u.input (position u))) value
     ≡ step_row t x (position u)
-row_told t x u after e s a = rw (s, e, a) refl
+row_told t x u value e s a = rw (s, e, a) refl
 
 -- one row more
 pub rows_on : (old one more rest all new : List ℕ) → new ≡ old ++ one → rest ≡ one ++ more → old ++ rest ≡ all →
@@ -108,13 +105,6 @@ newest_is t x e p q qs h = ap newest h
 -- none
 pub newest_none : (t : Input) (x : Question) (e p : ℕ) → history t x e p ≡ [] → newest_change t x e p ≡ None
 newest_none t x e p h = ap newest h
-
--- the answer that was read before, if a change is found
-pub found_before : (o : Option (Vec ℕ Global)) (old : List ℕ) (b : Bool) (wanted : List ℕ) (N H : Type 0) →
-    is_some o ≡ true → MatchOption o (b ≡ true) (λ text. (text.items ≡ old) × (b ≡ false)) → old ≡ wanted → H →
-    MatchOption o N (λ after. (after.items ≡ wanted) × H)
-found_before None old b wanted N H e m r h = cc
-found_before (Some text) old b wanted N H e m r h = (m.0 ∙ r, h)
 
 -- the history of the same run with the same forgotten steps
 pub history_moved : (t u : Input) (x : Question) (e f p q : ℕ) → u ≡ t → f ≡ e →

@@ -1,5 +1,6 @@
 pub mod Changes
 pub mod Histories
+pub mod Values
 pub mod HistoryLaws
 pub mod Stops
 pub mod Parts

@@ -5,7 +5,7 @@ use Rattle.ss_machine.specs.Moment.{position, HasGoneBack}
 use Rattle.ss_state.specs.Run.{Input}
 use Rattle.ss_debug.specs.Move.{is_ready_at}
 use Rattle.ss_debug.specs.View.{DebuggerView}
-use Rattle.ss_trace.specs.View.{HasLookedBack}
+use Rattle.ss_trace.specs.View.{HasLookedBack, IsAt}
 
 -- it did not go
 pub looked_nowhere : (d : DebuggerView) → HasLookedBack d d
@@ -52,3 +52,14 @@ looked_on old l new h k = record {
         j < position old.machine → is_ready_at old.machine.input j ≡ true
     on_by true j e a b = rw h.input at (k.ready j a (omega (arith, ltb-true _ _ e)))
     on_by false j e a b = h.ready j (omega (arith, ltb-false _ _ e)) b
+
+-- a look, and then a step there and back
+pub looked_same : (old l new : DebuggerView) → HasLookedBack old l → IsAt l (position l.machine) new →
+    HasLookedBack old new
+looked_same old l new h k = record {
+  input = k.input ∙ h.input;
+  forgotten = k.forgotten ∙ h.forgotten;
+  breaks = k.breaks ∙ h.breaks;
+  no_later = omega (arith, h.no_later, k.position);
+  ready = λ j a b. h.ready j (omega (arith, a, k.position)) b;
+}

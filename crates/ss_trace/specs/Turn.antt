@@ -1,5 +1,5 @@
 -- The effect of a movement on the state of the debugger, and its answer.
-use Rattle.std.specs.Prelude.{ℕ, Bool, List, codes, if◌then◌else◌, nat_eq, ◌≡◌, ◌≤◌}
+use Rattle.std.specs.Prelude.{ℕ, Bool, false, ◌&&◌, List, codes, if◌then◌else◌, nat_eq, ◌≡◌, ◌≤◌}
 use Rattle.ss_state.specs.Run.{Input}
 use Rattle.ss_debug.specs.BreakLines.{BreakPoint}
 use Rattle.ss_debug.specs.declared.limits.TheConstants.{GREATEST_BOUND}
@@ -9,9 +9,12 @@ use Rattle.ss_debug.specs.AfterRefusal.{IsPartOfMovement, IsStateAfterRefusedMov
 use Rattle.ss_debug.specs.Turn as debugger
 use Rattle.ss_debug.specs.Turn.{DebuggerState, debugger_state_at}
 use Rattle.ss_trace.specs.declared.movement.Movement.{Movement}
+use Rattle.ss_trace.specs.declared.movement.Movement.TheVariants.{RunChange, BackChange}
+use Rattle.ss_trace.specs.declared.question.Question.{Question}
+use Rattle.ss_trace.specs.Question.{changes_at}
 use Rattle.ss_trace.specs.Movements.{Shape, debugger_shape, ahead, seek_back, over_by, back_over_by, shape_of}
 use Rattle.ss_trace.specs.Movements.{CountedEnd, over, back_over}
-use Rattle.ss_trace.specs.Movements.{ahead_end, is_met}
+use Rattle.ss_trace.specs.Movements.{ahead_end, is_met, is_met_back, has_changed}
 
 -- the word of a movement forward from p to q: HALTED if the status isn't ready, its own word if it
 -- met the state that it looks for, BREAK at a break line, else BOUND
@@ -94,6 +97,19 @@ state_after input debugger movement = state_after_shape input debugger (shape_of
 -- the answer to a movement
 abbrev pub answer : Input → DebuggerState → Movement → List ℕ
 answer input debugger movement = shape_answer input debugger (shape_of input debugger.position movement)
+
+-- whether RUN CHANGE from p ends at a change, if it leads to q: one that ends the run is no stop there
+abbrev pub run_ends_at_change : Input → Question → ℕ → ℕ → Bool
+run_ends_at_change input question p q = is_ready_at input q && is_met (has_changed input question) p q
+
+-- whether a movement ends at a change of its question
+abbrev pub ends_at_change : Input → DebuggerState → Movement → Bool
+ends_at_change input debugger (RunChange question) =
+    run_ends_at_change input question debugger.position (state_after input debugger (RunChange question)).position
+ends_at_change input debugger (BackChange question) =
+    is_met_back (changes_at input question) debugger.position
+    (state_after input debugger (BackChange question)).position
+ends_at_change input debugger _ = false
 
 -- the state in which a refusal of memory leaves the debugger
 abbrev pub IsStateAfterRefusal : Input → DebuggerState → Movement → DebuggerState → Type 0

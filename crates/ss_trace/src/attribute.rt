@@ -121,7 +121,7 @@ fn kept_named<S: SetBoard>(
 }
 
 /// The value of the attribute of this name, kept ones too.
-fn attribute_named<S: SetBoard>(
+pub fn attribute_named<S: SetBoard>(
     machine: &Machine<S>,
     class: usize,
     x: i64,

@@ -16,7 +16,7 @@ use std::alloc::AllocError;
 
 /// How many members the list of a set has, none if its owner does not exist.
 #[tactic(auto, using(ss_debug::proofs::Tables::sets_kept))]
-fn member_count<S: SetBoard>(machine: &Machine<S>, set: usize, owner: i64) -> u32
+pub fn member_count<S: SetBoard>(machine: &Machine<S>, set: usize, owner: i64) -> u32
     requires { set < length machine.now.input.program.sets }
     ensures { result ≡ length (members_of (shape_of machine.now.input.program set)
         machine.now.state.store (number_of owner)) }

@@ -1,47 +1,49 @@
 //! The history of a question: the steps at which it changes, the newest first.
-ghost use Rattle.std.specs.Prelude.{◌≡◌, ◌++◌, ◌∷◌, ◌+◌, ◌<◌, ◌≤◌, [], OnOk, OnErr, IfOk, MatchOption, ℕ, true};
+ghost use Rattle.std.specs.Prelude.{◌≡◌, ◌++◌, ◌∷◌, ◌+◌, ◌<◌, ◌≤◌, [], OnOk, OnErr, IfOk, ℕ, true, false};
 ghost use Rattle.std.specs.Prelude.{take, length};
 ghost use Rattle.ss_machine.specs.Moment.{position};
 ghost use Rattle.ss_state.specs.declared.limits.TheConstants.{LAST_POSITION};
 ghost use Rattle.ss_debug.specs.Move.{is_ready_at};
 ghost use Rattle.ss_debug.specs.View.{debugger_state_of};
-ghost use Rattle.ss_trace.specs.Question.{answer_at};
+ghost use Rattle.ss_trace.specs.Value.{value_at};
 ghost use Rattle.ss_trace.specs.Reading.{IsReadAt};
-ghost use Rattle.ss_trace.specs.History.{history, step_rows, history_text, newest_change};
+ghost use Rattle.ss_trace.specs.History.{history, step_row, step_rows, history_text, newest_change};
 ghost use Rattle.ss_trace.specs.History.{why_head, why_line, why_change};
 ghost use Rattle.ss_trace.specs.View.{IsAt, IsBetween, HasLookedBack};
 
 use crate::question::Question;
 use crate::reading::Reading;
 use crate::sought::{is_ready_now, step_once};
-use crate::table::{present_line, push_change_line, push_no_change, push_step_row, push_with_head};
+use crate::table::{present_line, push_change_line, push_no_change, push_row_of, push_with_head};
+use crate::value::push_value;
 use ss_debug::{Debugger, Question as Shown};
 use ss_links::SetBoard;
 use std::alloc::AllocError;
 
 /// Goes back to the newest earlier step at which a question changes, if it is kept, and else to the
-/// earliest kept position. Gives the answer after that step. The reading is that of the debugger's
-/// state, before and after the call.
+/// earliest kept position. Says whether there is one. The reading is that of the debugger's state,
+/// before and after the call.
 fn back_to_newest<S: SetBoard>(
     debugger: &mut Debugger<S>,
     question: &Question,
     reading: &mut Reading,
-) -> Result<Option<Vec<u8>>, AllocError>
+) -> Result<bool, AllocError>
     requires { IsReadAt debugger.old.machine.input question.now (position debugger.old.machine)
         reading.old }
     ensures gone { OnOk result (HasLookedBack debugger.old debugger.new) }
     ensures reading { OnOk result (IsReadAt debugger.old.machine.input question.now
         (position debugger.new.machine) reading.new) }
-    ensures found { IfOk result (λ found. MatchOption found
-        (history debugger.old.machine.input question.now debugger.old.machine.forgotten
-        (position debugger.old.machine) ≡ [])
-        (λ after. (after.items ≡ answer_at debugger.old.machine.input question.now
-        (position debugger.new.machine + 1))
-        × (history debugger.old.machine.input question.now debugger.old.machine.forgotten
+    ensures moved { IfOk result (λ found. found ≡ true →
+        position debugger.new.machine < position debugger.old.machine) }
+    ensures found { IfOk result (λ found. found ≡ true →
+        history debugger.old.machine.input question.now debugger.old.machine.forgotten
         (position debugger.old.machine)
         ≡ position debugger.new.machine
         ∷ history debugger.old.machine.input question.now debugger.old.machine.forgotten
-        (position debugger.new.machine)))) }
+        (position debugger.new.machine)) }
+    ensures none { IfOk result (λ found. found ≡ false →
+        history debugger.old.machine.input question.now debugger.old.machine.forgotten
+        (position debugger.old.machine) ≡ []) }
     ensures memory { OnErr result (IsBetween debugger.old debugger.old.machine.forgotten
         (position debugger.old.machine) debugger.new) }
 {
@@ -51,12 +53,55 @@ fn back_to_newest<S: SetBoard>(
             return Err(AllocError);
         }
         let touched = reading.touched(debugger);
-        let after = reading.follow(debugger, question, touched)?;
-        if after.is_some() {
-            return Ok(after);
+        if reading.follow(debugger, question, touched)?.is_some() {
+            return Ok(true);
         }
     }
-    Ok(None)
+    Ok(false)
+}
+
+/// Appends the value of a question after the debugger's next step: the debugger makes the step, and
+/// goes back.
+fn push_value_after<S: SetBoard>(
+    debugger: &mut Debugger<S>,
+    question: &Question,
+    bytes: &mut Vec<u8>,
+) -> Result<(), AllocError>
+    requires ready { is_ready_at debugger.old.machine.input
+        (position debugger.old.machine) ≡ true }
+    requires before_last { position debugger.old.machine < LAST_POSITION }
+    ensures back { OnOk result (IsAt debugger.old (position debugger.old.machine) debugger.new) }
+    ensures said { OnOk result (bytes.new.items ≡ bytes.old.items
+        ++ value_at debugger.old.machine.input question.now
+        (position debugger.old.machine + 1)) }
+    ensures memory { OnErr result (IsBetween debugger.old (position debugger.old.machine)
+        (position debugger.old.machine + 1) debugger.new) }
+{
+    step_once(debugger)?;
+    push_value(debugger, question, bytes)?;
+    debugger.step_back();
+    Ok(())
+}
+
+/// Appends the row of the debugger's next step, which changes a question.
+fn push_step_row<S: SetBoard>(
+    debugger: &mut Debugger<S>,
+    question: &Question,
+    bytes: &mut Vec<u8>,
+) -> Result<(), AllocError>
+    requires ready { is_ready_at debugger.old.machine.input
+        (position debugger.old.machine) ≡ true }
+    requires before_last { position debugger.old.machine < LAST_POSITION }
+    ensures back { OnOk result (IsAt debugger.old (position debugger.old.machine) debugger.new) }
+    ensures said { OnOk result (bytes.new.items ≡ bytes.old.items
+        ++ step_row debugger.old.machine.input question.now (position debugger.old.machine)) }
+    ensures memory { OnErr result (IsBetween debugger.old (position debugger.old.machine)
+        (position debugger.old.machine + 1) debugger.new) }
+{
+    let mut value = Vec::new(*bytes.allocator());
+    push_value_after(debugger, question, &mut value)?;
+    debugger.machine().known();
+    push_row_of(bytes, debugger, &value)
 }
 
 /// Appends the rows of the newest earlier steps at which a question changes, at most `most`. Gives
@@ -78,14 +123,14 @@ fn push_rows<S: SetBoard>(
     ensures memory { OnErr result (IsBetween debugger.old debugger.old.machine.forgotten
         (position debugger.old.machine) debugger.new) }
 {
+    debugger.machine().known();
     let mut reading = Reading::new(*bytes.allocator(), debugger, question)?;
     let mut count = 0;
     while count < most {
-        let Some(after) = back_to_newest(debugger, question, &mut reading)? else {
+        if !back_to_newest(debugger, question, &mut reading)? {
             return Ok(count);
-        };
-        debugger.machine().known();
-        push_step_row(bytes, debugger, question, &after)?;
+        }
+        push_step_row(debugger, question, bytes)?;
         count += 1;
     }
     Ok(count)
@@ -159,6 +204,29 @@ pub fn push_history<S: SetBoard>(
     return_to(debugger, from)
 }
 
+/// Appends the line of a question with its values before and after the debugger's next step.
+fn push_change<S: SetBoard>(
+    debugger: &mut Debugger<S>,
+    question: &Question,
+    bytes: &mut Vec<u8>,
+) -> Result<(), AllocError>
+    requires ready { is_ready_at debugger.old.machine.input
+        (position debugger.old.machine) ≡ true }
+    requires before_last { position debugger.old.machine < LAST_POSITION }
+    ensures back { OnOk result (IsAt debugger.old (position debugger.old.machine) debugger.new) }
+    ensures said { OnOk result (bytes.new.items ≡ bytes.old.items
+        ++ why_change debugger.old.machine.input question.now
+        (Some (position debugger.old.machine))) }
+    ensures memory { OnErr result (IsBetween debugger.old (position debugger.old.machine)
+        (position debugger.old.machine + 1) debugger.new) }
+{
+    let mut before = Vec::new(*bytes.allocator());
+    push_value(debugger, question, &mut before)?;
+    let mut after = Vec::new(*bytes.allocator());
+    push_value_after(debugger, question, &mut after)?;
+    push_change_line(bytes, question, &before, &after)
+}
+
 /// Goes back to the newest earlier step at which a question changes, and appends its texts.
 #[tactic(auto, using(crate::proofs::Histories::newest_is, crate::proofs::Histories::newest_none))]
 fn push_newest<S: SetBoard>(
@@ -182,14 +250,15 @@ fn push_newest<S: SetBoard>(
     ensures memory { OnErr result (IsBetween debugger.old debugger.old.machine.forgotten
         (position debugger.old.machine) debugger.new) }
 {
+    debugger.machine().known();
     let mut reading = Reading::new(*head.allocator(), debugger, question)?;
-    let Some(after) = back_to_newest(debugger, question, &mut reading)? else {
+    if !back_to_newest(debugger, question, &mut reading)? {
         push_no_change(head, debugger)?;
         return Ok(None);
-    };
+    }
     let text = debugger.answer_to(&Shown::Where)?;
     head.extend_from_slice(&text)?;
-    push_change_line(change, question, &reading.answer, &after)?;
+    push_change(debugger, question, change)?;
     Ok(Some(present_line(debugger)))
 }
 

@@ -30,6 +30,7 @@ mod value;
 
 pub use aim::Aim;
 pub use answer::{push_answer, push_asked};
+pub use attribute::{attribute_named, push_attribute};
 pub use change_search::is_at_stop;
 pub use history::{push_history, push_why, return_to};
 pub use laws::{

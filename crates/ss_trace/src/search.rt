@@ -1,5 +1,5 @@
 //! The effect of each movement.
-ghost use Rattle.std.specs.Prelude.{◌≡◌, ◌++◌, OnOk, OnErr, ℕ, List, codes};
+ghost use Rattle.std.specs.Prelude.{◌≡◌, ◌++◌, OnOk, OnErr, IfOk, ℕ, List, codes};
 ghost use Rattle.ss_state.specs.Run.{Input};
 ghost use Rattle.ss_debug.specs.BreakLines.{BreakPoint};
 ghost use Rattle.ss_debug.specs.Move.{forward, search_back, shape_of as standing_shape};
@@ -8,9 +8,10 @@ ghost use Rattle.ss_debug.specs.AfterRefusal.{IsStateAfterRefusedMovement};
 ghost use Rattle.ss_debug.specs.View.{debugger_state_of};
 ghost use Rattle.ss_trace.specs.Question.{changes_at};
 ghost use Rattle.ss_trace.specs.Movements.{debugger_shape, ahead, seek_back, over_by, back_over_by, go_shape};
-ghost use Rattle.ss_trace.specs.Movements.{end_condition, has_changed};
+ghost use Rattle.ss_trace.specs.Movements.{end_condition, has_changed, is_met_back};
 ghost use Rattle.ss_trace.specs.declared.movement.TheConstants.{GREATEST_JOURNEY};
-ghost use Rattle.ss_trace.specs.Turn.{state_after, answer, IsStateAfterRefusal};
+ghost use Rattle.ss_machine.specs.Moment.{position};
+ghost use Rattle.ss_trace.specs.Turn.{state_after, answer, run_ends_at_change, ends_at_change, IsStateAfterRefusal};
 ghost use Rattle.ss_trace.specs.Turn.{state_after_shape, shape_answer, IsAfterRefusedShape};
 ghost use Rattle.ss_trace.specs.View.{sought_test};
 
@@ -162,16 +163,18 @@ fn go_back_over<S: SetBoard>(
     debugger.push_movement(backward_word(debugger, b"DONE", left == 0), bytes)
 }
 
-/// RUN CHANGE, and its answer.
+/// RUN CHANGE, and its answer. Says whether it ended at a change.
 fn go_to_change<S: SetBoard>(
     debugger: &mut Debugger<S>,
     question: &Question,
     bytes: &mut Vec<u8>,
-) -> Result<(), AllocError>
+) -> Result<bool, AllocError>
     ensures input { debugger.new.machine.input ≡ debugger.old.machine.input }
     ensures place { OnOk result (debugger_state_of debugger.new
         ≡ state_after_shape debugger.old.machine.input (debugger_state_of debugger.old)
         (ahead (has_changed debugger.old.machine.input question.now) (codes "CHANGE"))) }
+    ensures met { IfOk result (λ met. met ≡ run_ends_at_change debugger.old.machine.input question.now
+        (position debugger.old.machine) (position debugger.new.machine)) }
     ensures said { OnOk result (bytes.new.items ≡ bytes.old.items
         ++ shape_answer debugger.old.machine.input (debugger_state_of debugger.old)
         (ahead (has_changed debugger.old.machine.input question.now) (codes "CHANGE"))) }
@@ -182,19 +185,23 @@ fn go_to_change<S: SetBoard>(
 {
     let from = debugger.machine().position();
     let met = ahead_to_change(*bytes.allocator(), debugger, question, GREATEST_BOUND)?;
-    debugger.push_movement(forward_word(debugger, b"CHANGE", from, met), bytes)
+    debugger.push_movement(forward_word(debugger, b"CHANGE", from, met), bytes)?;
+    Ok(is_ready_now(debugger) && met)
 }
 
-/// BACK CHANGE, and its answer.
+/// BACK CHANGE, and its answer. Says whether it ended at a change.
 fn go_back_to_change<S: SetBoard>(
     debugger: &mut Debugger<S>,
     question: &Question,
     bytes: &mut Vec<u8>,
-) -> Result<(), AllocError>
+) -> Result<bool, AllocError>
     ensures input { debugger.new.machine.input ≡ debugger.old.machine.input }
     ensures place { OnOk result (debugger_state_of debugger.new
         ≡ state_after_shape debugger.old.machine.input (debugger_state_of debugger.old)
         (seek_back (changes_at debugger.old.machine.input question.now) (codes "CHANGE"))) }
+    ensures met { IfOk result (λ met. met ≡ is_met_back
+        (changes_at debugger.old.machine.input question.now) (position debugger.old.machine)
+        (position debugger.new.machine)) }
     ensures said { OnOk result (bytes.new.items ≡ bytes.old.items
         ++ shape_answer debugger.old.machine.input (debugger_state_of debugger.old)
         (seek_back (changes_at debugger.old.machine.input question.now) (codes "CHANGE"))) }
@@ -204,7 +211,8 @@ fn go_back_to_change<S: SetBoard>(
         (debugger_state_of debugger.new)) }
 {
     let met = back_to_change(*bytes.allocator(), debugger, question, GREATEST_BOUND)?;
-    debugger.push_movement(backward_word(debugger, b"CHANGE", met), bytes)
+    debugger.push_movement(backward_word(debugger, b"CHANGE", met), bytes)?;
+    Ok(met)
 }
 
 /// The steps of GO from position `from`: a number of them back or forward.
@@ -219,7 +227,8 @@ fn go_steps(from: u64, to: u64) -> Standing
     }
 }
 
-/// Makes a movement, and appends its whole answer to `bytes`.
+/// Makes a movement, and appends its whole answer to `bytes`. Says whether it ended at a change of its
+/// question, which RUN CHANGE and BACK CHANGE have.
 ///
 /// `AllocError` if a growth was refused: `bytes`, the break lines and the earliest kept position
 /// are as before. A movement forward was made in part, and the machine is at the position to which
@@ -229,10 +238,12 @@ pub fn make_movement<S: SetBoard>(
     debugger: &mut Debugger<S>,
     movement: Movement,
     bytes: &mut Vec<u8>,
-) -> Result<(), AllocError>
+) -> Result<bool, AllocError>
     ensures input { debugger.new.machine.input ≡ debugger.old.machine.input }
     ensures place { OnOk result (debugger_state_of debugger.new
         ≡ state_after debugger.old.machine.input (debugger_state_of debugger.old) movement) }
+    ensures met { IfOk result (λ met. met ≡ ends_at_change debugger.old.machine.input
+        (debugger_state_of debugger.old) movement) }
     ensures said { OnOk result (bytes.new.items ≡ bytes.old.items
         ++ answer debugger.old.machine.input (debugger_state_of debugger.old) movement) }
     ensures memory { OnErr result ((bytes.new.items ≡ bytes.old.items)
@@ -241,17 +252,18 @@ pub fn make_movement<S: SetBoard>(
 {
     let frames = frames(debugger);
     match movement {
-        Movement::Over(count) => go_over(debugger, count, bytes),
-        Movement::Out => go_ahead(debugger, Sought::Outside(frames), b"DONE", bytes),
-        Movement::BackOver(count) => go_back_over(debugger, count, bytes),
-        Movement::BackOut => go_back_to(debugger, Sought::Outside(frames), b"DONE", bytes),
-        Movement::BackTo(time) => go_back_to(debugger, Sought::Before(time), b"TIME", bytes),
+        Movement::RunChange(question) => return go_to_change(debugger, &question, bytes),
+        Movement::BackChange(question) => return go_back_to_change(debugger, &question, bytes),
+        Movement::Over(count) => go_over(debugger, count, bytes)?,
+        Movement::Out => go_ahead(debugger, Sought::Outside(frames), b"DONE", bytes)?,
+        Movement::BackOver(count) => go_back_over(debugger, count, bytes)?,
+        Movement::BackOut => go_back_to(debugger, Sought::Outside(frames), b"DONE", bytes)?,
+        Movement::BackTo(time) => go_back_to(debugger, Sought::Before(time), b"TIME", bytes)?,
         Movement::Go(position) => {
             let steps = go_steps(debugger.machine().position(), position);
-            make_standing(debugger, steps, bytes)
+            make_standing(debugger, steps, bytes)?
         }
-        Movement::GoEnd => go_to_end(debugger, bytes),
-        Movement::RunChange(question) => go_to_change(debugger, &question, bytes),
-        Movement::BackChange(question) => go_back_to_change(debugger, &question, bytes),
+        Movement::GoEnd => go_to_end(debugger, bytes)?,
     }
+    Ok(false)
 }

@@ -5,13 +5,11 @@ ghost use Rattle.ss_machine.specs.Moment.{position};
 ghost use Rattle.ss_debug.specs.Move.{line_at};
 ghost use Rattle.ss_debug.specs.Answer.{section_at};
 ghost use Rattle.ss_trace.specs.Question.{question_text};
-ghost use Rattle.ss_trace.specs.Value.{value_in};
 ghost use Rattle.ss_trace.specs.History.{to_right, to_left, row, head_of, head_row, no_change_head};
 ghost use Rattle.ss_trace.specs.History.{no_change_text, change_line};
 
 use crate::answer::push_asked;
 use crate::question::Question;
-use crate::value::push_value;
 use itoa::Buffer;
 use ss_debug::{Debugger, push_number};
 use ss_links::SetBoard;
@@ -173,25 +171,6 @@ pub fn push_row_of<S: SetBoard>(
     push_row(bytes, &cells, value)
 }
 
-/// Appends the row of the debugger's next step; `after` is the answer after the step.
-pub fn push_step_row<S: SetBoard>(
-    bytes: &mut Vec<u8>,
-    debugger: &Debugger<S>,
-    question: &Question,
-    after: &[u8],
-) -> Result<(), AllocError>
-    ensures { OnOk result (bytes.new.items ≡ bytes.old.items
-        ++ row (decimal (position debugger.now.machine))
-        (signed_decimal debugger.now.machine.state.clock)
-        (section_at debugger.now.machine.input (position debugger.now.machine))
-        (decimal (line_at debugger.now.machine.input (position debugger.now.machine)))
-        (value_in question.now after.now)) }
-{
-    let mut value = Vec::new(*bytes.allocator());
-    push_value(question, after, &mut value)?;
-    push_row_of(bytes, debugger, &value)
-}
-
 /// The earliest kept position.
 fn earliest<S: SetBoard>(debugger: &Debugger<S>) -> u64
     ensures { result ≡ debugger.now.machine.forgotten }
@@ -229,7 +208,7 @@ pub fn push_no_change<S: SetBoard>(
     bytes.extend_from_slice(b"\n")
 }
 
-/// Appends a line of a question with its values before and after, by its answers.
+/// Appends a line of a question with its values before and after.
 pub fn push_change_line(
     bytes: &mut Vec<u8>,
     question: &Question,
@@ -237,14 +216,13 @@ pub fn push_change_line(
     after: &[u8],
 ) -> Result<(), AllocError>
     ensures { OnOk result (bytes.new.items ≡ bytes.old.items
-        ++ change_line (codes "CHANGED") (question_text question.now) (value_in question.now before.now)
-        (value_in question.now after.now)) }
+        ++ change_line (codes "CHANGED") (question_text question.now) before.now after.now) }
 {
     bytes.extend_from_slice(b"CHANGED ")?;
     push_asked(question, bytes)?;
     bytes.extend_from_slice(b": ")?;
-    push_value(question, before, bytes)?;
+    bytes.extend_from_slice(before)?;
     bytes.extend_from_slice(b" -> ")?;
-    push_value(question, after, bytes)?;
+    bytes.extend_from_slice(after)?;
     bytes.extend_from_slice(b"\n")
 }

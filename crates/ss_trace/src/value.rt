@@ -1,67 +1,29 @@
-//! The value that an answer gives, in one line.
-ghost use Rattle.std.specs.Prelude.{◌≡◌, ◌++◌, ◌≤◌, OnOk, drop, length, nat_eq};
-ghost use Rattle.std.specs.List.{position_or_len};
+//! The value of a question in the present state, in one line.
+ghost use Rattle.std.specs.Prelude.{◌≡◌, ◌++◌, ◌<◌, length, decimal, OnOk, IfSome};
+ghost use Rattle.std.specs.Option.{option_map};
+ghost use Rattle.std.specs.Fmt.{signed_decimal};
+ghost use Rattle.ss_program.specs.Program.{set_of};
+ghost use Rattle.ss_events.specs.Rules.{rules_of};
+ghost use Rattle.ss_events.specs.Agenda.{in_order};
+ghost use Rattle.ss_machine.specs.Moment.{position};
+ghost use Rattle.ss_debug.specs.Entities.{class_named, set_named, members_text};
 ghost use Rattle.ss_trace.specs.declared.question.Question.TheVariants as questions;
-ghost use Rattle.ss_trace.specs.Value.{says_none, behind, without_end, joined_lines, joined_byte, or_lives};
-ghost use Rattle.ss_trace.specs.Value.{report_value, told_value, value_in};
+ghost use Rattle.ss_debug.specs.declared.commands.Question.TheVariants as shown;
+ghost use Rattle.ss_trace.specs.Value.{joined_lines, joined_byte, or_lives, entity_value, existing, list_owner};
+ghost use Rattle.ss_trace.specs.Value.{list_asked, members_asked, attribute_asked, pending_value};
+ghost use Rattle.ss_trace.specs.Value.{report_value, or_none, value_at};
 
+use crate::attribute::attribute_named;
+use crate::count::member_count;
 use crate::question::Question;
-use ss_debug::{Question as Shown, push_number};
+use ss_debug::{
+    Debugger, Question as Shown, class_value, find_class, find_set, find_variable, push_entity,
+    push_entry, push_integer, push_list, push_moment, push_notices, push_number, push_place,
+};
+use ss_links::SetBoard;
+use ss_machine::Machine;
+use ss_program::Owner;
 use std::alloc::AllocError;
-
-/// How many bytes come before the report in the answer that shows it.
-const REPORT_HEAD: usize = 7;
-
-/// Whether an answer says that there is no such thing.
-fn says_none(answer: &[u8]) -> bool
-    ensures { result ≡ says_none answer.now }
-{
-    answer.starts_with(b"NO CLASS ")
-        || answer.starts_with(b"NO ENTITY ")
-        || answer.starts_with(b"NO ATTRIBUTE ")
-        || answer.starts_with(b"NO SET ")
-        || answer.starts_with(b"NO VARIABLE ")
-        || answer.starts_with(b"NO EVENTS")
-}
-
-/// The place of the first of these bytes, or the length.
-#[tactic(auto, using(std::proofs::lemmas::List::Sums::position_or_len_is))]
-fn place_of(byte: u8, text: &[u8]) -> usize
-    ensures place { result ≡ position_or_len (nat_eq byte) text.now }
-    ensures within { result ≤ length text.now }
-{
-    for (i, b) in text.iter().enumerate() {
-        if byte == *b {
-            return i;
-        }
-    }
-    text.len()
-}
-
-/// The text after the first of these bytes; nothing if there is none.
-fn behind(byte: u8, text: &[u8]) -> &[u8]
-    ensures { result.now ≡ behind byte text.now }
-{
-    let place = place_of(byte, text);
-    if place == text.len() {
-        return &text[place..];
-    }
-    &text[place + 1..]
-}
-
-/// A text without its last byte.
-fn without_end(text: &[u8]) -> &[u8]
-    ensures { result.now ≡ without_end text.now }
-{
-    &text[..text.len().saturating_sub(1)]
-}
-
-/// A text without its first byte.
-fn without_first(text: &[u8]) -> &[u8]
-    ensures { result.now ≡ drop 1 text.now }
-{
-    &text[text.len().min(1)..]
-}
 
 /// Appends a byte of lines that are joined; `rest` is the bytes after it.
 fn push_joined_byte(bytes: &mut Vec<u8>, byte: u8, rest: &[u8]) -> Result<(), AllocError>
@@ -100,46 +62,236 @@ fn push_joined_or_lives(bytes: &mut Vec<u8>, lines: &[u8]) -> Result<(), AllocEr
     Ok(())
 }
 
-/// Appends how long the report is that an answer shows.
-fn push_report_value(bytes: &mut Vec<u8>, answer: &[u8]) -> Result<(), AllocError>
-    ensures { OnOk result (bytes.new.items ≡ bytes.old.items ++ report_value answer.now) }
+/// Appends a number, or `NONE`.
+fn push_number_or_none(bytes: &mut Vec<u8>, number: Option<i64>) -> Result<(), AllocError>
+    ensures { OnOk result (bytes.new.items
+        ≡ bytes.old.items ++ or_none (option_map signed_decimal number)) }
 {
-    push_number(bytes, answer.len().saturating_sub(REPORT_HEAD) as u64)?;
+    match number {
+        Some(number) => push_integer(bytes, number),
+        None => bytes.extend_from_slice(b"NONE"),
+    }
+}
+
+/// Appends the value of the variable that a name means.
+fn push_variable<S: SetBoard>(
+    bytes: &mut Vec<u8>,
+    machine: &Machine<S>,
+    name: &[u8],
+) -> Result<(), AllocError>
+    ensures { OnOk result (bytes.new.items ≡ bytes.old.items
+        ++ value_at machine.now.input (questions.Shown (shown.Variable name.now))
+        (position machine.now)) }
+{
+    machine.known();
+    match find_variable(machine, name) {
+        Some(variable) => push_integer(bytes, machine.variable(variable)),
+        None => bytes.extend_from_slice(b"NONE"),
+    }
+}
+
+/// Appends the lines of an entity in one.
+fn push_entity_value<S: SetBoard>(
+    bytes: &mut Vec<u8>,
+    machine: &Machine<S>,
+    class: Option<usize>,
+    x: i64,
+) -> Result<(), AllocError>
+    ensures { OnOk result (bytes.new.items ≡ bytes.old.items
+        ++ or_none (entity_value machine.now.input.program machine.now.state.store x class)) }
+{
+    let Some(class) = class else {
+        return bytes.extend_from_slice(b"NONE");
+    };
+    if !machine.store().exists(class, x) {
+        return bytes.extend_from_slice(b"NONE");
+    }
+    let mut lines = Vec::new(*bytes.allocator());
+    push_entity(&mut lines, machine, class, x)?;
+    push_joined_or_lives(bytes, &lines)
+}
+
+/// The owner that a number names, if it is an entity of this class.
+fn existing<S: SetBoard>(machine: &Machine<S>, class: usize, x: i64) -> Option<i64>
+    ensures { result ≡ existing machine.now.state.store class x }
+{
+    if machine.store().exists(class, x) {
+        return Some(x);
+    }
+    None
+}
+
+/// The owner of the list of a set that is asked for, if it exists; 0 for the system.
+fn list_owner<S: SetBoard>(machine: &Machine<S>, set: usize, owner: Option<i64>) -> Option<i64>
+    requires { set < length machine.now.input.program.sets }
+    ensures { result ≡ list_owner owner machine.now.input.program machine.now.state
+        (set_of machine.now.input.program set).owner }
+{
+    let program = machine.program();
+    program.known();
+    match program.set_owner(set) {
+        Owner::System => match owner {
+            Some(_) => None,
+            None => Some(0),
+        },
+        Owner::OwnedBy(class) => {
+            let x = owner.unwrap_or(class_value(machine, class));
+            existing(machine, class, x)
+        }
+    }
+}
+
+/// The set of this name and the owner of its list that is asked for, if both exist.
+fn list_asked<S: SetBoard>(
+    machine: &Machine<S>,
+    name: &[u8],
+    owner: Option<i64>,
+) -> Option<(usize, i64)>
+    ensures asked { result ≡ list_asked owner machine.now.input.program machine.now.state
+        (set_named machine.now.input.program name.now) }
+    ensures within { IfSome result (λ list. list.0 < length machine.now.input.program.sets) }
+{
+    let set = find_set(machine.program(), name)?;
+    let owner = list_owner(machine, set, owner)?;
+    Some((set, owner))
+}
+
+/// Appends the members of a list, or `NONE`.
+fn push_members<S: SetBoard>(
+    bytes: &mut Vec<u8>,
+    machine: &Machine<S>,
+    list: Option<(usize, i64)>,
+) -> Result<(), AllocError>
+    requires { IfSome list (λ l. l.0 < length machine.now.input.program.sets) }
+    ensures { OnOk result (bytes.new.items ≡ bytes.old.items
+        ++ or_none (option_map (λ l. members_text (members_asked machine.now.input.program
+        machine.now.state.store l)) list)) }
+{
+    match list {
+        Some((set, owner)) => push_list(bytes, machine, set, owner),
+        None => bytes.extend_from_slice(b"NONE"),
+    }
+}
+
+/// Appends how many members a list has, or `NONE`.
+fn push_member_count<S: SetBoard>(
+    bytes: &mut Vec<u8>,
+    machine: &Machine<S>,
+    list: Option<(usize, i64)>,
+) -> Result<(), AllocError>
+    requires { IfSome list (λ l. l.0 < length machine.now.input.program.sets) }
+    ensures { OnOk result (bytes.new.items ≡ bytes.old.items
+        ++ or_none (option_map (λ l. decimal (length (members_asked machine.now.input.program
+        machine.now.state.store l))) list)) }
+{
+    match list {
+        Some((set, owner)) => push_number(bytes, u64::from(member_count(machine, set, owner))),
+        None => bytes.extend_from_slice(b"NONE"),
+    }
+}
+
+/// The attribute of this name of an entity, if both exist.
+fn attribute_asked<S: SetBoard>(
+    machine: &Machine<S>,
+    class: &[u8],
+    x: i64,
+    name: &[u8],
+) -> Option<i64>
+    ensures { result ≡ attribute_asked machine.now.input.program machine.now.state.store x name.now
+        (class_named machine.now.input.program class.now) }
+{
+    let class = find_class(machine.program(), class)?;
+    if !machine.store().exists(class, x) {
+        return None;
+    }
+    attribute_named(machine, class, x, name)
+}
+
+/// Appends the lines of the pending notices in one, or `NONE`.
+#[tactic(auto, using(crate::proofs::Values::none_pending, crate::proofs::Values::some_pending))]
+fn push_pending<S: SetBoard>(bytes: &mut Vec<u8>, machine: &Machine<S>) -> Result<(), AllocError>
+    ensures { OnOk result (bytes.new.items ≡ bytes.old.items
+        ++ or_none (pending_value machine.now.input.program
+        (in_order (rules_of machine.now.input.program) machine.now.state.agenda))) }
+{
+    let mut lines = Vec::new(*bytes.allocator());
+    if push_notices(&mut lines, machine)? == 0 {
+        return bytes.extend_from_slice(b"NONE");
+    }
+    push_joined(bytes, &lines)
+}
+
+/// Appends how long the report is.
+fn push_report_value(bytes: &mut Vec<u8>, report: &[u8]) -> Result<(), AllocError>
+    ensures { OnOk result (bytes.new.items ≡ bytes.old.items ++ report_value report.now) }
+{
+    push_number(bytes, report.len() as u64)?;
     bytes.extend_from_slice(b" BYTES")
 }
 
-/// Appends the value that an answer to a question of the debugger gives.
-fn push_shown_value(shown: &Shown, answer: &[u8], bytes: &mut Vec<u8>) -> Result<(), AllocError>
+/// Appends the position, the clock, the status and the place of the present state.
+fn push_where<S: SetBoard>(bytes: &mut Vec<u8>, machine: &Machine<S>) -> Result<(), AllocError>
     ensures { OnOk result (bytes.new.items ≡ bytes.old.items
-        ++ told_value (questions.Shown shown.now) answer.now) }
+        ++ value_at machine.now.input (questions.Shown shown.Where) (position machine.now)) }
 {
-    let line = without_end(answer);
-    match shown {
-        Shown::Where => bytes.extend_from_slice(line),
-        Shown::Clock | Shown::Taken | Shown::Entry => bytes.extend_from_slice(behind(b' ', line)),
-        Shown::Variable(_) => bytes.extend_from_slice(without_first(behind(b'=', line))),
-        Shown::Set(_, _) => bytes.extend_from_slice(without_first(behind(b':', line))),
-        Shown::Entity(_, _) => push_joined_or_lives(bytes, behind(b'\n', answer)),
-        Shown::Events => push_joined(bytes, answer),
-        Shown::Report => push_report_value(bytes, answer),
+    push_moment(bytes, machine)?;
+    push_place(bytes, machine)
+}
+
+/// Appends the value of a question of the debugger in a machine's present state.
+fn push_shown_value<S: SetBoard>(
+    bytes: &mut Vec<u8>,
+    machine: &Machine<S>,
+    question: &Shown,
+) -> Result<(), AllocError>
+    ensures { OnOk result (bytes.new.items ≡ bytes.old.items
+        ++ value_at machine.now.input (questions.Shown question.now) (position machine.now)) }
+{
+    machine.known();
+    match question {
+        Shown::Clock => push_integer(bytes, machine.clock()),
+        Shown::Where => push_where(bytes, machine),
+        Shown::Variable(name) => push_variable(bytes, machine, name.as_slice()),
+        Shown::Entity(name, x) => {
+            push_entity_value(
+                bytes,
+                machine,
+                find_class(machine.program(), name.as_slice()),
+                *x,
+            )
+        }
+        Shown::Set(name, owner) => {
+            push_members(bytes, machine, list_asked(machine, name.as_slice(), *owner))
+        }
+        Shown::Events => push_pending(bytes, machine),
+        Shown::Taken => push_number(bytes, machine.taken() as u64),
+        Shown::Entry => push_entry(bytes, machine.program(), machine.entry()),
+        Shown::Report => push_report_value(bytes, machine.report()),
     }
 }
 
-/// Appends the value that the answer to a question gives, in one line; `NONE` if it says that there
-/// is no such thing.
+/// Appends the value of a question in the state that a debugger shows, in one line; `NONE` if what
+/// it asks for does not exist (docs/PROMPT.md, "Which step changed it").
 ///
 /// `AllocError` if a growth was refused; then the appended bytes do not count.
-pub fn push_value(question: &Question, answer: &[u8], bytes: &mut Vec<u8>) -> Result<(), AllocError>
+pub fn push_value<S: SetBoard>(
+    debugger: &Debugger<S>,
+    question: &Question,
+    bytes: &mut Vec<u8>,
+) -> Result<(), AllocError>
     ensures { OnOk result (bytes.new.items ≡ bytes.old.items
-        ++ value_in question.now answer.now) }
+        ++ value_at debugger.now.machine.input question.now (position debugger.now.machine)) }
 {
-    if says_none(answer) {
-        return bytes.extend_from_slice(b"NONE");
-    }
-    let line = without_end(answer);
+    let machine = debugger.machine();
+    machine.known();
     match question {
-        Question::Shown(shown) => push_shown_value(shown, answer, bytes),
-        Question::Attribute(_, _, _) => bytes.extend_from_slice(without_first(behind(b'=', line))),
-        Question::Count(_, _) => bytes.extend_from_slice(without_first(behind(b':', line))),
+        Question::Shown(shown) => push_shown_value(bytes, machine, shown),
+        Question::Attribute(class, x, name) => {
+            let value = attribute_asked(machine, class.as_slice(), *x, name.as_slice());
+            push_number_or_none(bytes, value)
+        }
+        Question::Count(name, owner) => {
+            push_member_count(bytes, machine, list_asked(machine, name.as_slice(), *owner))
+        }
     }
 }

@@ -1,83 +1,28 @@
-use Rattle.std.proofs.Common.{◌≡◌, ◌++◌, ◌<◌, ◌+◌, arith, refl}
-use Rattle.std.proofs.lemmas.Option.{slice_get_within}
+use Rattle.std.proofs.Common.{◌≡◌, ◌≢◌, length, sym, ◌∙◌}
 use Rattle.ss_machine.specs.Moment.{position}
-use Rattle.ss_events.specs.State.{order}
-use Rattle.ss_events.specs.Slots.{slot_of}
-use Rattle.ss_debug.specs.Answer.{notice_line, notice_lines}
-use Rattle.ss_debug.proofs.Pendings.{listed, slot_is, line_more, all_lines, nothing_pending, some_pending, events_are}
+use Rattle.ss_events.specs.Rules.{rules_of}
+use Rattle.ss_events.specs.Agenda.{in_order}
+use Rattle.ss_debug.proofs.Pendings.{nothing_pending, some_pending, events_are}
 use Rattle.ss_debug.proofs.events_text.events_text.Goals as goal
 
-pub slot-requires : goal.slot-requires
-slot-requires g c =
-    let a = c.agenda-agenda.result.now in
-    let k =
-    listed a.rules a.agenda c.loop-notice.listing.listed c.in-Some.notice c.known-2.ensures
-    c.in-Some.ensures.notice in
-    k.number
-
-pub unwrap-slot-requires : goal.unwrap-slot-requires
-unwrap-slot-requires g c =
-    let a = c.agenda-agenda.result.now in
-    let k =
-    listed a.rules a.agenda c.loop-notice.listing.listed c.in-Some.notice c.known-2.ensures
-    c.in-Some.ensures.notice in
-    rw (c.slot.ensures, k.pending) refl
-
-pub loop-notice-smaller : goal.loop-notice-smaller
-loop-notice-smaller g c =
-    let a = c.agenda-agenda.result.now in
-    let k =
-    listed a.rules a.agenda c.loop-notice.listing.listed c.in-Some.notice c.known-2.ensures
-    c.in-Some.ensures.notice in
-    let below = slice_get_within (order a) c.loop-notice.listing.listed k.entry k.at in
-    let more : c.list_next.new.listing.listed ≡ c.loop-notice.listing.listed + 1 = c.in-Some.ensures.count in
-    omega (arith, below, more)
-
-pub loop-notice-preserved : goal.loop-notice-preserved
-loop-notice-preserved g c =
-    let a = c.agenda-agenda.result.now in
-    let p = c.args.machine.now.input.program in
-    let k =
-    listed a.rules a.agenda c.loop-notice.listing.listed c.in-Some.notice c.known-2.ensures
-    c.in-Some.ensures.notice in
-    let below = slice_get_within (order a) c.loop-notice.listing.listed k.entry k.at in
-    let more : c.list_next.new.listing.listed ≡ c.loop-notice.listing.listed + 1 = c.in-Some.ensures.count in
-    let slot : c.unwrap-slot.result ≡ slot_of k.entry =
-    slot_is c.slot.result _ k.entry c.unwrap-slot.result c.slot.ensures k.pending c.unwrap-slot.ensures in
-    let line : c.push_notice.new.text.items
-    ≡ c.loop-notice.text.items ++ notice_line p k.entry.notice (slot_of k.entry) =
-    rw (← slot, ← k.notice, ← c.program.ensures) c.in_ok-push_notice.ensures in
-    record {
-      listing = c.in-Some.ensures.listing;
-      within = omega (arith, below, more);
-      lines =
-          line_more p (order a) c.loop-notice.listing.listed c.list_next.new.listing.listed k.entry _ _ _ k.at more
-          c.loop-notice.invariant.lines line;
-    }
-
-pub returns-then-listing-eq0 : goal.returns-then-listing-eq0
-returns-then-listing-eq0 g c =
-    let a = c.agenda-agenda.result.now in
+pub returns-then-count-eq0 : goal.returns-then-count-eq0
+returns-then-count-eq0 g c =
     let m = c.args.machine.now in
-    let start : c.loop-notice.listing.listed ≡ 0 = omega (arith, c.in_default.ensures.count, c.if-listing-eq0.true) in
-    let none =
-    nothing_pending m.input.program (order a) c.loop-notice.listing.listed start c.in_default.ensures.notice in
-    let text =
-    events_are m.input (position m) m.state a.rules a.agenda c.known.ensures.state c.agenda-agenda.ensures.state
-    c.agenda-agenda.ensures.rules in
-    rw (text, none) c.from_slice.ensures.items
+    let none : length (in_order (rules_of m.input.program) m.state.agenda) ≡ 0 =
+    sym c.in_ok-count.ensures.count ∙ c.if-count-eq0.true in
+    rw (
+      events_are m.input (position m) m.state c.known.ensures.state,
+      nothing_pending m.input.program (in_order (rules_of m.input.program) m.state.agenda) none,
+    )
+    c.from_slice.ensures.items
 
 pub returns : goal.returns
 returns g c =
-    let a = c.agenda-agenda.result.now in
     let m = c.args.machine.now in
-    let p = m.input.program in
-    let lines =
-    all_lines p (order a) c.loop-notice.listing.listed c.loop-notice.text.items (notice_lines p (order a))
-    c.in_default.ensures.notice c.loop-notice.invariant.lines in
-    let some : 0 < c.loop-notice.listing.listed = omega (arith, c.in_default.ensures.count, c.if-listing-eq0.false) in
-    let all = some_pending p (order a) c.loop-notice.listing.listed some c.loop-notice.invariant.within in
-    let text =
-    events_are m.input (position m) m.state a.rules a.agenda c.known.ensures.state c.agenda-agenda.ensures.state
-    c.agenda-agenda.ensures.rules in
-    rw (text, all) lines
+    let some : length (in_order (rules_of m.input.program) m.state.agenda) ≢ 0 =
+    λ e. c.if-count-eq0.false (c.in_ok-count.ensures.count ∙ e) in
+    rw (
+      events_are m.input (position m) m.state c.known.ensures.state,
+      some_pending m.input.program (in_order (rules_of m.input.program) m.state.agenda) some,
+    )
+    (rw c.new-text.ensures.items at c.in_ok-count.ensures.lines)

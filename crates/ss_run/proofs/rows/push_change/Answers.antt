@@ -1,4 +1,5 @@
-use Rattle.std.proofs.Common.{◌≡◌, ◌+◌, ◌++◌, ◌∙◌, [], true, false, sym, ap, append-nil, rules}
+use Rattle.std.proofs.Common.{◌≡◌, ℕ, ◌+◌, ◌++◌, ◌∙◌, [], true, false, sym, ap, append-nil, rules}
+use Rattle.ss_machine.specs.Moment.{position}
 use Rattle.ss_run.specs.Kept.{kept_in, kept_value}
 use Rattle.ss_run.specs.Watched.{watched_changes, watched_value}
 use Rattle.ss_run.specs.WatchedView.{watched_view}
@@ -25,7 +26,9 @@ returns-clause-row g c =
     let f = kept_in c.follow.new.self in
     let other : watched_changes t x p ≡ true = sym c.in_ok-follow.ensures.changed ∙ c.if-not-branch.false in
     let value : c.push_value.new.bytes.items ≡ watched_value t x (p + 1) =
-    c.in_ok-push_value.ensures ∙ ap (λ text. text ++ kept_value x f) c.new-value.ensures.items
+    c.in_ok-push_value.ensures
+    ∙ ap (λ text. text ++ kept_value t (position c.args.debugger.now.machine) x f) c.new-value.ensures.items
+    ∙ ap (λ (q : ℕ). kept_value t q x f) c.requires.step
     ∙ kept_value_is t x (p + 1) f c.in_ok-follow.ensures.kept in
     let row : c.in_ok-row.row.items ≡ row_of t.program c.args.here x c.deref.result.now =
     rw (c.program.ensures, c.machine.ensures) at c.in_ok-row.ensures in

@@ -10,7 +10,7 @@ use Rattle.ss_trace.specs.Touches.{touched_at, part_of}
 use Rattle.ss_trace.specs.Reading.{IsReadAt}
 use Rattle.ss_trace.specs.View.{HasLookedBack}
 use Rattle.ss_trace.proofs.Changes.{same_turned, changes_between}
-use Rattle.ss_trace.proofs.Histories.{none_before, passed, found, found_before}
+use Rattle.ss_trace.proofs.Histories.{none_before, passed, found}
 use Rattle.ss_trace.proofs.Looking.{looked_nowhere, looked_further}
 use Rattle.ss_trace.proofs.Glances.{same_is, unseen}
 use Rattle.ss_trace.proofs.SameNumbers.{numbers_left, counted_left, entity_seen}
@@ -115,14 +115,14 @@ loop-debugger-preserved g c =
     looked_further c.args.debugger.now l u held.gone gone c.loop-debugger-test.ensures.breaks
     (sym c.is_ready_now.ensures ∙ c.if-not-is_ready_now.false) in
     let followed : IsReadAt m.input x (position u.machine) c.follow.new.self =
-    rw (gone.input, held.gone.input) at c.in_ok-after.ensures.ok in
+    rw (gone.input, held.gone.input) at c.in_ok-follow.ensures.ok in
     let behind : c.loop-debugger.reading.answer.items ≡ answer_at m.input x (position u.machine + 1) =
     held.reading.answer ∙ ap (λ (q : ℕ). answer_at m.input x q) back in
     let no : changes_at m.input x (position u.machine) ≡ false =
     changes_between m.input x (position u.machine) c.follow.new.self.answer.items c.loop-debugger.reading.answer.items
     followed.answer behind
     ∙ ap not (same_turned c.follow.new.self.answer.items c.loop-debugger.reading.answer.items)
-    ∙ sym c.in_ok-after.ensures.whether ∙ sym c.is_some.ensures ∙ c.if-is_some.false in
+    ∙ sym c.in_ok-follow.ensures.whether ∙ sym c.is_some.ensures ∙ c.if-is_some.false in
     record {
       gone = further;
       reading = followed;
@@ -130,8 +130,13 @@ loop-debugger-preserved g c =
           (omega (arith, further.forgotten)) no;
     }
 
+pub returns-then-is_some-clause-moved : goal.returns-then-is_some-clause-moved
+returns-then-is_some-clause-moved g c = λ e.
+    let back = c.loop-debugger-test.ensures.back.position in
+    omega (arith, back, c.loop-debugger.invariant.gone.no_later)
+
 pub returns-then-is_some-clause-found : goal.returns-then-is_some-clause-found
-returns-then-is_some-clause-found g c =
+returns-then-is_some-clause-found g c = λ e.
     let m = c.args.debugger.now.machine in
     let l = c.loop-debugger.debugger in
     let u = c.step_back.new.self in
@@ -140,21 +145,19 @@ returns-then-is_some-clause-found g c =
     let gone = c.loop-debugger-test.ensures.back in
     let back : position l.machine ≡ position u.machine + 1 = gone.position in
     let followed : IsReadAt m.input x (position u.machine) c.follow.new.self =
-    rw (gone.input, held.gone.input) at c.in_ok-after.ensures.ok in
+    rw (gone.input, held.gone.input) at c.in_ok-follow.ensures.ok in
     let behind : c.loop-debugger.reading.answer.items ≡ answer_at m.input x (position u.machine + 1) =
     held.reading.answer ∙ ap (λ (q : ℕ). answer_at m.input x q) back in
     let yes : changes_at m.input x (position u.machine) ≡ true =
     changes_between m.input x (position u.machine) c.follow.new.self.answer.items c.loop-debugger.reading.answer.items
     followed.answer behind
     ∙ ap not (same_turned c.follow.new.self.answer.items c.loop-debugger.reading.answer.items)
-    ∙ sym c.in_ok-after.ensures.whether ∙ sym c.is_some.ensures ∙ c.if-is_some.true in
-    found_before c.in_ok-after.after c.loop-debugger.reading.answer.items _ _ _ _
-    (sym c.is_some.ensures ∙ c.if-is_some.true) c.in_ok-after.ensures.changed behind
-    (held.left ∙ found (changes_at m.input x) m.forgotten (position l.machine) (position u.machine) back
-    (omega (arith, gone.forgotten, held.gone.forgotten)) yes)
+    ∙ sym c.in_ok-follow.ensures.whether ∙ sym c.is_some.ensures ∙ c.if-is_some.true in
+    held.left ∙ found (changes_at m.input x) m.forgotten (position l.machine) (position u.machine) back
+    (omega (arith, gone.forgotten, held.gone.forgotten)) yes
 
-pub returns-clause-found : goal.returns-clause-found
-returns-clause-found g c =
+pub returns-clause-none : goal.returns-clause-none
+returns-clause-none g c = λ e.
     let m = c.args.debugger.now.machine in
     let l = c.loop-debugger.debugger in
     let held = c.loop-debugger.invariant in

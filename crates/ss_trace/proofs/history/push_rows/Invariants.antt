@@ -1,5 +1,6 @@
 use Rattle.std.proofs.Common.{◌≡◌, ◌+◌, ◌-◌, ◌≤◌, ◌++◌, take, length}
 use Rattle.ss_machine.specs.Moment.{position}
+use Rattle.ss_state.specs.declared.limits.TheConstants.{LAST_POSITION}
 use Rattle.ss_trace.specs.History.{history, step_rows}
 use Rattle.ss_trace.specs.View.{HasLookedBack}
 use Rattle.ss_trace.specs.Reading.{IsReadAt}
@@ -9,6 +10,7 @@ abbrev pub invariant-loop-count : goal.invariant-loop-count
 invariant-loop-count g l = record {
   gone : HasLookedBack l.initial.debugger l.debugger;
   few : l.count ≤ l.most;
+  last : position l.initial.debugger.machine ≤ LAST_POSITION;
   reading : IsReadAt l.initial.debugger.machine.input l.question (position l.debugger.machine) l.reading;
   rows : l.bytes.items
       ++ step_rows l.initial.debugger.machine.input l.question
