@@ -4,4 +4,3 @@ pub mod Numbers
 pub mod Members
 pub mod LivingNumbers
 pub mod Shapes
-pub mod Telling

@@ -18,7 +18,7 @@ mod places;
 mod tables;
 mod texts;
 
-pub use attribute::{line_telling, push_by_variable, variable_value};
+pub use attribute::{push_by_variable, variable_value};
 pub use entities::{count_living, living_numbers, push_living};
 pub use laws::the_living_are_those_that_exist;
 pub use overview::{Overview, push_overview};

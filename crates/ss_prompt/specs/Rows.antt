@@ -1,6 +1,7 @@
 -- Rows of entities: some attributes of each, in one line.
 use Rattle.std.specs.Prelude.{ℕ, ℤ, pos, List, [], ◌∷◌, ◌++◌, codes, decimal, if◌then◌else◌}
-use Rattle.std.specs.Prelude.{Option, Some, None, unwrap_or}
+use Rattle.std.specs.Prelude.{Option, Some, None}
+use Rattle.std.specs.Fmt.{signed_decimal}
 use Rattle.ss_program.specs.Program.{ProgramTable, class_of, set_of}
 use Rattle.ss_program.specs.declared.kinds.Owner.{Owner}
 use Rattle.ss_program.specs.declared.kinds.Owner.TheVariants.{System, OwnedBy}
@@ -11,31 +12,36 @@ use Rattle.ss_events.specs.Agenda.{Pending, in_order}
 use Rattle.ss_events.specs.Slots.{slot_of}
 use Rattle.ss_state.specs.State.{State}
 use Rattle.ss_state.specs.Run.{Input, run}
-use Rattle.ss_debug.specs.Entities.{class_named, set_named, shape_of, owner_or_variable, entity_lines, set_text}
-use Rattle.ss_inspect.specs.Attribute.{line_telling}
+use Rattle.ss_debug.specs.Entities.{class_named, set_named, shape_of, owner_or_variable, set_text}
+use Rattle.ss_trace.specs.Question.{attribute_named}
 use Rattle.ss_inspect.specs.Living.{living_numbers, living_text}
 
 -- ---- a row
 
--- an attribute of an entity with these lines, as SHOW c k gives it; nothing if none of them gives it
-abbrev pub cell : List ℕ → List ℕ → List ℕ
-cell lines name = unwrap_or (line_telling name lines) []
+-- an attribute and its value; nothing if there is none of this name
+abbrev pub cell : List ℕ → Option ℤ → List ℕ
+cell name None = []
+cell name (Some value) = name ++ codes " = " ++ signed_decimal value
+
+-- the attribute of this name of entity number k of class c
+abbrev pub cell_of : ProgramTable → Store → ℕ → ℕ → List ℕ → List ℕ
+cell_of program store c k name = cell name (attribute_named program store c k name)
 
 -- attributes, each after a comma
-abbrev pub further_cells : List ℕ → List (List ℕ) → List ℕ
-further_cells lines [] = []
-further_cells lines (a ∷ more) = codes ", " ++ cell lines a ++ further_cells lines more
+abbrev pub further_cells : ProgramTable → Store → ℕ → ℕ → List (List ℕ) → List ℕ
+further_cells program store c k [] = []
+further_cells program store c k (a ∷ more) =
+    codes ", " ++ cell_of program store c k a ++ further_cells program store c k more
 
 -- attributes in the order of their names, a comma between
-abbrev pub cells : List ℕ → List (List ℕ) → List ℕ
-cells lines [] = []
-cells lines (a ∷ more) = cell lines a ++ further_cells lines more
+abbrev pub cells : ProgramTable → Store → ℕ → ℕ → List (List ℕ) → List ℕ
+cells program store c k [] = []
+cells program store c k (a ∷ more) = cell_of program store c k a ++ further_cells program store c k more
 
 -- these attributes of entity number k of class c, after its class and its number
 abbrev pub row : ProgramTable → Store → ℕ → List (List ℕ) → ℕ → List ℕ
 row program store c names k =
-    (class_of program c).name ++ codes " " ++ decimal k ++ codes ": "
-    ++ cells (entity_lines program store c k) names ++ 10 ∷ []
+    (class_of program c).name ++ codes " " ++ decimal k ++ codes ": " ++ cells program store c k names ++ 10 ∷ []
 
 -- a row for each of some entities, in their order
 abbrev pub rows : ProgramTable → Store → ℕ → List (List ℕ) → List ℕ → List ℕ

@@ -4,34 +4,46 @@ ghost use Rattle.ss_machine.specs.Moment.{position};
 ghost use Rattle.ss_prompt.specs.Rows.{further_cells, cells, row_if_any, notice_row, notice_rows_text};
 
 use crate::rows::{push_cell, push_row_head};
-use ss_debug::push_entity;
 use ss_events::Slot;
 use ss_links::SetBoard;
 use ss_machine::Machine;
 use ss_program::Name;
 use std::alloc::AllocError;
 
-/// Appends attributes, each after a comma.
-fn push_further_cells(text: &mut Vec<u8>, lines: &[u8], names: &[Name]) -> Result<(), AllocError>
-    ensures { OnOk result (text.new.items
-        ≡ text.old.items ++ further_cells lines.now names.now) }
+/// Appends attributes of a notice, each after a comma.
+fn push_further_cells<S: SetBoard>(
+    text: &mut Vec<u8>,
+    machine: &Machine<S>,
+    class: usize,
+    notice: u32,
+    names: &[Name],
+) -> Result<(), AllocError>
+    ensures { OnOk result (text.new.items ≡ text.old.items
+        ++ further_cells machine.now.input.program machine.now.state.store class notice names.now) }
 {
     for name in names {
         text.extend_from_slice(b", ")?;
-        push_cell(text, lines, &name.bytes)?;
+        push_cell(text, machine, class, notice, &name.bytes)?;
     }
     Ok(())
 }
 
-/// Appends attributes, a comma between.
-fn push_cells(text: &mut Vec<u8>, lines: &[u8], names: &[Name]) -> Result<(), AllocError>
-    ensures { OnOk result (text.new.items ≡ text.old.items ++ cells lines.now names.now) }
+/// Appends attributes of a notice, a comma between.
+fn push_cells<S: SetBoard>(
+    text: &mut Vec<u8>,
+    machine: &Machine<S>,
+    class: usize,
+    notice: u32,
+    names: &[Name],
+) -> Result<(), AllocError>
+    ensures { OnOk result (text.new.items ≡ text.old.items
+        ++ cells machine.now.input.program machine.now.state.store class notice names.now) }
 {
     let Some(name) = names.first() else {
         return Ok(());
     };
-    push_cell(text, lines, &name.bytes)?;
-    push_further_cells(text, lines, &names[1..])
+    push_cell(text, machine, class, notice, &name.bytes)?;
+    push_further_cells(text, machine, class, notice, &names[1..])
 }
 
 /// Appends the row of a pending notice with the attributes of its class; nothing if that has none.
@@ -49,10 +61,8 @@ fn push_notice_row<S: SetBoard>(
     if names.is_empty() {
         return Ok(());
     }
-    let mut lines = Vec::new(*text.allocator());
-    push_entity(&mut lines, machine, slot.class, i64::from(notice))?;
     push_row_head(text, program.class_name(slot.class), notice)?;
-    push_cells(text, &lines, names)?;
+    push_cells(text, machine, slot.class, notice, names)?;
     text.extend_from_slice(b"\n")
 }
 

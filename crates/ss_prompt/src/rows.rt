@@ -4,54 +4,89 @@ ghost use Rattle.ss_program.specs.Program.{set_of};
 ghost use Rattle.ss_machine.specs.Moment.{position};
 ghost use Rattle.ss_debug.specs.CommandLines.{command_words};
 ghost use Rattle.ss_debug.specs.Entities.{set_text};
-ghost use Rattle.ss_prompt.specs.Rows.{cell, further_cells, cells, row, rows};
+ghost use Rattle.ss_prompt.specs.Rows.{cell, cell_of, further_cells, cells, row, rows};
 ghost use Rattle.ss_prompt.specs.Rows.{owner_asked, members_for, member_rows_text};
 ghost use Rattle.ss_prompt.specs.Rows.{living_rows_text};
 
 use crate::pieces::next_word;
 use ss_debug::{
-    Debugger, Name, Question, class_value, find_class, find_set, push_entity, push_number,
+    Debugger, Name, Question, class_value, find_class, find_set, push_integer, push_number,
 };
-use ss_inspect::{line_telling, living_numbers, members_page, push_living};
+use ss_inspect::{living_numbers, members_page, push_living};
 use ss_links::SetBoard;
 use ss_machine::Machine;
 use ss_program::Owner;
+use ss_trace::attribute_named;
 use std::alloc::{AllocError, Global};
 
-/// Appends an attribute of an entity with these lines; nothing if none of them gives it.
-pub(crate) fn push_cell(text: &mut Vec<u8>, lines: &[u8], name: &[u8]) -> Result<(), AllocError>
-    ensures { OnOk result (text.new.items ≡ text.old.items ++ cell lines.now name.now) }
+/// Appends an attribute and its value, if it has one.
+fn push_named(text: &mut Vec<u8>, name: &[u8], value: Option<i64>) -> Result<(), AllocError>
+    ensures { OnOk result (text.new.items ≡ text.old.items ++ cell name.now value) }
 {
-    match line_telling(name, lines) {
-        Some(line) => text.extend_from_slice(line),
-        None => Ok(()),
-    }
+    let Some(value) = value else {
+        return Ok(());
+    };
+    text.extend_from_slice(name)?;
+    text.extend_from_slice(b" = ")?;
+    push_integer(text, value)
+}
+
+/// Appends the attribute of this name of an entity; nothing if there is none.
+pub(crate) fn push_cell<S: SetBoard>(
+    text: &mut Vec<u8>,
+    machine: &Machine<S>,
+    class: usize,
+    number: u32,
+    name: &[u8],
+) -> Result<(), AllocError>
+    ensures { OnOk result (text.new.items ≡ text.old.items
+        ++ cell_of machine.now.input.program machine.now.state.store class number name.now) }
+{
+    push_named(
+        text,
+        name,
+        attribute_named(machine, class, i64::from(number), name),
+    )
 }
 
 /// Appends the attributes whose names are the words of a line, each after a comma.
-fn push_further_cells(text: &mut Vec<u8>, lines: &[u8], names: &[u8]) -> Result<(), AllocError>
-    ensures { OnOk result (text.new.items
-        ≡ text.old.items ++ further_cells lines.now (command_words names.now)) }
+fn push_further_cells<S: SetBoard>(
+    text: &mut Vec<u8>,
+    machine: &Machine<S>,
+    class: usize,
+    number: u32,
+    names: &[u8],
+) -> Result<(), AllocError>
+    ensures { OnOk result (text.new.items ≡ text.old.items
+        ++ further_cells machine.now.input.program machine.now.state.store class number
+        (command_words names.now)) }
 {
     let mut rest = names;
     while let Some((name, more)) = next_word(rest) {
         text.extend_from_slice(b", ")?;
-        push_cell(text, lines, name)?;
+        push_cell(text, machine, class, number, name)?;
         rest = more;
     }
     Ok(())
 }
 
 /// Appends the attributes whose names are the words of a line, a comma between.
-fn push_cells(text: &mut Vec<u8>, lines: &[u8], names: &[u8]) -> Result<(), AllocError>
-    ensures { OnOk result (text.new.items
-        ≡ text.old.items ++ cells lines.now (command_words names.now)) }
+fn push_cells<S: SetBoard>(
+    text: &mut Vec<u8>,
+    machine: &Machine<S>,
+    class: usize,
+    number: u32,
+    names: &[u8],
+) -> Result<(), AllocError>
+    ensures { OnOk result (text.new.items ≡ text.old.items
+        ++ cells machine.now.input.program machine.now.state.store class number
+        (command_words names.now)) }
 {
     let Some((name, more)) = next_word(names) else {
         return Ok(());
     };
-    push_cell(text, lines, name)?;
-    push_further_cells(text, lines, more)
+    push_cell(text, machine, class, number, name)?;
+    push_further_cells(text, machine, class, number, more)
 }
 
 /// Appends the beginning of a row: the class of an entity and its number.
@@ -77,10 +112,8 @@ fn push_row<S: SetBoard>(
         ++ row machine.now.input.program machine.now.state.store class
         (command_words names.now) number) }
 {
-    let mut lines = Vec::new(*text.allocator());
-    push_entity(&mut lines, machine, class, i64::from(number))?;
     push_row_head(text, machine.program().class_name(class), number)?;
-    push_cells(text, &lines, names)?;
+    push_cells(text, machine, class, number, names)?;
     text.extend_from_slice(b"\n")
 }
 
