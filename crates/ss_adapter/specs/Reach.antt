@@ -1,5 +1,5 @@
 -- The nearest of the changes of some questions, each looked for by the movement to it.
-use Rattle.std.specs.Prelude.{ℕ, ◌≡◌, ◌≤◌, ◌+◌, ◌-◌, Bool, not, ◌&&◌, List, [], ◌∷◌, codes, map, slice_get}
+use Rattle.std.specs.Prelude.{ℕ, ◌≡◌, ◌≤◌, ◌+◌, ◌-◌, Bool, not, ◌&&◌, List, [], ◌∷◌, map, slice_get}
 use Rattle.std.specs.Prelude.{Option, Some, None, option_map, false, nat_eq, nat_lt, if◌then◌else◌}
 use Rattle.ss_state.specs.Run.{Input}
 use Rattle.ss_debug.specs.declared.limits.TheConstants.{GREATEST_BOUND}

@@ -98,7 +98,7 @@ state_after input debugger movement = state_after_shape input debugger (shape_of
 abbrev pub answer : Input → DebuggerState → Movement → List ℕ
 answer input debugger movement = shape_answer input debugger (shape_of input debugger.position movement)
 
--- whether RUN CHANGE from p ends at a change, if it leads to q: one that ends the run is no stop there
+-- whether RUN CHANGE from p ended at a change, if it led to q: the run can go on, and the step to q changed it
 abbrev pub run_ends_at_change : Input → Question → ℕ → ℕ → Bool
 run_ends_at_change input question p q = is_ready_at input q && is_met (has_changed input question) p q
 

@@ -1,6 +1,5 @@
-use Rattle.std.proofs.Common.{◌≡◌, ◌++◌, ◌<◌, ◌+◌, length, arith, refl, ◌∙◌}
+use Rattle.std.proofs.Common.{◌≡◌, ◌++◌, ◌+◌, length, arith, refl, ◌∙◌}
 use Rattle.std.proofs.lemmas.Option.{slice_get_within}
-use Rattle.ss_machine.specs.Moment.{position}
 use Rattle.ss_events.specs.State.{order}
 use Rattle.ss_events.specs.Slots.{slot_of}
 use Rattle.ss_debug.specs.Answer.{notice_line, notice_lines}

@@ -66,7 +66,7 @@ pub returns-in_err-push_step_row-clause-memory : goal.returns-in_err-push_step_r
 returns-in_err-push_step_row-clause-memory g c =
     let held = c.loop-count.invariant in
     let gone = looked_on c.args.debugger.now c.loop-count.debugger c.back_to_newest.new.debugger held.gone
-      c.in_ok-back_to_newest.ensures.gone in
+    c.in_ok-back_to_newest.ensures.gone in
     let moved = c.in_ok-back_to_newest.ensures.moved c.if-not-branch.false in
     let on = c.in_err-push_step_row.ensures.memory in
     on_err c.from_residual-in_err-push_step_row.result (record {
